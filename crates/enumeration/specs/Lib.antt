@@ -1,0 +1,3 @@
+pub mod Words
+pub mod Machine
+pub mod Run

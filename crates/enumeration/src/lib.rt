@@ -1,0 +1,7 @@
+// Why a run stopped; a run is defined in specs/Run.antt.
+pub enum Stop {
+    Done,
+    Limit,
+    Spent,
+    Full,
+}
