@@ -1,0 +1,104 @@
+use Prim.Native.Nat.{suc, _+_, _-_, _%_, _≤_}
+use mathlib.Core.Path.{_≡_, refl, sym, _∙_}
+use mathlib.Core.List.{_++_}
+use lib.ListN.{length, drop, length-set}
+use native.Mathlib.Omega.{arith}
+use borrow.Author.Needs.{needs}
+use Rattle.fields.specs.Field.{columns, fieldText}
+use Rattle.fields.proofs.Turns.{text-begins, text-goes-on, text-ends, text-none}
+use Rattle.fields.proofs.write_number.Statement.{statement}
+use Rattle.fields.proofs.write_number.Tie as tie
+use Rattle.fields.proofs.write_number.Reads as reads
+use Rattle.fields.proofs.write_number.Lts as lts
+use Rattle.fields.proofs.column_byte.Reads as column-byte-reads
+
+abbrev Inv-loop : tie.InvT-loop
+Inv-loop out₀ value i₀ v₀ out i v = (length out ≡ length out₀) × (i ≤ length out) × (columns i v ++ drop i out ≡ fieldText (length out₀) value)
+
+abbrev μ-loop : tie.MeasureT-loop
+μ-loop out₀ value i₀ v₀ out i v = i
+
+-- src/lib.rt:81:9
+returns : tie.Need-returns Inv-loop μ-loop
+returns c = text-none (c .before .before .args .out .now) (c .before .before .args .value) (c .if1 .taken)
+
+-- src/lib.rt:83:5
+sub-i : tie.Need-sub-i Inv-loop μ-loop
+sub-i c = omega arith
+
+-- src/lib.rt:84:19
+cast-out : tie.Need-cast-out Inv-loop μ-loop
+cast-out c = omega arith
+
+-- src/lib.rt:84:14
+add-out : tie.Need-add-out Inv-loop μ-loop
+add-out c = omega arith
+
+-- src/lib.rt:84:5
+slice-write-out : tie.Need-slice-write-out Inv-loop μ-loop
+slice-write-out c = omega arith
+
+-- src/lib.rt:86:5
+loop-holds : tie.Need-loop-holds Inv-loop μ-loop
+loop-holds c =
+    let out = c .before .before .args .out .now in
+    let value = c .before .before .args .value in
+    let last : suc (length out - 1) ≡ length out = omega arith in
+    (refl, simp length-set (omega arith), rw (length-set out (length out - 1) (48 + value % 10)) (text-begins out value (length out - 1) last))
+
+-- src/lib.rt:87:9
+sub-i-2 : tie.Need-sub-i-2 Inv-loop μ-loop
+sub-i-2 c = omega arith
+
+-- src/lib.rt:88:18
+column-byte-requires : tie.Need-column-byte-requires Inv-loop μ-loop
+column-byte-requires c κs = tt
+
+-- src/lib.rt:88:9
+slice-write-out-2 : tie.Need-slice-write-out-2 Inv-loop μ-loop
+slice-write-out-2 c = omega arith
+
+-- src/lib.rt:86:5
+loop-less : tie.Need-loop-less Inv-loop μ-loop
+loop-less c = omega arith
+
+-- src/lib.rt:86:5
+loop-again : tie.Need-loop-again Inv-loop μ-loop
+loop-again c =
+    let out = c .before .before .loop .out in
+    let i = c .before .before .loop .i in
+    let v = c .before .before .loop .v in
+    let up : suc (i - 1) ≡ i = omega arith in
+    let inside : suc (i - 1) ≤ length out = omega arith in (
+      length-set out (i - 1) (c .column-byte .result) ∙ c .before .before .loop .inv .0,
+      simp length-set (omega arith),
+      rw (c .column-byte .ensures) (text-goes-on out v (i - 1) inside ∙ rw up (c .before .before .loop .inv .2)),
+    )
+
+-- src/lib.rt:76:1
+same-length : tie.Need-same-length Inv-loop μ-loop
+same-length c = simp length-set at (c .before .loop .inv .0)
+
+-- src/lib.rt:76:1
+returns-2 : tie.Need-returns-2 Inv-loop μ-loop
+returns-2 c = text-ends _ _ _ _ (c .loop-test .left) (simp length-set at (c .before .loop .inv .2))
+
+pub write-number-spec : {M : Type 1} → statement M
+write-number-spec =
+    tie.close
+    (tie.spec
+    Inv-loop
+    μ-loop
+    returns
+    sub-i
+    cast-out
+    add-out
+    slice-write-out
+    loop-holds
+    sub-i-2
+    column-byte-requires
+    slice-write-out-2
+    loop-less
+    loop-again
+    same-length
+    returns-2)

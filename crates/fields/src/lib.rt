@@ -1,0 +1,91 @@
+// Number fields (document 01, "Bond sheet" and "Marks"), of any number of columns.
+ghost use mathlib.Core.Path.{_≡_};
+ghost use lib.ListN.{length, drop};
+ghost use Rattle.fields.specs.Field.{digits, readField, column, fieldText};
+
+// What a field holds.
+pub enum Number {
+    Value(u64),
+    Bad,
+}
+
+// The digits from `from` on, after digits that came to `first`.
+fn more_digits(s: &[u8], from: usize, first: u64) -> Number
+    ensures { λ r. ⌜ r ≡ digits first (drop from (now (s .entry))) ⌝ }
+{
+    let mut v = first;
+    let mut i = from;
+    while i < s.len() {
+        let b = s[i];
+        if b < 48 {
+            return Number::Bad;
+        }
+        if 57 < b {
+            return Number::Bad;
+        }
+        if v == 0 {
+            return Number::Bad;
+        }
+        if 999_999_999_999_999_999 < v {
+            return Number::Bad;
+        }
+        v = v * 10 + wide(b - 48);
+        i += 1;
+    }
+    Number::Value(v)
+}
+
+fn wide(b: u8) -> u64
+    ensures { λ r. ⌜ r ≡ b ⌝ }
+{
+    b as u64
+}
+
+// Reads a whole slice as one number field.
+pub fn read_number(s: &[u8]) -> Number
+    ensures { λ r. ⌜ r ≡ readField (now (s .entry)) ⌝ }
+{
+    let mut i: usize = 0;
+    while i < s.len() {
+        let b = s[i];
+        if b != 32 {
+            if b < 48 {
+                return Number::Bad;
+            }
+            if 57 < b {
+                return Number::Bad;
+            }
+            return more_digits(s, i + 1, wide(b - 48));
+        }
+        i += 1;
+    }
+    Number::Bad
+}
+
+// The byte of a column left of which v stands: a blank where nothing is left of it.
+fn column_byte(v: u64) -> u8
+    ensures { λ r. ⌜ r ≡ column v ⌝ }
+{
+    if v == 0 {
+        return 32;
+    }
+    48 + (v % 10) as u8
+}
+
+// Writes a number into the whole slice, right-justified.
+pub fn write_number(out: &mut [u8], value: u64)
+    ensures { λ _. ⌜ now (out .exit) ≡ fieldText (length (now (out .entry))) value ⌝ }
+{
+    let mut i = out.len();
+    if i == 0 {
+        return;
+    }
+    i -= 1;
+    out[i] = 48 + (value % 10) as u8;
+    let mut v = value / 10;
+    while 0 < i {
+        i -= 1;
+        out[i] = column_byte(v);
+        v = v / 10;
+    }
+}
