@@ -1,0 +1,62 @@
+use mathlib.Core.Path.{sym, _∙_}
+use mathlib.Core.Bool.{true, false}
+use borrow.Author.Tests.{le-leb, lt-leb, not-true, not-false}
+use Rattle.molecule.specs.Record.{wellFormed}
+use Rattle.molecule.proofs.Rules.{rule-in-range}
+use borrow.Author.Needs.{needs}
+use Rattle.molecule.proofs.well_formed.Statement.{statement}
+use Rattle.molecule.proofs.well_formed.Tie as tie
+use Rattle.molecule.proofs.well_formed.Reads as reads
+use Rattle.molecule.proofs.well_formed.Lts as lts
+use Rattle.molecule.proofs.ones_of.Reads as ones-of-reads
+use Rattle.molecule.proofs.rows_sound.Reads as rows-sound-reads
+
+-- src/lib.rt:116:9
+returns : tie.Need-returns
+unfolding wellFormed
+returns c = simp (lt-leb _ _ (c .if1 .taken))
+
+-- src/lib.rt:120:9
+returns-2 : tie.Need-returns-2
+unfolding wellFormed
+returns-2 c = simp (le-leb _ _ (c .before .if1 .left), lt-leb _ _ (c .if2 .taken))
+
+-- src/lib.rt:122:9
+rows-sound-requires : tie.Need-rows-sound-requires
+rows-sound-requires c κs = search needs
+
+-- src/lib.rt:123:9
+returns-3 : tie.Need-returns-3
+returns-3 c = sym (rule-in-range (c .before .before .before .before .before .before .args .m) (c .before .before .before .before .if1 .left) (c .before .before .before .if2 .left) false (sym (c .before .rows-sound .ensures) ∙ not-true _ (c .if3 .taken)))
+
+-- src/lib.rt:125:13
+slice-aggregate-ones-of : tie.Need-slice-aggregate-ones-of
+slice-aggregate-ones-of c = search needs
+
+-- src/lib.rt:125:5
+ones-of-requires : tie.Need-ones-of-requires
+ones-of-requires c κs = search needs
+
+-- src/lib.rt:125:23
+mul-result : tie.Need-mul-result
+mul-result c = search needs
+
+-- src/lib.rt:110:1
+returns-4 : tie.Need-returns-4
+returns-4 c =
+    let start = c .before .before .before .before .before .before .before .before in
+    let count = c .ones-of .ensures in
+    rw count (sym (rule-in-range (start .args .m) (c .before .before .before .before .before .before .if1 .left) (c .before .before .before .before .before .if2 .left) true (sym (c .before .before .before .rows-sound .ensures) ∙ not-false _ (c .before .before .if3 .left))))
+
+pub well-formed-spec : {M : Type 1} → statement M
+well-formed-spec =
+    tie.close
+    (tie.spec
+    returns
+    returns-2
+    rows-sound-requires
+    returns-3
+    slice-aggregate-ones-of
+    ones-of-requires
+    mul-result
+    returns-4)

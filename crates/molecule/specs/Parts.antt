@@ -1,0 +1,21 @@
+-- What the parts of the record check decide. Nothing to believe: the law `rowsSound-is` relates them to rule 9.
+use Prim.Native.Nat.{ℕ, _+_, _*_, _/_, _%_}
+use mathlib.Core.Bool.{Bool, _&&_, _||_, not}
+use mathlib.Core.List.{List}
+use lib.ListN.{getD}
+use lib.Dec.{ltb, eqb}
+use Rattle.graph.specs.Every.{allBelow}
+use Rattle.molecule.specs.Record.{bit, cell}
+
+-- a bit in row i and column j is within n, off the diagonal, and has its mirror image
+unfoldable pub mirrored : List ℕ → ℕ → ℕ → ℕ → Bool
+mirrored rows n i j = ltb i n && ltb j n && not (eqb i j) && cell rows j i
+
+unfoldable pub bitSound : List ℕ → ℕ → ℕ → ℕ → Bool
+bitSound rows n at k = not (bit (getD rows at 0) k) || mirrored rows n (at / 16) (at % 16 * 8 + k)
+
+unfoldable pub byteSound : List ℕ → ℕ → ℕ → Bool
+byteSound rows n at = allBelow 8 (bitSound rows n at)
+
+unfoldable pub rowsSound : List ℕ → ℕ → Bool
+rowsSound rows n = allBelow 2048 (byteSound rows n)

@@ -1,0 +1,40 @@
+-- The number of each refusal in document 01, "Turned back by number".
+use Prim.Native.Nat.{ℕ}
+use Rattle.refusal.specs.declared.Refusal.{Refusal}
+use Rattle.refusal.specs.declared.Refusal.the-variants.{SheetLength, SheetBytes, TooManyAtoms, TooManyBonds, SheetSize, BondAtom, SelfBond, RepeatedBond, Record, PathEnd, SameEnds, Search, MarkRoom, MarkBytes, MarkMolecule, MarkKind, MarkPlace}
+
+abbrev pub numberOf : Refusal → ℕ
+-- the sheet is shorter than 9 bytes or not a multiple of 9
+numberOf SheetLength = 1
+-- a sheet field or line end has the wrong bytes
+numberOf SheetBytes = 2
+-- n is above 128
+numberOf TooManyAtoms = 3
+-- m is above 1,024
+numberOf TooManyBonds = 4
+-- the sheet is not 9 × (m + 1) bytes
+numberOf SheetSize = 5
+-- a bond names atom 0 or an atom above n
+numberOf BondAtom = 6
+-- a bond joins an atom to itself
+numberOf SelfBond = 7
+-- two bonds join the same two atoms, in either order
+numberOf RepeatedBond = 8
+-- a molecule record breaks a rule of its section
+numberOf Record = 9
+-- s or t is 0 or above n
+numberOf PathEnd = 10
+-- s equals t
+numberOf SameEnds = 11
+-- a search could not be restored from any mark on this molecule
+numberOf Search = 12
+-- the mark output is shorter than the mark
+numberOf MarkRoom = 13
+-- the mark's bytes do not follow the layout
+numberOf MarkBytes = 14
+-- the mark's n or m differs from the molecule's
+numberOf MarkMolecule = 15
+-- the kind, s or t is wrong
+numberOf MarkKind = 16
+-- p is not open, or c is out of range
+numberOf MarkPlace = 17
