@@ -1,2 +1,3 @@
+pub mod Bonds
 pub mod Checks
 pub mod Rules

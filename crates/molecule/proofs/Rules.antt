@@ -57,7 +57,7 @@ unfolding mirrored
 of-mirror rows n i j m = rw (lt-ltb i n (m .row-within), lt-ltb j n (m .column-within), ne-eqb i j (m .off-diagonal)) (m .image)
 
 -- every bit that is set has its mirror image, by row and column
-Sound : List ℕ → ℕ → Type 0
+unfoldable pub Sound : List ℕ → ℕ → Type 0
 Sound rows n = (i j : ℕ) → i < 128 → j < 128 → cell rows i j ≡ true → Mirror rows n i j
 
 sound-of-bytes : (rows : List ℕ) (n : ℕ) → rowsSound rows n ≡ true → Sound rows n
@@ -103,7 +103,7 @@ rules-of-sound rows n sound = both-and (both-and mirror diagonal) inside
         every-intro (λ i j. not (cell rows i j) || ltb i n && ltb j n)
         (λ i j hi hj. implies-intro (cell rows i j) (ltb i n && ltb j n) (λ e. let m = sound i j hi hj e in both-and (lt-ltb i n (m .row-within)) (lt-ltb j n (m .column-within))))
 
-sound-of-rules : (rows : List ℕ) (n : ℕ) → (symmetric rows && loopless rows && within n rows) ≡ true → Sound rows n
+pub sound-of-rules : (rows : List ℕ) (n : ℕ) → (symmetric rows && loopless rows && within n rows) ≡ true → Sound rows n
 unfolding Sound symmetric loopless within
 sound-of-rules rows n e i j hi hj set =
     let outer = and-both (symmetric rows && loopless rows) (within n rows) e in

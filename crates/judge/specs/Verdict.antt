@@ -1,0 +1,27 @@
+-- The judge of document 01: yes or no to any atom list, as a ring or as an s-t path; rules 9 to 11 come first.
+use Prim.Native.Nat.{ℕ}
+use mathlib.Core.Bool.{Bool, true, false, _&&_, cond}
+use mathlib.Core.List.{List}
+use lib.Dec.{eqb}
+use Rattle.refusal.specs.declared.Refusal.the-variants.{Record, PathEnd, SameEnds}
+use Rattle.molecule.specs.declared.Molecule.{Molecule}
+use Rattle.molecule.specs.Record.{wellFormed, isAtom, bonded}
+use Rattle.graph.specs.Chordless.{isRing, isPath}
+use Rattle.judge.specs.declared.Verdict.{Verdict}
+use Rattle.judge.specs.declared.Verdict.the-variants.{Yes, No, Refused}
+
+abbrev pub answer : Bool → Verdict
+answer true = Yes
+answer false = No
+
+unfoldable pub judgeRing : Molecule → List ℕ → Verdict
+judgeRing mol xs =
+    cond (wellFormed mol) (answer (isRing (mol .atoms) (bonded (mol .atoms) (mol .rows)) xs)) (Refused Record)
+
+unfoldable pub judgePath : Molecule → ℕ → ℕ → List ℕ → Verdict
+judgePath mol s t xs =
+    cond (wellFormed mol)
+    (cond (isAtom (mol .atoms) s && isAtom (mol .atoms) t)
+    (cond (eqb s t) (Refused SameEnds) (answer (isPath (mol .atoms) (bonded (mol .atoms) (mol .rows)) s t xs)))
+    (Refused PathEnd))
+    (Refused Record)
