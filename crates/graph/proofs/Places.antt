@@ -9,13 +9,13 @@ use lib.Dec.{leb, eqb, eqb·suc-zero}
 use borrow.Author.Tests.{leb-true}
 use Rattle.graph.specs.Every.{allBelow}
 use Rattle.graph.specs.Chordless.{Adjacency, atomAt, inRange, induces, alongPath, alongRing}
-use Rattle.graph.proofs.Every.{all-elim, and-both}
+use Rattle.graph.proofs.Below.{allBelow-at, and-parts}
 
 -- an atom of a list that is in range
 pub range-at : (n : ℕ) (xs : List ℕ) → inRange n xs ≡ true → (i : ℕ) → i < length xs → (1 ≤ atomAt xs i) × (atomAt xs i ≤ n)
 unfolding inRange
 range-at n xs e i h =
-    let parts = and-both (leb 1 (atomAt xs i)) (leb (atomAt xs i) n) (all-elim (length xs) (λ i. leb 1 (atomAt xs i) && leb (atomAt xs i) n) e i h) in
+    let parts = and-parts (leb 1 (atomAt xs i)) (leb (atomAt xs i) n) (allBelow-at (length xs) (λ i. leb 1 (atomAt xs i) && leb (atomAt xs i) n) e i h) in
     (leb-true 1 (atomAt xs i) (parts .0), leb-true (atomAt xs i) n (parts .1))
 
 -- tests that agree below the bound

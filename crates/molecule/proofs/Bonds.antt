@@ -8,13 +8,13 @@ use mathlib.Core.List.{List}
 use mathlib.Core.Logic.{⊎-elim}
 use lib.Dec.{leb, eqb}
 use borrow.Author.Tests.{le-leb, leb-true}
-use Rattle.graph.proofs.Every.{and-both, both-and, same-truth, decide, apart}
+use Rattle.graph.proofs.Below.{and-parts, and-both, same-test, either, apart}
 use Rattle.molecule.specs.declared.Molecule.{Molecule}
 use Rattle.molecule.specs.Record.{cell, isAtom, bonded, onesOf, symmetric, loopless, within, wellFormed}
 use Rattle.molecule.proofs.Rules.{Mirror, Sound, sound-of-rules}
 
 pub atom-bounds : (n a : ℕ) → isAtom n a ≡ true → (1 ≤ a) × (a ≤ n)
-atom-bounds n a e = let parts = and-both (leb 1 a) (leb a n) e in (leb-true 1 a (parts .0), leb-true a n (parts .1))
+atom-bounds n a e = let parts = and-parts (leb 1 a) (leb a n) e in (leb-true 1 a (parts .0), leb-true a n (parts .1))
 
 -- the bit of two atoms
 pub bonded-cell : (n : ℕ) (rows : List ℕ) (a b : ℕ) → 1 ≤ a → a ≤ n → 1 ≤ b → b ≤ n → bonded n rows a b ≡ cell rows (a - 1) (b - 1)
@@ -32,8 +32,8 @@ pub record Bonded (n : ℕ) (rows : List ℕ) (a b : ℕ) : Type 0 where
 pub bonded-facts : (n : ℕ) (rows : List ℕ) (a b : ℕ) → bonded n rows a b ≡ true → Bonded n rows a b
 unfolding bonded
 bonded-facts n rows a b e =
-    let outer = and-both (isAtom n a && isAtom n b) (cell rows (a - 1) (b - 1)) e in
-    let inner = and-both (isAtom n a) (isAtom n b) (outer .0) in
+    let outer = and-parts (isAtom n a && isAtom n b) (cell rows (a - 1) (b - 1)) e in
+    let inner = and-parts (isAtom n a) (isAtom n b) (outer .0) in
     let left = atom-bounds n a (inner .0) in
     let right = atom-bounds n b (inner .1) in
     record { left-low = left .0; left-high = left .1; right-low = right .0; right-high = right .1; set = outer .1 }
@@ -48,12 +48,12 @@ pub record Rule9 (mol : Molecule) : Type 0 where
 pub rule9 : (mol : Molecule) → wellFormed mol ≡ true → Rule9 mol
 unfolding wellFormed
 rule9 mol e =
-    let s1 = and-both (leb (mol .atoms) 128 && leb (mol .bonds) 1024 && symmetric (mol .rows) && loopless (mol .rows) && within (mol .atoms) (mol .rows)) (eqb (onesOf (mol .rows)) (2 * mol .bonds)) e in
-    let s2 = and-both (leb (mol .atoms) 128 && leb (mol .bonds) 1024 && symmetric (mol .rows) && loopless (mol .rows)) (within (mol .atoms) (mol .rows)) (s1 .0) in
-    let s3 = and-both (leb (mol .atoms) 128 && leb (mol .bonds) 1024 && symmetric (mol .rows)) (loopless (mol .rows)) (s2 .0) in
-    let s4 = and-both (leb (mol .atoms) 128 && leb (mol .bonds) 1024) (symmetric (mol .rows)) (s3 .0) in
-    let s5 = and-both (leb (mol .atoms) 128) (leb (mol .bonds) 1024) (s4 .0) in
-    record { atoms-high = leb-true (mol .atoms) 128 (s5 .0); bonds-high = leb-true (mol .bonds) 1024 (s5 .1); rows-sound = both-and (both-and (s4 .1) (s3 .1)) (s2 .1); ones-count = s1 .1 }
+    let s1 = and-parts (leb (mol .atoms) 128 && leb (mol .bonds) 1024 && symmetric (mol .rows) && loopless (mol .rows) && within (mol .atoms) (mol .rows)) (eqb (onesOf (mol .rows)) (2 * mol .bonds)) e in
+    let s2 = and-parts (leb (mol .atoms) 128 && leb (mol .bonds) 1024 && symmetric (mol .rows) && loopless (mol .rows)) (within (mol .atoms) (mol .rows)) (s1 .0) in
+    let s3 = and-parts (leb (mol .atoms) 128 && leb (mol .bonds) 1024 && symmetric (mol .rows)) (loopless (mol .rows)) (s2 .0) in
+    let s4 = and-parts (leb (mol .atoms) 128 && leb (mol .bonds) 1024) (symmetric (mol .rows)) (s3 .0) in
+    let s5 = and-parts (leb (mol .atoms) 128) (leb (mol .bonds) 1024) (s4 .0) in
+    record { atoms-high = leb-true (mol .atoms) 128 (s5 .0); bonds-high = leb-true (mol .bonds) 1024 (s5 .1); rows-sound = and-both _ _ (and-both _ _ (s4 .1) (s3 .1)) (s2 .1); ones-count = s1 .1 }
 
 module _ (mol : Molecule) (ok : wellFormed mol ≡ true) where
   abbrev n : ℕ
@@ -76,8 +76,8 @@ module _ (mol : Molecule) (ok : wellFormed mol ≡ true) where
 
   -- Bonds hold both ways
   pub bonded-symmetric : (a b : ℕ) → bonded n rows a b ≡ bonded n rows b a
-  bonded-symmetric a b = same-truth (bonded n rows a b) (bonded n rows b a) (one-way a b) (one-way b a)
+  bonded-symmetric a b = same-test (bonded n rows a b) (bonded n rows b a) (one-way a b) (one-way b a)
 
   -- No atom is bonded to itself
   pub bonded-irreflexive : (a : ℕ) → bonded n rows a a ≡ false
-  bonded-irreflexive a = ⊎-elim (λ (e : bonded n rows a a ≡ true). absurd (mirror a a e .off-diagonal refl)) (λ f. f) (decide (bonded n rows a a))
+  bonded-irreflexive a = ⊎-elim (λ (e : bonded n rows a a ≡ true). absurd (mirror a a e .off-diagonal refl)) (λ f. f) (either (bonded n rows a a))

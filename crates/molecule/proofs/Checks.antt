@@ -13,7 +13,7 @@ use lib.Dec.{leb, ltb, eqb}
 use lib.Count.{ones}
 use borrow.Author.Tests.{eq-eqb, ne-eqb}
 use Rattle.graph.specs.Every.{allBelow}
-use Rattle.graph.proofs.Every.{all-intro}
+use Rattle.graph.proofs.Below.{allBelow-of}
 use Rattle.molecule.specs.Record.{bit, cell, onesOf}
 use Rattle.molecule.specs.Parts.{mirrored, bitSound, byteSound}
 
@@ -28,7 +28,7 @@ module _ (rows : List ℕ) (n at : ℕ) where
 
   pub zero-byte : getD rows at 0 ≡ 0 → byteSound rows n at ≡ true
   unfolding byteSound
-  zero-byte z = all-intro 8 (bitSound rows n at) (λ k h. bit-clear k (λ e. clear k e))
+  zero-byte z = allBelow-of 8 (bitSound rows n at) (λ k h. bit-clear k (λ e. clear k e))
     where
       clear : (k : ℕ) → getD rows at 0 / 2 ^ k % 2 ≡ 1 → ⊥
       clear k e =

@@ -10,7 +10,7 @@ use lib.ListN.{getD}
 use lib.Dec.{leb, ltb, eqb}
 use borrow.Author.Tests.{lt-ltb, ltb-true, le-leb, ne-eqb, eqb-false, not-true}
 use Rattle.graph.specs.Every.{allBelow}
-use Rattle.graph.proofs.Every.{all-elim, all-intro, and-both, both-and, same-truth, decide, apart, implies-intro, implies-elim}
+use Rattle.graph.proofs.Below.{allBelow-at, allBelow-of, and-parts, and-both, same-test, beq-true, beq-same, false-of, not-of, apart, implies-intro, implies-elim}
 use Rattle.molecule.specs.Record.{bit, cell, onesOf, everyCell, symmetric, loopless, within, wellFormed}
 use Rattle.molecule.specs.declared.Molecule.{Molecule}
 use Rattle.molecule.specs.Parts.{mirrored, bitSound, byteSound, rowsSound}
@@ -18,24 +18,10 @@ use Rattle.molecule.specs.Parts.{mirrored, bitSound, byteSound, rowsSoun
 -- tests over rows and columns
 
 pub every-elim : (test : ℕ → ℕ → Bool) → everyCell test ≡ true → (i j : ℕ) → i < 128 → j < 128 → test i j ≡ true
-every-elim test e i j hi hj = all-elim 128 (test i) (all-elim 128 (λ i. allBelow 128 (test i)) e i hi) j hj
+every-elim test e i j hi hj = allBelow-at 128 (test i) (allBelow-at 128 (λ i. allBelow 128 (test i)) e i hi) j hj
 
 pub every-intro : (test : ℕ → ℕ → Bool) → ((i j : ℕ) → i < 128 → j < 128 → test i j ≡ true) → everyCell test ≡ true
-every-intro test f = all-intro 128 (λ i. allBelow 128 (test i)) (λ i hi. all-intro 128 (test i) (λ j hj. f i j hi hj))
-
-beq-same : (a b : Bool) → Bool·beq a b ≡ true → a ≡ b
-beq-same true true e = refl
-beq-same true false e = apart (sym e)
-beq-same false true e = apart (sym e)
-beq-same false false e = refl
-
-same-beq : (a b : Bool) → a ≡ b → Bool·beq a b ≡ true
-same-beq true b e = rw (← e)
-same-beq false b e = rw (← e)
-
-not-true-of : (a : Bool) → (a ≡ true → ⊥) → not a ≡ true
-not-true-of true f = absurd (f refl)
-not-true-of false f = refl
+every-intro test f = allBelow-of 128 (λ i. allBelow 128 (test i)) (λ i hi. allBelow-of 128 (test i) (λ j hj. f i j hi hj))
 
 -- what is known of a bit that is set
 pub record Mirror (rows : List ℕ) (n i j : ℕ) : Type 0 where
@@ -47,9 +33,9 @@ pub record Mirror (rows : List ℕ) (n i j : ℕ) : Type 0 where
 mirror-of : (rows : List ℕ) (n i j : ℕ) → mirrored rows n i j ≡ true → Mirror rows n i j
 unfolding mirrored
 mirror-of rows n i j e =
-    let outer = and-both (ltb i n && ltb j n && not (eqb i j)) (cell rows j i) e in
-    let middle = and-both (ltb i n && ltb j n) (not (eqb i j)) (outer .0) in
-    let inner = and-both (ltb i n) (ltb j n) (middle .0) in
+    let outer = and-parts (ltb i n && ltb j n && not (eqb i j)) (cell rows j i) e in
+    let middle = and-parts (ltb i n && ltb j n) (not (eqb i j)) (outer .0) in
+    let inner = and-parts (ltb i n) (ltb j n) (middle .0) in
     record { row-within = ltb-true i n (inner .0); column-within = ltb-true j n (inner .1); off-diagonal = eqb-false i j (not-true (eqb i j) (middle .1)); image = outer .1 }
 
 of-mirror : (rows : List ℕ) (n i j : ℕ) → Mirror rows n i j → mirrored rows n i j ≡ true
@@ -68,15 +54,15 @@ sound-of-bytes rows n e i j hi hj set =
     let offset : j % 8 < 8 = omega arith in
     let row : (16 * i + j / 8) / 16 ≡ i = omega arith in
     let column : (16 * i + j / 8) % 16 * 8 + j % 8 ≡ j = omega arith in
-    let byte = all-elim 2048 (byteSound rows n) e (16 * i + j / 8) place in
-    let here = all-elim 8 (bitSound rows n (16 * i + j / 8)) byte (j % 8) offset in
+    let byte = allBelow-at 2048 (byteSound rows n) e (16 * i + j / 8) place in
+    let here = allBelow-at 8 (bitSound rows n (16 * i + j / 8)) byte (j % 8) offset in
     let m = implies-elim (bit (getD rows (16 * i + j / 8) 0) (j % 8)) (mirrored rows n ((16 * i + j / 8) / 16) ((16 * i + j / 8) % 16 * 8 + j % 8)) here set in
     mirror-of rows n i j (rw (row, column) at m)
 
 bytes-of-sound : (rows : List ℕ) (n : ℕ) → Sound rows n → rowsSound rows n ≡ true
 unfolding Sound rowsSound byteSound bitSound cell
 bytes-of-sound rows n sound =
-    all-intro 2048 (byteSound rows n) (λ at place. all-intro 8 (bitSound rows n at) (λ k offset. here at k place offset))
+    allBelow-of 2048 (byteSound rows n) (λ at place. allBelow-of 8 (bitSound rows n at) (λ k offset. here at k place offset))
   where
     here : (at k : ℕ) → at < 2048 → k < 8 → bitSound rows n at k ≡ true
     here at k place offset =
@@ -88,36 +74,36 @@ bytes-of-sound rows n sound =
 -- the rules of the rows, one by one
 rules-of-sound : (rows : List ℕ) (n : ℕ) → Sound rows n → (symmetric rows && loopless rows && within n rows) ≡ true
 unfolding Sound symmetric loopless within
-rules-of-sound rows n sound = both-and (both-and mirror diagonal) inside
+rules-of-sound rows n sound = and-both _ _ (and-both _ _ mirror diagonal) inside
   where
     mirror : everyCell (λ i j. Bool·beq (cell rows i j) (cell rows j i)) ≡ true
     mirror =
         every-intro (λ i j. Bool·beq (cell rows i j) (cell rows j i))
-        (λ i j hi hj. same-beq (cell rows i j) (cell rows j i) (same-truth (cell rows i j) (cell rows j i) (λ e. sound i j hi hj e .image) (λ e. sound j i hj hi e .image)))
+        (λ i j hi hj. beq-same (cell rows i j) (cell rows j i) (same-test (cell rows i j) (cell rows j i) (λ e. sound i j hi hj e .image) (λ e. sound j i hj hi e .image)))
 
     diagonal : allBelow 128 (λ i. not (cell rows i i)) ≡ true
-    diagonal = all-intro 128 (λ i. not (cell rows i i)) (λ i hi. not-true-of (cell rows i i) (λ e. sound i i hi hi e .off-diagonal refl))
+    diagonal = allBelow-of 128 (λ i. not (cell rows i i)) (λ i hi. not-of (cell rows i i) (false-of (cell rows i i) (λ e. sound i i hi hi e .off-diagonal refl)))
 
     inside : everyCell (λ i j. not (cell rows i j) || ltb i n && ltb j n) ≡ true
     inside =
         every-intro (λ i j. not (cell rows i j) || ltb i n && ltb j n)
-        (λ i j hi hj. implies-intro (cell rows i j) (ltb i n && ltb j n) (λ e. let m = sound i j hi hj e in both-and (lt-ltb i n (m .row-within)) (lt-ltb j n (m .column-within))))
+        (λ i j hi hj. implies-intro (cell rows i j) (ltb i n && ltb j n) (λ e. let m = sound i j hi hj e in and-both _ _ (lt-ltb i n (m .row-within)) (lt-ltb j n (m .column-within))))
 
 pub sound-of-rules : (rows : List ℕ) (n : ℕ) → (symmetric rows && loopless rows && within n rows) ≡ true → Sound rows n
 unfolding Sound symmetric loopless within
 sound-of-rules rows n e i j hi hj set =
-    let outer = and-both (symmetric rows && loopless rows) (within n rows) e in
-    let inner = and-both (symmetric rows) (loopless rows) (outer .0) in
+    let outer = and-parts (symmetric rows && loopless rows) (within n rows) e in
+    let inner = and-parts (symmetric rows) (loopless rows) (outer .0) in
     let inside = implies-elim (cell rows i j) (ltb i n && ltb j n) (every-elim (λ i j. not (cell rows i j) || ltb i n && ltb j n) (outer .1) i j hi hj) set in
-    let parts = and-both (ltb i n) (ltb j n) inside in
-    let clear = all-elim 128 (λ i. not (cell rows i i)) (inner .1) i hi in
-    let same = beq-same (cell rows i j) (cell rows j i) (every-elim (λ i j. Bool·beq (cell rows i j) (cell rows j i)) (inner .0) i j hi hj) in
+    let parts = and-parts (ltb i n) (ltb j n) inside in
+    let clear = allBelow-at 128 (λ i. not (cell rows i i)) (inner .1) i hi in
+    let same = beq-true (cell rows i j) (cell rows j i) (every-elim (λ i j. Bool·beq (cell rows i j) (cell rows j i)) (inner .0) i j hi hj) in
     record { row-within = ltb-true i n (parts .0); column-within = ltb-true j n (parts .1); off-diagonal = λ d. apart (sym set ∙ ap (λ k. cell rows i k) (sym d) ∙ not-true (cell rows i i) clear); image = sym same ∙ set }
 
 -- The check of the rows decides their rules
 pub rows-rules : (rows : List ℕ) (n : ℕ) → (symmetric rows && loopless rows && within n rows) ≡ rowsSound rows n
 rows-rules rows n =
-    same-truth (symmetric rows && loopless rows && within n rows) (rowsSound rows n)
+    same-test (symmetric rows && loopless rows && within n rows) (rowsSound rows n)
     (λ e. bytes-of-sound rows n (sound-of-rules rows n e))
     (λ e. rules-of-sound rows n (sound-of-bytes rows n e))
 

@@ -7,7 +7,7 @@ use lib.Dec.{leb, ltb}
 use borrow.Author.Needs.{needs}
 use borrow.Author.Tests.{not-true, not-false}
 use Rattle.graph.specs.Every.{allBelow}
-use Rattle.graph.proofs.Every.{all-fails, all-more, all-done}
+use Rattle.graph.proofs.Loops.{all-fails, all-more, all-done}
 use Rattle.molecule.specs.Record.{bonded}
 use Rattle.judge.specs.Parts.{pairFits, fitsBefore}
 use Rattle.judge.proofs.fits_before.Statement.{statement}

@@ -9,7 +9,7 @@ use lib.Dec.{leb, ltb}
 use borrow.Author.Needs.{needs}
 use borrow.Author.Tests.{not-true, not-false}
 use Rattle.graph.specs.Every.{allBelow}
-use Rattle.graph.proofs.Every.{all-fails, all-more, all-done}
+use Rattle.graph.proofs.Loops.{all-fails, all-more, all-done}
 use borrow.Author.Tests.{le-leb, lt-leb}
 use Rattle.graph.specs.Chordless.{atomAt, inRange}
 use Rattle.judge.proofs.in_range.Statement.{statement}

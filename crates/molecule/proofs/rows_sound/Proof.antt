@@ -5,7 +5,7 @@ use native.Mathlib.Omega.{arith}
 use borrow.Author.Needs.{needs}
 use borrow.Author.Tests.{not-true, not-false}
 use Rattle.graph.specs.Every.{allBelow}
-use Rattle.graph.proofs.Every.{all-fails, all-more, all-done}
+use Rattle.graph.proofs.Loops.{all-fails, all-more, all-done}
 use Rattle.molecule.specs.Parts.{byteSound, rowsSound}
 use Rattle.molecule.proofs.rows_sound.Statement.{statement}
 use Rattle.molecule.proofs.rows_sound.Tie as tie
