@@ -5,3 +5,4 @@ pub mod Touch
 pub mod Rings
 pub mod Paths
 pub mod Sweep
+pub mod Lawful

@@ -1,3 +1,7 @@
 pub mod Words
 pub mod Machine
 pub mod Run
+pub mod Lawful
+pub mod Listing
+pub mod Trials
+pub mod Ran

@@ -1,0 +1,11 @@
+pub mod Basics
+pub mod Order
+pub mod Stream
+pub mod Open
+pub mod Trial
+pub mod Steps
+pub mod Marks
+pub mod Counts
+pub mod Progress
+pub mod Running
+pub mod Theorems
