@@ -6,12 +6,9 @@ use lib.ListN.{length}
 use lib.Dec.{ltb, eqb}
 use Rattle.enumeration.specs.declared.Stop.{Stop}
 use Rattle.enumeration.specs.declared.Stop.the-variants.{Done, Limit, Spent, Full}
+pub use Rattle.fields.specs.Field.{limit}
 use Rattle.enumeration.specs.Words.{Family}
 use Rattle.enumeration.specs.Machine.{State, tried, isDone, trial}
-
--- The limit of a count
-abbrev pub limit : ℕ
-limit = 9999999999999999999
 
 unfoldable pub atLimit : State → Bool
 atLimit st = eqb (st .trials) limit || eqb (st .extensions) limit || eqb (st .listed) limit

@@ -7,7 +7,7 @@ use lib.Dec.{leb, ltb, eqb}
 use Rattle.fields.specs.declared.Number.{Number}
 use Rattle.fields.specs.declared.Number.the-variants.{Value, Bad}
 
--- The largest number that a field may hold, the limit of the counts
+-- The limit of a count, and so of what a field may hold
 abbrev pub limit : ℕ
 limit = 9999999999999999999
 

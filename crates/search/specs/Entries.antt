@@ -1,0 +1,64 @@
+-- What starting and running return and leave in the output (document 01, "The search, trial by trial" and "Turned back by number").
+use Prim.Native.Nat.{ℕ}
+use mathlib.Core.Bool.{Bool, _&&_, cond}
+use mathlib.Core.List.{List, _++_}
+use lib.ListN.{length, drop}
+use lib.Dec.{eqb}
+use Rattle.refusal.specs.declared.Refusal.{Refusal}
+use Rattle.refusal.specs.declared.Refusal.the-variants as refusal
+use Rattle.enumeration.specs.Run.{Outcome, run}
+use Rattle.molecule.specs.declared.Molecule.{Molecule}
+use Rattle.molecule.specs.Record.{wellFormed, isAtom}
+use Rattle.search.specs.declared.Search.{Search}
+use Rattle.search.specs.declared.Made.{Made}
+use Rattle.search.specs.declared.Answer.the-variants.{Accepted}
+use Rattle.search.specs.declared.Answer.the-variants as answer
+use Rattle.search.specs.declared.Ran.{Ran}
+use Rattle.search.specs.declared.Ended.the-variants.{Stopped}
+use Rattle.search.specs.declared.Ended.the-variants as ended
+use Rattle.search.specs.Place.{family, stateOf, searchAt, freshSearch, restorable}
+
+abbrev pub accepted : Search → Made
+accepted q = record { answer = Accepted; search = q }
+
+-- A refusal that makes no search returns the fresh ring search
+abbrev pub turnedBack : Refusal → Made
+turnedBack r = record { answer = answer.Refused r; search = freshSearch 0 0 0 }
+
+-- A fresh ring search: rule 9
+unfoldable pub startRings : Molecule → Made
+startRings mol = cond (wellFormed mol) (accepted (freshSearch 0 0 0)) (turnedBack refusal.Record)
+
+-- A fresh search for the paths from s to t: rules 9, 10, 11
+unfoldable pub startPaths : Molecule → ℕ → ℕ → Made
+startPaths mol s t =
+    cond (wellFormed mol)
+    (cond (isAtom (mol .atoms) s && isAtom (mol .atoms) t)
+    (cond (eqb s t) (turnedBack refusal.SameEnds) (accepted (freshSearch 1 s t)))
+    (turnedBack refusal.PathEnd))
+    (turnedBack refusal.Record)
+
+-- The run of a search by the definition
+abbrev pub outcome : Molecule → Search → ℕ → List ℕ → Outcome
+outcome mol q budget out = run (family mol q) budget (length out) (stateOf q)
+
+-- A refused run leaves the search as it was
+abbrev pub refusedRun : Search → Refusal → Ran
+refusedRun q r = record { ended = ended.Refused r; search = q; used = 0; made = 0 }
+
+abbrev pub ran : Search → Outcome → Ran
+ran q o = record { ended = Stopped (o .stop); search = searchAt (q .kind) (q .s) (q .t) (o .state); used = length (o .bytes); made = o .made }
+
+-- A run: rule 9, then 12
+unfoldable pub runSearch : Molecule → Search → ℕ → List ℕ → Ran
+runSearch mol q budget out =
+    cond (wellFormed mol)
+    (cond (restorable mol q) (ran q (outcome mol q budget out)) (refusedRun q refusal.Search))
+    (refusedRun q refusal.Record)
+
+-- Its output: the records, and then the bytes that were there
+unfoldable pub runOutput : Molecule → Search → ℕ → List ℕ → List ℕ
+runOutput mol q budget out =
+    cond (wellFormed mol && restorable mol q)
+    (outcome mol q budget out .bytes ++ drop (length (outcome mol q budget out .bytes)) out)
+    out

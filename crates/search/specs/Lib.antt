@@ -1,0 +1,3 @@
+pub mod Place
+pub mod Entries
+pub mod Mark

@@ -1,0 +1,65 @@
+-- The search of document 01 as the struct holds it, and rule 12: which searches a mark on the molecule restores.
+use Prim.Native.Nat.{ℕ, suc, _-_}
+use mathlib.Core.Bool.{Bool, _&&_, _||_, not, cond}
+use mathlib.Core.List.{List, _++_, reverse}
+use lib.ListN.{length, getD, take, replicate}
+use lib.Dec.{leb, ltb, eqb}
+use Rattle.graph.specs.Every.{allBelow}
+use Rattle.enumeration.specs.Words.{Family, isOpen}
+use Rattle.enumeration.specs.Machine.{State, isEmpty, fresh}
+use Rattle.enumeration.specs.Run.{limit}
+use Rattle.chordless.specs.Families.{rings, paths}
+use Rattle.molecule.specs.declared.Molecule.{Molecule}
+use Rattle.molecule.specs.Record.{isAtom, bonded}
+use Rattle.search.specs.declared.Search.{Search}
+
+-- What a search of a kind lists: 0 the rings, 1 the paths from s to t
+unfoldable pub familyOf : Molecule → ℕ → ℕ → ℕ → Family
+familyOf mol kind s t = cond (eqb kind 0) (rings (mol .atoms) (bonded (mol .atoms) (mol .rows))) (paths (mol .atoms) (bonded (mol .atoms) (mol .rows)) s t)
+
+abbrev pub family : Molecule → Search → Family
+family mol q = familyOf mol (q .kind) (q .s) (q .t)
+
+-- The present beginning p
+unfoldable pub beginning : Search → List ℕ
+beginning q = take (q .len) (q .prefix)
+
+-- The search as the machine of trials sees it
+unfoldable pub stateOf : Search → State
+stateOf q = record { stack = reverse (beginning q); next = q .next; trials = q .trials; extensions = q .extensions; listed = q .listed }
+
+-- a beginning in its array: the places past its length hold 0
+unfoldable pub held : List ℕ → List ℕ
+held p = p ++ replicate (128 - length p) 0
+
+-- The search of a kind, s and t at a state of the machine
+unfoldable pub searchAt : ℕ → ℕ → ℕ → State → Search
+searchAt kind s t st =
+    record { kind = kind; s = s; t = t; len = length (st .stack); prefix = held (reverse (st .stack)); next = st .next; trials = st .trials; extensions = st .extensions; listed = st .listed }
+
+-- The fresh search of a kind, s and t
+unfoldable pub freshSearch : ℕ → ℕ → ℕ → Search
+freshSearch kind s t = searchAt kind s t fresh
+
+-- Rules 10 and 11 kept: s and t are atoms, and differ
+unfoldable pub endsKept : ℕ → ℕ → ℕ → Bool
+endsKept n s t = isAtom n s && isAtom n t && not (eqb s t)
+
+-- Rule 16 kept: kind 0 with s and t both 0, or kind 1 with s and t that keep rules 10 and 11
+unfoldable pub kindKept : ℕ → ℕ → ℕ → ℕ → Bool
+kindKept n kind s t = eqb kind 0 && eqb s 0 && eqb t 0 || eqb kind 1 && endsKept n s t
+
+-- Rule 17 kept: p is open, and c is from 1 to n; p empty with c = n + 1 is allowed
+unfoldable pub placeKept : Family → List ℕ → ℕ → Bool
+placeKept F p c = isOpen F p && (isAtom (F .atoms) c || isEmpty p && eqb c (suc (F .atoms)))
+
+-- Rule 12 kept: the search could be restored from a mark on this molecule
+unfoldable pub restorable : Molecule → Search → Bool
+restorable mol q =
+    leb (q .len) 127
+    && allBelow 128 (λ i. ltb i (q .len) || eqb (getD (q .prefix) i 0) 0)
+    && kindKept (mol .atoms) (q .kind) (q .s) (q .t)
+    && placeKept (family mol q) (beginning q) (q .next)
+    && leb (q .trials) limit
+    && leb (q .extensions) limit
+    && leb (q .listed) limit
