@@ -1,8 +1,9 @@
 -- Number fields of document 01: blanks, then decimal digits, right-justified, no leading zero; zero is one digit 0.
 -- A field of 4 columns and one of 20 are the same text at another width.
 use Prim.Native.Nat.{ℕ, zero, suc, _+_, _-_, _*_, _/_, _%_}
-use mathlib.Core.Bool.{Bool, _&&_, cond}
+use mathlib.Core.Bool.{Bool, true, false, _&&_, cond}
 use mathlib.Core.List.{List, [], _∷_, _++_}
+use lib.ListN.{take, drop}
 use lib.Dec.{leb, ltb, eqb}
 use Rattle.fields.specs.declared.Number.{Number}
 use Rattle.fields.specs.declared.Number.the-variants.{Value, Bad}
@@ -37,3 +38,18 @@ columns (suc k) v = columns k (v / 10) ++ (column v ∷ [])
 unfoldable pub fieldText : ℕ → ℕ → List ℕ
 fieldText zero v = []
 fieldText (suc k) v = columns k (v / 10) ++ ((48 + v % 10) ∷ [])
+
+-- The field of so many columns at a place of some bytes, whether it is a number field, and its value (0 where it is none)
+abbrev pub fieldAt : ℕ → List ℕ → ℕ → Number
+fieldAt columns bytes at = readField (take columns (drop at bytes))
+
+abbrev pub isValue : Number → Bool
+isValue (Value v) = true
+isValue Bad = false
+
+abbrev pub valueOf : Number → ℕ
+valueOf (Value v) = v
+valueOf Bad = 0
+
+abbrev pub valueAt : ℕ → List ℕ → ℕ → ℕ
+valueAt columns bytes at = valueOf (fieldAt columns bytes at)

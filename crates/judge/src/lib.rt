@@ -4,7 +4,7 @@ ghost use mathlib.Core.Bool.{true};
 ghost use Prim.Native.Nat.{ℕ, _≤_, _<_};
 ghost use lib.ListN.{length};
 ghost use Rattle.graph.specs.Chordless.{inRange, induces, alongRing, isPath};
-ghost use Rattle.molecule.specs.Record.{bonded, isAtom};
+ghost use Rattle.molecule.specs.Record.{bonded};
 ghost use Rattle.judge.specs.Verdict.{judgeRing, judgePath};
 ghost use Rattle.judge.specs.Parts.{pairFits, fitsBefore, lowestFirst};
 use molecule::Molecule;
@@ -175,10 +175,10 @@ pub fn judge_path(m: Molecule, s: usize, t: usize, xs: &[u8]) -> Verdict
     }
     let n = m.atoms;
     let rows = m.rows;
-    if !is_atom(n, s) {
+    if !molecule::is_atom(n, s) {
         return Verdict::Refused(Refusal::PathEnd);
     }
-    if !is_atom(n, t) {
+    if !molecule::is_atom(n, t) {
         return Verdict::Refused(Refusal::PathEnd);
     }
     if s == t {
@@ -188,13 +188,4 @@ pub fn judge_path(m: Molecule, s: usize, t: usize, xs: &[u8]) -> Verdict
         return Verdict::Yes;
     }
     Verdict::No
-}
-
-fn is_atom(n: usize, a: usize) -> bool
-    ensures { λ r. ⌜ r ≡ isAtom n a ⌝ }
-{
-    if a < 1 {
-        return false;
-    }
-    a <= n
 }

@@ -3,7 +3,7 @@ ghost use mathlib.Core.Path.{_≡_};
 ghost use Prim.Native.Nat.{ℕ, _+_, _*_, _/_, _%_, _≤_, _<_};
 ghost use lib.ListN.{length, drop};
 ghost use Rattle.graph.specs.Every.{allBelow};
-ghost use Rattle.molecule.specs.Record.{bit, cell, freshMolecule, onesOf, wellFormed};
+ghost use Rattle.molecule.specs.Record.{isAtom, cell, freshMolecule, onesOf, wellFormed};
 ghost use Rattle.molecule.specs.Parts.{mirrored, bitSound, byteSound, rowsSound};
 
 // Atoms, bonds, and for each of 128 atoms a row of 16 bytes.
@@ -22,6 +22,16 @@ pub fn fresh() -> Molecule
         bonds: 0,
         rows: [0u8; 2048],
     }
+}
+
+// Whether a number is an atom: from 1 to n.
+pub fn is_atom(n: usize, a: usize) -> bool
+    ensures { λ r. ⌜ r ≡ isAtom n a ⌝ }
+{
+    if a < 1 {
+        return false;
+    }
+    a <= n
 }
 
 // Whether row i has the bit of column j; atoms counted from 0.

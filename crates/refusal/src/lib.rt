@@ -22,6 +22,12 @@ pub enum Refusal {
     MarkPlace,
 }
 
+// The answer of an entry that makes a record or a search.
+pub enum Answer {
+    Accepted,
+    Refused(Refusal),
+}
+
 // The rule's number.
 pub fn number(r: Refusal) -> u32
     ensures { λ k. ⌜ k ≡ numberOf r ⌝ }

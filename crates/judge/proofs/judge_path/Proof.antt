@@ -8,7 +8,7 @@ use Rattle.judge.proofs.judge_path.Statement.{statement}
 use Rattle.judge.proofs.judge_path.Tie as tie
 use Rattle.judge.proofs.judge_path.Reads as reads
 use Rattle.judge.proofs.judge_path.Lts as lts
-use Rattle.judge.proofs.is_atom.Reads as is-atom-reads
+use Rattle.molecule.proofs.is_atom.Reads as is-atom-reads
 use Rattle.judge.proofs.is_path.Reads as is-path-reads
 use Rattle.molecule.proofs.well_formed.Reads as well-formed-reads
 

@@ -1,8 +1,8 @@
 use borrow.Author.Tests.{le-leb, lt-leb}
-use Rattle.judge.proofs.is_atom.Statement.{statement}
-use Rattle.judge.proofs.is_atom.Tie as tie
-use Rattle.judge.proofs.is_atom.Reads as reads
-use Rattle.judge.proofs.is_atom.Lts as lts
+use Rattle.molecule.proofs.is_atom.Statement.{statement}
+use Rattle.molecule.proofs.is_atom.Tie as tie
+use Rattle.molecule.proofs.is_atom.Reads as reads
+use Rattle.molecule.proofs.is_atom.Lts as lts
 
 -- src/lib.rt:198:9
 returns : tie.Need-returns

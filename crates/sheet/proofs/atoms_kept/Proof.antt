@@ -1,0 +1,119 @@
+use Rattle.sheet.proofs.atoms_kept.Statement.{statement}
+use Rattle.sheet.proofs.atoms_kept.Tie as tie
+use Rattle.sheet.proofs.atoms_kept.Reads as reads
+use Rattle.sheet.proofs.atoms_kept.Lts as lts
+use Rattle.molecule.proofs.is_atom.Reads as is-atom-reads
+use Rattle.sheet.proofs.wide.Reads as wide-reads
+
+abbrev Inv-loop : tie.InvT-loop
+Inv-loop values n m k₀ k = ?
+
+abbrev μ-loop : tie.MeasureT-loop
+μ-loop values n m k₀ k = ?
+
+-- src/lib.rt:116:5
+loop-holds : tie.Need-loop-holds Inv-loop μ-loop
+loop-holds c = ?
+
+-- src/lib.rt:117:41
+add-wide : tie.Need-add-wide Inv-loop μ-loop
+add-wide c = ?
+
+-- src/lib.rt:117:36
+mul-wide : tie.Need-mul-wide Inv-loop μ-loop
+mul-wide c = ?
+
+-- src/lib.rt:117:29
+mul-wide-2 : tie.Need-mul-wide-2 Inv-loop μ-loop
+mul-wide-2 c = ?
+
+-- src/lib.rt:117:29
+element-copy-out-wide : tie.Need-element-copy-out-wide Inv-loop μ-loop
+element-copy-out-wide c = ?
+
+-- src/lib.rt:117:24
+wide-requires : tie.Need-wide-requires Inv-loop μ-loop
+wide-requires c κs = ?
+
+-- src/lib.rt:117:13
+is-atom-requires : tie.Need-is-atom-requires Inv-loop μ-loop
+is-atom-requires c κs = ?
+
+-- src/lib.rt:118:13
+returns : tie.Need-returns Inv-loop μ-loop
+returns c = ?
+
+-- src/lib.rt:120:41
+add-wide-2 : tie.Need-add-wide-2 Inv-loop μ-loop
+add-wide-2 c = ?
+
+-- src/lib.rt:120:36
+mul-wide-3 : tie.Need-mul-wide-3 Inv-loop μ-loop
+mul-wide-3 c = ?
+
+-- src/lib.rt:120:36
+add-wide-3 : tie.Need-add-wide-3 Inv-loop μ-loop
+add-wide-3 c = ?
+
+-- src/lib.rt:120:29
+mul-wide-4 : tie.Need-mul-wide-4 Inv-loop μ-loop
+mul-wide-4 c = ?
+
+-- src/lib.rt:120:29
+element-copy-out-wide-2 : tie.Need-element-copy-out-wide-2 Inv-loop μ-loop
+element-copy-out-wide-2 c = ?
+
+-- src/lib.rt:120:24
+wide-requires-2 : tie.Need-wide-requires-2 Inv-loop μ-loop
+wide-requires-2 c κs = ?
+
+-- src/lib.rt:120:13
+is-atom-requires-2 : tie.Need-is-atom-requires-2 Inv-loop μ-loop
+is-atom-requires-2 c κs = ?
+
+-- src/lib.rt:121:13
+returns-2 : tie.Need-returns-2 Inv-loop μ-loop
+returns-2 c = ?
+
+-- src/lib.rt:123:9
+add-k : tie.Need-add-k Inv-loop μ-loop
+add-k c = ?
+
+-- src/lib.rt:116:5
+loop-less : tie.Need-loop-less Inv-loop μ-loop
+loop-less c = ?
+
+-- src/lib.rt:116:5
+loop-again : tie.Need-loop-again Inv-loop μ-loop
+loop-again c = ?
+
+-- src/lib.rt:111:1
+returns-3 : tie.Need-returns-3 Inv-loop μ-loop
+returns-3 c = ?
+
+pub atoms-kept-spec : {M : Type 1} → statement M
+atoms-kept-spec =
+    tie.close
+    (tie.spec
+    Inv-loop
+    μ-loop
+    loop-holds
+    add-wide
+    mul-wide
+    mul-wide-2
+    element-copy-out-wide
+    wide-requires
+    is-atom-requires
+    returns
+    add-wide-2
+    mul-wide-3
+    add-wide-3
+    mul-wide-4
+    element-copy-out-wide-2
+    wide-requires-2
+    is-atom-requires-2
+    returns-2
+    add-k
+    loop-less
+    loop-again
+    returns-3)

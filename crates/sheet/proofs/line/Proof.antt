@@ -1,0 +1,91 @@
+use borrow.Author.Needs.{needs}
+use Rattle.sheet.proofs.line.Statement.{statement}
+use Rattle.sheet.proofs.line.Tie as tie
+use Rattle.sheet.proofs.line.Reads as reads
+use Rattle.sheet.proofs.line.Lts as lts
+use Rattle.sheet.proofs.field.Reads as field-reads
+
+-- src/lib.rt:50:14
+mul-at : tie.Need-mul-at
+mul-at c = search needs
+
+-- src/lib.rt:51:9
+field-requires : tie.Need-field-requires
+field-requires c κs = search needs
+
+-- src/lib.rt:52:23
+enum-known-left : tie.Need-enum-known-left
+enum-known-left c = search needs
+
+-- src/lib.rt:53:9
+enum-told : tie.Need-enum-told
+enum-told c = search needs
+
+-- src/lib.rt:53:9
+returns : tie.Need-returns
+returns c = ?
+
+-- src/lib.rt:55:26
+add-field : tie.Need-add-field
+add-field c = search needs
+
+-- src/lib.rt:55:9
+field-requires-2 : tie.Need-field-requires-2
+field-requires-2 c κs = search needs
+
+-- src/lib.rt:56:23
+enum-known-right : tie.Need-enum-known-right
+enum-known-right c = search needs
+
+-- src/lib.rt:57:9
+enum-told-2 : tie.Need-enum-told-2
+enum-told-2 c = search needs
+
+-- src/lib.rt:57:9
+returns-2 : tie.Need-returns-2
+returns-2 c = ?
+
+-- src/lib.rt:59:10
+add-if1 : tie.Need-add-if1
+add-if1 c = search needs
+
+-- src/lib.rt:59:8
+shared-slice-read-if1 : tie.Need-shared-slice-read-if1
+shared-slice-read-if1 c = search needs
+
+-- src/lib.rt:60:9
+returns-3 : tie.Need-returns-3
+returns-3 c = ?
+
+-- src/lib.rt:62:29
+cast-t12 : tie.Need-cast-t12
+cast-t12 c = ?
+
+-- src/lib.rt:62:46
+cast-t13 : tie.Need-cast-t13
+cast-t13 c = ?
+
+-- src/lib.rt:46:1
+returns-4 : tie.Need-returns-4
+returns-4 c = ?
+
+pub line-spec : {M : Type 1} → statement M
+line-spec =
+    tie.close
+    (tie.spec
+    mul-at
+    field-requires
+    enum-known-left
+    enum-told
+    returns
+    add-field
+    field-requires-2
+    enum-known-right
+    enum-told-2
+    returns-2
+    add-if1
+    shared-slice-read-if1
+    returns-3
+    cast-t12
+    cast-t13
+    returns-4)

@@ -1,0 +1,92 @@
+use Rattle.sheet.proofs.none_to_itself.Statement.{statement}
+use Rattle.sheet.proofs.none_to_itself.Tie as tie
+use Rattle.sheet.proofs.none_to_itself.Reads as reads
+use Rattle.sheet.proofs.none_to_itself.Lts as lts
+
+abbrev Inv-loop : tie.InvT-loop
+Inv-loop values m k₀ k = ?
+
+abbrev μ-loop : tie.MeasureT-loop
+μ-loop values m k₀ k = ?
+
+-- src/lib.rt:134:5
+loop-holds : tie.Need-loop-holds Inv-loop μ-loop
+loop-holds c = ?
+
+-- src/lib.rt:135:24
+add-if1 : tie.Need-add-if1 Inv-loop μ-loop
+add-if1 c = ?
+
+-- src/lib.rt:135:19
+mul-if1 : tie.Need-mul-if1 Inv-loop μ-loop
+mul-if1 c = ?
+
+-- src/lib.rt:135:12
+mul-if1-2 : tie.Need-mul-if1-2 Inv-loop μ-loop
+mul-if1-2 c = ?
+
+-- src/lib.rt:135:12
+element-copy-out-if1 : tie.Need-element-copy-out-if1 Inv-loop μ-loop
+element-copy-out-if1 c = ?
+
+-- src/lib.rt:135:47
+add-if1-2 : tie.Need-add-if1-2 Inv-loop μ-loop
+add-if1-2 c = ?
+
+-- src/lib.rt:135:42
+mul-if1-3 : tie.Need-mul-if1-3 Inv-loop μ-loop
+mul-if1-3 c = ?
+
+-- src/lib.rt:135:42
+add-if1-3 : tie.Need-add-if1-3 Inv-loop μ-loop
+add-if1-3 c = ?
+
+-- src/lib.rt:135:35
+mul-if1-4 : tie.Need-mul-if1-4 Inv-loop μ-loop
+mul-if1-4 c = ?
+
+-- src/lib.rt:135:35
+element-copy-out-if1-2 : tie.Need-element-copy-out-if1-2 Inv-loop μ-loop
+element-copy-out-if1-2 c = ?
+
+-- src/lib.rt:136:13
+returns : tie.Need-returns Inv-loop μ-loop
+returns c = ?
+
+-- src/lib.rt:138:9
+add-k : tie.Need-add-k Inv-loop μ-loop
+add-k c = ?
+
+-- src/lib.rt:134:5
+loop-less : tie.Need-loop-less Inv-loop μ-loop
+loop-less c = ?
+
+-- src/lib.rt:134:5
+loop-again : tie.Need-loop-again Inv-loop μ-loop
+loop-again c = ?
+
+-- src/lib.rt:129:1
+returns-2 : tie.Need-returns-2 Inv-loop μ-loop
+returns-2 c = ?
+
+pub none-to-itself-spec : {M : Type 1} → statement M
+none-to-itself-spec =
+    tie.close
+    (tie.spec
+    Inv-loop
+    μ-loop
+    loop-holds
+    add-if1
+    mul-if1
+    mul-if1-2
+    element-copy-out-if1
+    add-if1-2
+    mul-if1-3
+    add-if1-3
+    mul-if1-4
+    element-copy-out-if1-2
+    returns
+    add-k
+    loop-less
+    loop-again
+    returns-2)

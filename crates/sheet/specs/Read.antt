@@ -1,0 +1,72 @@
+-- The bond sheet of document 01: what any bytes are read as, rules 1 to 8, each tried over the whole input before the next.
+use Prim.Native.Nat.{ℕ, suc, _+_, _*_, _/_, _%_}
+use mathlib.Core.Bool.{Bool, _&&_, cond}
+use mathlib.Core.List.{List}
+use lib.ListN.{length, getD}
+use lib.Dec.{leb, eqb}
+use Rattle.graph.specs.Every.{allBelow}
+use Rattle.fields.specs.Field.{fieldAt, isValue, valueAt}
+use Rattle.refusal.specs.declared.Refusal.{Refusal}
+use Rattle.refusal.specs.declared.Refusal.the-variants as refusal
+use Rattle.refusal.specs.declared.Answer.the-variants.{Accepted, Refused}
+use Rattle.molecule.specs.Record.{freshMolecule}
+use Rattle.sheet.specs.declared.Sheet.{Sheet}
+use Rattle.sheet.specs.Bonds.{Bond, atomsKept, noneToItself, noneTwice, rowsOf}
+
+-- Rule 1 kept: at least 9 bytes, and a multiple of 9
+unfoldable pub lengthKept : List ℕ → Bool
+lengthKept s = leb 9 (length s) && eqb (length s % 9) 0
+
+-- line i, counted from 0: two fields of 4 columns and a line feed
+unfoldable pub lineKept : List ℕ → ℕ → Bool
+lineKept s i = isValue (fieldAt 4 s (9 * i)) && isValue (fieldAt 4 s (9 * i + 4)) && eqb (getD s (9 * i + 8) 0) 10
+
+-- Rule 2 kept by every line
+unfoldable pub linesKept : List ℕ → Bool
+linesKept s = allBelow (length s / 9) (lineKept s)
+
+-- the two numbers of line i
+unfoldable pub lineOf : List ℕ → ℕ → Bond
+lineOf s i = (valueAt 4 s (9 * i), valueAt 4 s (9 * i + 4))
+
+-- Line 1 holds atoms n and bonds m; each further line is one bond
+abbrev pub atomsOf : List ℕ → ℕ
+atomsOf s = lineOf s 0 .0
+
+abbrev pub bondsOf : List ℕ → ℕ
+bondsOf s = lineOf s 0 .1
+
+abbrev pub bondOf : List ℕ → ℕ → Bond
+bondOf s k = lineOf s (suc k)
+
+-- A refused sheet reads as the fresh molecule
+abbrev pub turnedBack : Refusal → Sheet
+turnedBack r = record { answer = Refused r; molecule = freshMolecule }
+
+-- n atoms with the first m bonds
+abbrev pub accepted : ℕ → (ℕ → Bond) → ℕ → Sheet
+accepted n bond m = record { answer = Accepted; molecule = record { atoms = n; bonds = m; rows = rowsOf bond m } }
+
+-- rules 6, 7, 8 on the bonds
+unfoldable pub readBonds : ℕ → (ℕ → Bond) → ℕ → Sheet
+readBonds n bond m =
+    cond (atomsKept n bond m)
+    (cond (noneToItself bond m)
+    (cond (noneTwice bond m) (accepted n bond m) (turnedBack refusal.RepeatedBond))
+    (turnedBack refusal.SelfBond))
+    (turnedBack refusal.BondAtom)
+
+-- What a sheet is read as
+unfoldable pub readSheet : List ℕ → Sheet
+readSheet s =
+    cond (lengthKept s)
+    (cond (linesKept s)
+    (cond (leb (atomsOf s) 128)
+    (cond (leb (bondsOf s) 1024)
+    (cond (eqb (length s) (9 * suc (bondsOf s)))
+    (readBonds (atomsOf s) (bondOf s) (bondsOf s))
+    (turnedBack refusal.SheetSize))
+    (turnedBack refusal.TooManyBonds))
+    (turnedBack refusal.TooManyAtoms))
+    (turnedBack refusal.SheetBytes))
+    (turnedBack refusal.SheetLength)

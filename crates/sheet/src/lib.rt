@@ -1,0 +1,146 @@
+// The bond sheet reader of document 01: bytes to a molecule record, or one refusal.
+ghost use mathlib.Core.Path.{_≡_};
+ghost use mathlib.Core.Bool.{true};
+ghost use Prim.Native.Nat.{ℕ, suc, min, _+_, _*_, _/_, _≤_, _<_};
+ghost use lib.ListN.{length, getD};
+ghost use Rattle.graph.specs.Every.{allBelow};
+ghost use Rattle.fields.specs.Field.{fieldAt};
+ghost use Rattle.sheet.specs.Bonds.{atomsKept, noneToItself, withCell, rowsOf};
+ghost use Rattle.sheet.specs.Read.{lineKept, lineOf, readBonds, readSheet};
+ghost use Rattle.sheet.specs.Parts.{storedBond, Decodes, ReadsLine, ReadsLines};
+
+use fields::Number;
+use molecule::Molecule;
+use refusal::Answer;
+use refusal::Refusal;
+
+pub struct Sheet {
+    pub answer: Answer,
+    pub molecule: Molecule,
+}
+
+// One line: whether its bytes are right, and its two numbers.
+struct Entry {
+    pub ok: bool,
+    pub left: u16,
+    pub right: u16,
+}
+
+// Every line: whether all are right, and the numbers of the first 1,025.
+struct Decoded {
+    pub ok: bool,
+    pub values: [u16; 2052],
+}
+
+// A field of 4 columns.
+fn field(s: &[u8], at: usize) -> Number
+    requires { ⌜ at + 4 ≤ length (now s) ⌝ }
+    ensures { λ r. ⌜ r ≡ fieldAt 4 (now (s .entry)) at ⌝ }
+{
+    let end = at + 4;
+    fields::read_number(&s[at..end])
+}
+
+// One line of 9 bytes.
+fn line(s: &[u8], i: usize) -> Entry
+    requires { ⌜ 9 * i + 9 ≤ length (now s) ⌝ }
+    ensures { λ r. ⌜ ReadsLine (now (s .entry)) i r ⌝ }
+{
+    let at = 9 * i;
+    let left = field(s, at);
+    let Number::Value(a) = left else {
+        return Entry { ok: false, left: 0, right: 0 };
+    };
+    let right = field(s, at + 4);
+    let Number::Value(b) = right else {
+        return Entry { ok: false, left: 0, right: 0 };
+    };
+    if s[at + 8] != 10 {
+        return Entry { ok: false, left: 0, right: 0 };
+    }
+    Entry { ok: true, left: a as u16, right: b as u16 }
+}
+
+// Where the numbers of line i go: lines past the first 1,025 share a place that is not read.
+fn slot(i: usize) -> usize
+    ensures { λ r. ⌜ r ≡ min i 1025 ⌝ }
+{
+    if i < 1025 {
+        return i;
+    }
+    1025
+}
+
+// Every line of a sheet.
+fn decode(s: &[u8], lines: usize) -> Decoded
+    requires { ⌜ 9 * lines ≤ length (now s) ⌝ }
+    ensures { λ r. ⌜ ReadsLines (now (s .entry)) lines r ⌝ }
+{
+    let mut values = [0u16; 2052];
+    let mut i: usize = 0;
+    while i < lines {
+        let l = line(s, i);
+        if !l.ok {
+            return Decoded { ok: false, values: values };
+        }
+        let k = slot(i);
+        values[2 * k] = l.left;
+        values[2 * k + 1] = l.right;
+        i += 1;
+    }
+    Decoded { ok: true, values: values }
+}
+
+fn wide(v: u16) -> usize
+    ensures { λ r. ⌜ r ≡ v ⌝ }
+{
+    v as usize
+}
+
+
+// Rule 6: whether every bond's atoms are from 1 to n.
+fn atoms_kept(values: &[u16; 2052], n: usize, m: usize) -> bool
+    requires { ⌜ m ≤ 1024 ⌝ }
+    ensures { λ r. ⌜ r ≡ atomsKept n (storedBond (now (values .entry))) m ⌝ }
+{
+    let mut k: usize = 0;
+    while k < m {
+        if !molecule::is_atom(n, wide(values[2 * (k + 1)])) {
+            return false;
+        }
+        if !molecule::is_atom(n, wide(values[2 * (k + 1) + 1])) {
+            return false;
+        }
+        k += 1;
+    }
+    true
+}
+
+// Rule 7: whether no bond joins an atom to itself.
+fn none_to_itself(values: &[u16; 2052], m: usize) -> bool
+    requires { ⌜ m ≤ 1024 ⌝ }
+    ensures { λ r. ⌜ r ≡ noneToItself (storedBond (now (values .entry))) m ⌝ }
+{
+    let mut k: usize = 0;
+    while k < m {
+        if values[2 * (k + 1)] == values[2 * (k + 1) + 1] {
+            return false;
+        }
+        k += 1;
+    }
+    true
+}
+
+// Sets the bit of row i and column j, both counted from 0.
+fn link(rows: &mut [u8], i: usize, j: usize)
+    requires { ⌜ (i < 128) × (j < 128) × (length (now rows) ≡ 2048) ⌝ }
+    ensures { λ _. ⌜ now (rows .exit) ≡ withCell (now (rows .entry)) i j ⌝ }
+{
+    let at = 16 * i + j / 8;
+    let k = j % 8;
+    let x = rows[at];
+    if (x >> k) % 2 == 1 {
+        return;
+    }
+    rows[at] = x + (1u8 << k);
+}
