@@ -1,14 +1,12 @@
 // The bond sheet reader of document 01: bytes to a molecule record, or one refusal.
 ghost use mathlib.Core.Path.{_≡_};
 ghost use mathlib.Core.Bool.{true};
-ghost use Prim.Native.Nat.{ℕ, suc, min, _+_, _*_, _/_, _≤_, _<_};
-ghost use lib.ListN.{length, getD};
-ghost use Rattle.graph.specs.Every.{allBelow};
+ghost use Prim.Native.Nat.{min, _+_, _*_, _≤_, _<_};
+ghost use lib.ListN.{length};
 ghost use Rattle.fields.specs.Field.{fieldAt};
-ghost use Rattle.sheet.specs.Bonds.{atomsKept, noneToItself, withCell, rowsOf};
-ghost use Rattle.sheet.specs.Read.{lineKept, lineOf, readBonds, readSheet};
-ghost use Rattle.sheet.specs.Parts.{storedBond, Decodes, ReadsLine, ReadsLines};
-
+ghost use Rattle.sheet.specs.Bonds.{atomsKept, noneToItself, withCell};
+ghost use Rattle.sheet.specs.Read.{turnedBack, readBonds, readSheet};
+ghost use Rattle.sheet.specs.Parts.{storedBond, ReadsLine, ReadsLines};
 use fields::Number;
 use molecule::Molecule;
 use refusal::Answer;
@@ -49,16 +47,32 @@ fn line(s: &[u8], i: usize) -> Entry
     let at = 9 * i;
     let left = field(s, at);
     let Number::Value(a) = left else {
-        return Entry { ok: false, left: 0, right: 0 };
+        return Entry {
+            ok: false,
+            left: 0,
+            right: 0,
+        };
     };
     let right = field(s, at + 4);
     let Number::Value(b) = right else {
-        return Entry { ok: false, left: 0, right: 0 };
+        return Entry {
+            ok: false,
+            left: 0,
+            right: 0,
+        };
     };
     if s[at + 8] != 10 {
-        return Entry { ok: false, left: 0, right: 0 };
+        return Entry {
+            ok: false,
+            left: 0,
+            right: 0,
+        };
     }
-    Entry { ok: true, left: a as u16, right: b as u16 }
+    Entry {
+        ok: true,
+        left: a as u16,
+        right: b as u16,
+    }
 }
 
 // Where the numbers of line i go: lines past the first 1,025 share a place that is not read.
@@ -81,14 +95,20 @@ fn decode(s: &[u8], lines: usize) -> Decoded
     while i < lines {
         let l = line(s, i);
         if !l.ok {
-            return Decoded { ok: false, values: values };
+            return Decoded {
+                ok: false,
+                values: values,
+            };
         }
         let k = slot(i);
         values[2 * k] = l.left;
         values[2 * k + 1] = l.right;
         i += 1;
     }
-    Decoded { ok: true, values: values }
+    Decoded {
+        ok: true,
+        values: values,
+    }
 }
 
 fn wide(v: u16) -> usize
@@ -96,7 +116,6 @@ fn wide(v: u16) -> usize
 {
     v as usize
 }
-
 
 // Rule 6: whether every bond's atoms are from 1 to n.
 fn atoms_kept(values: &[u16; 2052], n: usize, m: usize) -> bool
@@ -143,4 +162,86 @@ fn link(rows: &mut [u8], i: usize, j: usize)
         return;
     }
     rows[at] = x + (1u8 << k);
+}
+
+// A refused sheet: the fresh molecule.
+fn refused(r: Refusal) -> Sheet
+    ensures { λ s. ⌜ s ≡ turnedBack r ⌝ }
+{
+    let molecule = molecule::fresh();
+    Sheet {
+        answer: Answer::Refused(r),
+        molecule: molecule,
+    }
+}
+
+// Rule 8, and the rows of bonds that keep rules 6 and 7.
+fn fill(values: &[u16; 2052], n: usize, m: usize) -> Sheet
+    requires { ⌜ (n ≤ 128) × (m ≤ 1024) × (atomsKept n (storedBond (now values)) m ≡ true) × (noneToItself (storedBond (now values)) m ≡ true) ⌝ }
+    ensures { λ r. ⌜ r ≡ readBonds n (storedBond (now (values .entry))) m ⌝ }
+{
+    let mut rows = [0u8; 2048];
+    let mut k: usize = 0;
+    while k < m {
+        let i = wide(values[2 * (k + 1)]) - 1;
+        let j = wide(values[2 * (k + 1) + 1]) - 1;
+        if molecule::linked(&rows, i, j) {
+            return refused(Refusal::RepeatedBond);
+        }
+        link(&mut rows, i, j);
+        link(&mut rows, j, i);
+        k += 1;
+    }
+    let molecule = Molecule {
+        atoms: n,
+        bonds: m,
+        rows: rows,
+    };
+    Sheet {
+        answer: Answer::Accepted,
+        molecule: molecule,
+    }
+}
+
+// Rules 6, 7 and 8.
+fn read_bonds(values: &[u16; 2052], n: usize, m: usize) -> Sheet
+    requires { ⌜ (n ≤ 128) × (m ≤ 1024) ⌝ }
+    ensures { λ r. ⌜ r ≡ readBonds n (storedBond (now (values .entry))) m ⌝ }
+{
+    if !atoms_kept(values, n, m) {
+        return refused(Refusal::BondAtom);
+    }
+    if !none_to_itself(values, m) {
+        return refused(Refusal::SelfBond);
+    }
+    fill(values, n, m)
+}
+
+// Reads a bond sheet: any bytes give the molecule record of exactly its bonds, or one refusal.
+pub fn read_sheet(s: &[u8]) -> Sheet
+    ensures { λ r. ⌜ r ≡ readSheet (now (s .entry)) ⌝ }
+{
+    if s.len() < 9 {
+        return refused(Refusal::SheetLength);
+    }
+    if s.len() % 9 != 0 {
+        return refused(Refusal::SheetLength);
+    }
+    let decoded = decode(s, s.len() / 9);
+    if !decoded.ok {
+        return refused(Refusal::SheetBytes);
+    }
+    let values = decoded.values;
+    let n = wide(values[0]);
+    let m = wide(values[1]);
+    if 128 < n {
+        return refused(Refusal::TooManyAtoms);
+    }
+    if 1024 < m {
+        return refused(Refusal::TooManyBonds);
+    }
+    if s.len() != 9 * (m + 1) {
+        return refused(Refusal::SheetSize);
+    }
+    read_bonds(&values, n, m)
 }

@@ -1,3 +1,4 @@
+use native.Mathlib.Nat.{add-sub-cancel-left}
 use borrow.Author.Needs.{needs}
 use Rattle.sheet.proofs.field.Statement.{statement}
 use Rattle.sheet.proofs.field.Tie as tie
@@ -27,7 +28,7 @@ read-number-requires c κs = search needs
 
 -- src/lib.rt:36:1
 returns : tie.Need-returns
-returns c = ?
+returns c = rw (add-sub-cancel-left (c .before .before .before .args .at) 4) at (c .read-number .ensures)
 
 pub field-spec : {M : Type 1} → statement M
 field-spec =

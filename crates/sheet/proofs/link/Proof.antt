@@ -1,3 +1,5 @@
+use Prim.Native.Nat.{_+_, _*_, _/_}
+use Rattle.sheet.proofs.Cells.{cell-set-already, cell-set-now, cell-set-fits}
 use borrow.Author.Needs.{needs}
 use Rattle.sheet.proofs.link.Statement.{statement}
 use Rattle.sheet.proofs.link.Tie as tie
@@ -26,7 +28,7 @@ shr-if1 c = search needs
 
 -- src/lib.rt:152:9
 returns : tie.Need-returns
-returns c = ?
+returns c = cell-set-already (c .before .before .args .rows .now) (c .before .before .args .i) (c .before .before .args .j) (c .if1 .taken)
 
 -- src/lib.rt:154:28
 cast-rows : tie.Need-cast-rows
@@ -38,7 +40,7 @@ shl-rows c = search needs
 
 -- src/lib.rt:154:16
 add-rows : tie.Need-add-rows
-add-rows c = ?
+add-rows c = record { fits = cell-set-fits (c .before .before .args .rows .now) (c .before .before .args .i) (c .before .before .args .j) (c .if1 .left) (c .before .slice-known .given (16 * c .before .before .args .i + c .before .before .args .j / 8) .fits) }
 
 -- src/lib.rt:154:5
 slice-write-rows : tie.Need-slice-write-rows
@@ -50,7 +52,7 @@ same-length c = search needs
 
 -- src/lib.rt:144:1
 returns-2 : tie.Need-returns-2
-returns-2 c = ?
+returns-2 c = cell-set-now (c .before .before .args .rows .now) (c .before .before .args .i) (c .before .before .args .j) (c .if1 .left)
 
 pub link-spec : {M : Type 1} → statement M
 link-spec =
