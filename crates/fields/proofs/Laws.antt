@@ -201,3 +201,14 @@ read-fits (b ∷ bs) v e = go (read-fits bs v) (eqb b 32) e
         let h = passed (isDigit b) (digits (b - 48) bs) v e in
         let high = leb-true b 57 (both (leb 48 b) (leb b 57) (h .0) .1) in
         (rw (one-add (length bs)) at (digits-below 1 (b - 48) bs v (omega arith) (h .1)), digits-limit (b - 48) bs v (omega arith) (h .1))
+
+-- a field has as many bytes as columns
+columns-length : (k v : ℕ) → length (columns k v) ≡ k
+unfolding columns
+columns-length zero v = refl
+columns-length (suc k) v = simp (length-append, columns-length k) (omega arith)
+
+pub field-length : (k v : ℕ) → length (fieldText k v) ≡ k
+unfolding fieldText
+field-length zero v = refl
+field-length (suc k) v = simp (length-append, columns-length k) (omega arith)

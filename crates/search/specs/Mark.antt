@@ -6,9 +6,8 @@ use lib.ListN.{length, getD, take, drop}
 use lib.Dec.{leb, ltb, eqb}
 use Rattle.graph.specs.Every.{allBelow}
 use Rattle.enumeration.specs.Machine.{State}
-use Rattle.fields.specs.declared.Number.{Number}
-use Rattle.fields.specs.declared.Number.the-variants.{Value, Bad}
-use Rattle.fields.specs.Field.{readField, fieldText}
+pub use Rattle.fields.specs.Field.{fieldAt, isValue, valueOf, valueAt}
+use Rattle.fields.specs.Field.{fieldText}
 use Rattle.refusal.specs.declared.Refusal.the-variants as refusal
 use Rattle.molecule.specs.declared.Molecule.{Molecule}
 use Rattle.molecule.specs.Record.{wellFormed}
@@ -51,21 +50,6 @@ savedBytes (Refused r) mol q out = out
 -- Its buffer: the mark, and then the bytes that were there
 unfoldable pub saveOutput : Molecule → Search → List ℕ → List ℕ
 saveOutput mol q out = savedBytes (saveAnswer mol q out) mol q out
-
--- the field of so many columns at a place
-abbrev pub fieldAt : ℕ → List ℕ → ℕ → Number
-fieldAt columns bytes at = readField (take columns (drop at bytes))
-
-abbrev pub isValue : Number → Bool
-isValue (Value v) = true
-isValue Bad = false
-
-abbrev pub valueOf : Number → ℕ
-valueOf (Value v) = v
-valueOf Bad = 0
-
-abbrev pub valueAt : ℕ → List ℕ → ℕ → ℕ
-valueAt columns bytes at = valueOf (fieldAt columns bytes at)
 
 -- the first k fields from a place on are number fields
 unfoldable pub fieldsKept : ℕ → List ℕ → ℕ → ℕ → Bool

@@ -1,5 +1,6 @@
 // The search of document 01 and the answers of the entries on it. What they mean is in specs/.
 use enumeration::Stop;
+use refusal::Answer;
 use refusal::Refusal;
 
 // Kind 0 lists rings, kind 1 paths from s to t. The present beginning is the first `len` places of `prefix`; the places past it hold 0.
@@ -15,12 +16,7 @@ pub struct Search {
     pub listed: u64,
 }
 
-// The answer of an entry that makes a search.
-pub enum Answer {
-    Accepted,
-    Refused(Refusal),
-}
-
+// What an entry that makes a search returns.
 pub struct Made {
     pub answer: Answer,
     pub search: Search,

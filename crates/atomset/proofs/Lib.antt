@@ -1,0 +1,4 @@
+pub mod Bonds
+pub mod Digits
+pub mod Members
+pub mod Table

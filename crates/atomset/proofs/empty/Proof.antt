@@ -1,0 +1,12 @@
+use Rattle.atomset.proofs.Members.{has-empty}
+use Rattle.atomset.proofs.empty.Statement.{statement}
+use Rattle.atomset.proofs.empty.Tie as tie
+use Rattle.atomset.proofs.empty.Reads as reads
+use Rattle.atomset.proofs.empty.Lts as lts
+
+-- src/lib.rt:10:1
+returns : tie.Need-returns
+returns c = has-empty
+
+pub empty-spec : {M : Type 1} → statement M
+empty-spec = tie.close (tie.spec returns)

@@ -1,0 +1,2 @@
+pub mod Molecules
+pub mod Table

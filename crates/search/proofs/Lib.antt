@@ -1,0 +1,6 @@
+pub mod Text
+pub mod Readings
+pub mod Views
+pub mod Lines
+pub mod Restores
+pub mod MarkLaws

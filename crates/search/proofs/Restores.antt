@@ -1,0 +1,169 @@
+-- A restore is accepted exactly where each of its rules is kept, and a mark is the three lines of its search's numbers.
+-- The tests of a restore are passed one after the other; the numbers of a search that rule 12 allows fit their columns.
+use Prim.Native.Nat.{ℕ, suc, _≤_}
+use native.Mathlib.Omega.{arith}
+use mathlib.Core.Path.{_≡_, refl, ap, sym, _∙_}
+use mathlib.Core.Bool.{Bool, true, false, cond}
+use mathlib.Core.List.{List, [], _∷_}
+use mathlib.Core.Logic.{inl, inr}
+use lib.ListN.{length, getD}
+use lib.Dec.{eqb}
+use borrow.Author.Tests.{eq-eqb}
+use Rattle.graph.proofs.Below.{and-both}
+use Rattle.graph.proofs.All.{All, all-of, none, _◁_}
+use Rattle.fields.specs.Field.{limit}
+use Rattle.refusal.specs.declared.Refusal.{Refusal}
+use Rattle.refusal.specs.declared.Refusal.the-variants as refusal
+use Rattle.molecule.specs.declared.Molecule.{Molecule}
+use Rattle.molecule.specs.Record.{wellFormed}
+use Rattle.molecule.proofs.Bonds.{rule9}
+use Rattle.search.specs.declared.Search.{Search}
+use Rattle.search.specs.declared.Made.{Made}
+use Rattle.search.specs.Place.{familyOf, beginning, stateOf, kindKept, placeKept, restorable}
+use Rattle.search.specs.Entries.{accepted, turnedBack}
+use Rattle.search.specs.Mark.{markText, valueAt, markLength, layoutKept, markBeginning, markSearch, belongs, restoreMark}
+use Rattle.search.proofs.Text.{Fits, valuesOf, values-four}
+use Rattle.search.proofs.Lines.{textOf, Layout, layout-of, head-values, count-values, atom-values, mark-length-is, text-layout}
+use Rattle.search.proofs.Readings.{NextHigh, restorable-facts, restorable-place, kind-small}
+use Rattle.search.proofs.Views.{beginning-length, beginning-range, search-state}
+
+-- ---- an accepted restore
+
+pub record Restored (mol : Molecule) (bytes : List ℕ) (q : Search) : Type 0 where
+  pub formed : wellFormed mol ≡ true
+  pub layout : layoutKept bytes ≡ true
+  pub own : belongs mol bytes ≡ true
+  pub kinds : kindKept (mol .atoms) (valueAt 4 bytes 0) (valueAt 4 bytes 4) (valueAt 4 bytes 8) ≡ true
+  pub place : placeKept (familyOf mol (valueAt 4 bytes 0) (valueAt 4 bytes 4) (valueAt 4 bytes 8)) (markBeginning bytes) (valueAt 4 bytes 24) ≡ true
+  pub search : markSearch bytes ≡ q
+
+-- a test that was passed on the way to an accepted answer
+passed : (t : Bool) (x : Made) (r : Refusal) (q : Search) → cond t x (turnedBack r) ≡ accepted q → (t ≡ true) × (x ≡ accepted q)
+passed true x r q e = (refl, e)
+passed false x r q e = let f = ap (λ (m : Made). m .answer) e in let z : _≡_ {A = ℕ} 0 1 = cc in absurd (omega arith)
+
+module _ (mol : Molecule) (bytes : List ℕ) (q : Search) where
+  abbrev rule17 : Made
+  rule17 = cond (placeKept (familyOf mol (valueAt 4 bytes 0) (valueAt 4 bytes 4) (valueAt 4 bytes 8)) (markBeginning bytes) (valueAt 4 bytes 24)) (accepted (markSearch bytes)) (turnedBack refusal.MarkPlace)
+
+  abbrev rule16 : Made
+  rule16 = cond (kindKept (mol .atoms) (valueAt 4 bytes 0) (valueAt 4 bytes 4) (valueAt 4 bytes 8)) rule17 (turnedBack refusal.MarkKind)
+
+  abbrev rule15 : Made
+  rule15 = cond (belongs mol bytes) rule16 (turnedBack refusal.MarkMolecule)
+
+  abbrev rule14 : Made
+  rule14 = cond (layoutKept bytes) rule15 (turnedBack refusal.MarkBytes)
+
+  pub restored-facts : restoreMark mol bytes ≡ accepted q → Restored mol bytes q
+  unfolding restoreMark
+  restored-facts e =
+      let h9 = passed (wellFormed mol) rule14 refusal.Record q e in
+      let h14 = passed (layoutKept bytes) rule15 refusal.MarkBytes q (h9 .1) in
+      let h15 = passed (belongs mol bytes) rule16 refusal.MarkMolecule q (h14 .1) in
+      let h16 = passed (kindKept (mol .atoms) (valueAt 4 bytes 0) (valueAt 4 bytes 4) (valueAt 4 bytes 8)) rule17 refusal.MarkKind q (h15 .1) in
+      let h17 = passed (placeKept (familyOf mol (valueAt 4 bytes 0) (valueAt 4 bytes 4) (valueAt 4 bytes 8)) (markBeginning bytes) (valueAt 4 bytes 24)) (accepted (markSearch bytes)) refusal.MarkPlace q (h16 .1) in
+      record { formed = h9 .0; layout = h14 .0; own = h15 .0; kinds = h16 .0; place = h17 .0; search = ap (λ (m : Made). m .search) (h17 .1) }
+
+  pub restored-of : Restored mol bytes q → restoreMark mol bytes ≡ accepted q
+  unfolding restoreMark
+  restored-of f = rw (f .formed, f .layout, f .own, f .kinds, f .place, f .search)
+
+-- ---- the mark of a search
+
+abbrev pub headOf : Molecule → Search → List ℕ
+headOf mol q = q .kind ∷ q .s ∷ q .t ∷ mol .atoms ∷ mol .bonds ∷ q .len ∷ q .next ∷ []
+
+abbrev pub countsOf : Search → List ℕ
+countsOf q = q .trials ∷ q .extensions ∷ q .listed ∷ []
+
+pub mark-text : (mol : Molecule) (q : Search) → markText mol q ≡ textOf (headOf mol q) (countsOf q) (beginning q)
+unfolding markText
+mark-text mol q = refl
+
+-- its numbers fit their columns
+small-fits : (v : ℕ) → v ≤ 9999 → Fits 4 v
+small-fits v h = (omega arith, omega arith)
+
+count-fits : (v : ℕ) → v ≤ limit → Fits 20 v
+count-fits v h = (omega arith, h)
+
+next-most : (n : ℕ) (p : List ℕ) (c : ℕ) → NextHigh n p c → c ≤ suc n
+next-most n p c (inl h) = omega arith
+next-most n p c (inr h) = omega arith
+
+module _ (mol : Molecule) (q : Search) (formed : wellFormed mol ≡ true) (kept : restorable mol q ≡ true) where
+  head-fits : All (Fits 4) (headOf mol q)
+  head-fits =
+      let f = restorable-facts mol q kept in
+      let rule = rule9 mol formed in
+      let k = kind-small (mol .atoms) (q .kind) (q .s) (q .t) (f .kind-kept) in
+      let high = next-most (mol .atoms) (beginning q) (q .next) (f .next-high) in
+      small-fits (q .kind) (omega arith) ◁ small-fits (q .s) (omega arith) ◁ small-fits (q .t) (omega arith) ◁ small-fits (mol .atoms) (omega arith) ◁ small-fits (mol .bonds) (omega arith) ◁ small-fits (q .len) (omega arith) ◁ small-fits (q .next) (omega arith) ◁ none
+
+  counts-fit : All (Fits 20) (countsOf q)
+  counts-fit =
+      let f = restorable-facts mol q kept in
+      count-fits (q .trials) (f .trials-most) ◁ count-fits (q .extensions) (f .extensions-most) ◁ count-fits (q .listed) (f .listed-most) ◁ none
+
+  atoms-fit : All (Fits 4) (beginning q)
+  atoms-fit = all-of (beginning q) (λ i h. small-fits (getD (beginning q) i 0) (omega (arith, beginning-range mol q kept i h, rule9 mol formed .atoms-high)))
+
+  -- ---- restoring it
+
+  module _ (full : length (q .prefix) ≡ 128) (bytes : List ℕ) (is : bytes ≡ textOf (headOf mol q) (countsOf q) (beginning q)) where
+    len-is : q .len ≡ length (beginning q)
+    len-is = sym (beginning-length q full (restorable-facts mol q kept .short))
+
+    heads : valuesOf 4 bytes 0 7 ≡ headOf mol q
+    heads = head-values bytes (headOf mol q) (countsOf q) (beginning q) is refl refl head-fits counts-fit atoms-fit
+
+    counts : valuesOf 20 bytes 29 3 ≡ countsOf q
+    counts = count-values bytes (headOf mol q) (countsOf q) (beginning q) is refl refl head-fits counts-fit atoms-fit
+
+    atoms : markBeginning bytes ≡ beginning q
+    atoms =
+        values-four bytes 90 (markLength bytes)
+        ∙ ap (valuesOf 4 bytes 90) (mark-length-is bytes (headOf mol q) (countsOf q) (beginning q) is refl refl head-fits counts-fit atoms-fit len-is)
+        ∙ atom-values bytes (headOf mol q) (countsOf q) (beginning q) is refl refl head-fits counts-fit atoms-fit
+
+    lines : Layout bytes
+    lines = text-layout bytes (headOf mol q) (countsOf q) (beginning q) is refl refl head-fits counts-fit atoms-fit len-is (rw (← len-is) (restorable-facts mol q kept .short))
+
+    kind-is : valueAt 4 bytes 0 ≡ q .kind
+    kind-is = ap (λ l. getD l 0 0) heads
+
+    s-is : valueAt 4 bytes 4 ≡ q .s
+    s-is = ap (λ l. getD l 1 0) heads
+
+    t-is : valueAt 4 bytes 8 ≡ q .t
+    t-is = ap (λ l. getD l 2 0) heads
+
+    next-is : valueAt 4 bytes 24 ≡ q .next
+    next-is = ap (λ l. getD l 6 0) heads
+
+    own-is : belongs mol bytes ≡ true
+    own-is =
+        and-both (eqb (valueAt 4 bytes 12) (mol .atoms)) (eqb (valueAt 4 bytes 16) (mol .bonds))
+        (eq-eqb (valueAt 4 bytes 12) (mol .atoms) (ap (λ l. getD l 3 0) heads))
+        (eq-eqb (valueAt 4 bytes 16) (mol .bonds) (ap (λ l. getD l 4 0) heads))
+
+    search-is : markSearch bytes ≡ q
+    unfolding markSearch
+    search-is =
+        let trials-is : valueAt 20 bytes 29 ≡ q .trials = ap (λ l. getD l 0 0) counts in
+        let extensions-is : valueAt 20 bytes 49 ≡ q .extensions = ap (λ l. getD l 1 0) counts in
+        let listed-is : valueAt 20 bytes 69 ≡ q .listed = ap (λ l. getD l 2 0) counts in
+        rw (kind-is, s-is, t-is, next-is, trials-is, extensions-is, listed-is, atoms) (unfold stateOf in (search-state mol q kept full))
+
+    pub text-restored : Restored mol bytes q
+    text-restored =
+        let f = restorable-facts mol q kept in
+        record {
+          formed = formed;
+          layout = layout-of bytes lines;
+          own = own-is;
+          kinds = rw (kind-is, s-is, t-is) (f .kind-kept);
+          place = rw (kind-is, s-is, t-is, next-is, atoms) (restorable-place mol q f);
+          search = search-is;
+        }

@@ -1,0 +1,3 @@
+pub mod Frontier
+pub mod Load
+pub mod Walks

@@ -1,0 +1,74 @@
+-- A step of the sweep leaves less to do: the atoms not seen, and those in the frontier.
+-- Counted atom by atom: none gains, and the atom of the step loses.
+use Prim.Native.Nat.{ℕ, zero, suc, _+_, _≤_, _<_}
+use native.Mathlib.Omega.{arith}
+use native.Mathlib.Decide.{ℕ-discrete}
+use mathlib.Core.Path.{_≡_, refl}
+use mathlib.Core.Bool.{Bool, true, false, _&&_, _||_, not}
+use lib.Dec.{eqb}
+use borrow.Author.Tests.{eq-eqb}
+
+-- what an atom, seen or not, pending or not, adds
+abbrev pub cost : Bool → Bool → ℕ
+cost true true = 1
+cost true false = 0
+cost false true = 2
+cost false false = 1
+
+-- the atoms from 1 to k
+unfoldable pub load : (ℕ → Bool) → (ℕ → Bool) → ℕ → ℕ
+load seen pending zero = 0
+load seen pending (suc k) = load seen pending k + cost (seen (suc k)) (pending (suc k))
+
+load-le : (s p s′ p′ : ℕ → Bool) → ((a : ℕ) → cost (s′ a) (p′ a) ≤ cost (s a) (p a)) → (k : ℕ) → load s′ p′ k ≤ load s p k
+unfolding load
+load-le s p s′ p′ h zero = omega arith
+load-le s p s′ p′ h (suc k) = let rest = load-le s p s′ p′ h k in let here = h (suc k) in omega arith
+
+load-less : (s p s′ p′ : ℕ → Bool) (x : ℕ) → ((a : ℕ) → cost (s′ a) (p′ a) ≤ cost (s a) (p a)) → cost (s′ x) (p′ x) < cost (s x) (p x)
+    → (k : ℕ) → 1 ≤ x → x ≤ k → load s′ p′ k < load s p k
+unfolding load
+load-less s p s′ p′ x h g zero l u = absurd (omega arith)
+load-less s p s′ p′ x h g (suc k) l u = split (ℕ-discrete x (suc k)) (λ b. load-less s p s′ p′ x h g k l b)
+  where
+    split : Dec (x ≡ suc k) → (x ≤ k → load s′ p′ k < load s p k) → load s′ p′ k + cost (s′ (suc k)) (p′ (suc k)) < load s p k + cost (s (suc k)) (p (suc k))
+    split (yes e) rest =
+        let here : cost (s′ (suc k)) (p′ (suc k)) < cost (s (suc k)) (p (suc k)) = rw e at g in
+        let below = load-le s p s′ p′ h k in
+        omega arith
+    split (no d) rest =
+        let here = h (suc k) in
+        let below : load s′ p′ k < load s p k = rest (omega arith) in
+        omega arith
+
+-- by cases on: seen, bonded to x, pending, is x, allowed
+cost-le : (s b p e a : Bool) → cost (s || b) (p && not e || b && not s && a) ≤ cost s p
+cost-le true b true true a = shut b a
+  where
+    shut : (b a : Bool) → cost true (b && false && a) ≤ 1
+    shut true a = omega arith
+    shut false a = omega arith
+cost-le true b true false a = omega arith
+cost-le true true false e a = omega arith
+cost-le true false false e a = omega arith
+cost-le false true true true true = omega arith
+cost-le false true true true false = omega arith
+cost-le false true true false a = omega arith
+cost-le false true false e true = omega arith
+cost-le false true false e false = omega arith
+cost-le false false true true a = omega arith
+cost-le false false true false a = omega arith
+cost-le false false false e a = omega arith
+
+cost-less : (s b a : Bool) → cost (s || b) (true && not true || b && not s && a) < cost s true
+cost-less true true a = omega arith
+cost-less true false a = omega arith
+cost-less false true true = omega arith
+cost-less false true false = omega arith
+cost-less false false a = omega arith
+
+pub step-less : (allowed bonded seen pending seen′ pending′ : ℕ → Bool) (x : ℕ) → ((a : ℕ) → seen′ a ≡ (seen a || bonded a))
+    → ((a : ℕ) → pending′ a ≡ (pending a && not (eqb a x) || bonded a && not (seen a) && allowed a)) → pending x ≡ true → 1 ≤ x → x ≤ 128 → load seen′ pending′ 128 < load seen pending 128
+step-less allowed bonded seen pending seen′ pending′ x seen-is pending-is taken l h =
+    load-less seen pending seen′ pending′ x (λ a. rw (seen-is a, pending-is a) (cost-le (seen a) (bonded a) (pending a) (eqb a x) (allowed a)))
+    (rw (seen-is x, pending-is x, taken, eq-eqb x x refl) (cost-less (seen x) (bonded x) (allowed x))) 128 l h
