@@ -59,7 +59,7 @@ sound-of-bytes rows n e i j hi hj set =
     let m = implies-elim (bit (getD rows (16 * i + j / 8) 0) (j % 8)) (mirrored rows n ((16 * i + j / 8) / 16) ((16 * i + j / 8) % 16 * 8 + j % 8)) here set in
     mirror-of rows n i j (rw (row, column) at m)
 
-bytes-of-sound : (rows : List ℕ) (n : ℕ) → Sound rows n → rowsSound rows n ≡ true
+pub bytes-of-sound : (rows : List ℕ) (n : ℕ) → Sound rows n → rowsSound rows n ≡ true
 unfolding Sound rowsSound byteSound bitSound cell
 bytes-of-sound rows n sound =
     allBelow-of 2048 (byteSound rows n) (λ at place. allBelow-of 8 (bitSound rows n at) (λ k offset. here at k place offset))

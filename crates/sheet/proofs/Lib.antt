@@ -1,6 +1,8 @@
+pub mod Accepted
 pub mod Answers
 pub mod Bits
 pub mod Cells
+pub mod Complete
 pub mod Lines
 pub mod Same
 pub mod Stored

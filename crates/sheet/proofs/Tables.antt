@@ -50,14 +50,14 @@ kept-fewer n bond k m h kept =
     }
 
 -- some of the first k bonds joins a and b
-pub Joins : (ℕ → Bond) → ℕ → ℕ → ℕ → Type 0
+unfoldable pub Joins : (ℕ → Bond) → ℕ → ℕ → ℕ → Type 0
 Joins bond k a b = (q : ℕ) × (q < k) × (samePair (bond q) (a, b) ≡ true)
 
 same-pair-swaps : (x : Bond) (a b : ℕ) → samePair x (a, b) ≡ samePair x (b, a)
 unfolding samePair
 same-pair-swaps x a b = or-comm (eqb (x .0) a && eqb (x .1) b) (eqb (x .0) b && eqb (x .1) a)
 
-joins-swaps : (bond : ℕ → Bond) (k a b : ℕ) → Joins bond k a b → Joins bond k b a
+pub joins-swaps : (bond : ℕ → Bond) (k a b : ℕ) → Joins bond k a b → Joins bond k b a
 unfolding Joins
 joins-swaps bond k a b (q, h, e) = (q, h, sym (same-pair-swaps (bond q) a b) ∙ e)
 

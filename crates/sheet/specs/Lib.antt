@@ -1,3 +1,4 @@
 pub mod Bonds
 pub mod Parts
 pub mod Read
+pub mod Text

@@ -1,0 +1,145 @@
+-- An accepted sheet: every rule is kept, the record satisfies rule 9, and its atoms, bonds and pairs are the sheet's.
+-- From the answer back through the tests, and from the table of its bonds.
+use Prim.Native.Nat.{ℕ, suc, _+_, _-_, _*_, _%_, _≤_, _<_}
+use native.Mathlib.Omega.{arith}
+use mathlib.Core.Path.{_≡_, refl, ap, sym, _∙_}
+use mathlib.Core.Bool.{Bool, true, false, _&&_, _||_, cond}
+use mathlib.Core.List.{List}
+use mathlib.Core.Logic.{_⊎_, inl, inr, ⊎-elim, _↔_}
+use lib.ListN.{length}
+use lib.Dec.{leb, eqb}
+use borrow.Author.Tests.{leb-true, eqb-true, eq-eqb, eqb-false}
+use Rattle.graph.proofs.Below.{apart, either, and-parts}
+use Rattle.refusal.specs.declared.Refusal.{Refusal}
+use Rattle.refusal.specs.declared.Answer.the-variants.{Accepted, Refused}
+use Rattle.molecule.specs.declared.Molecule.{Molecule}
+use Rattle.molecule.specs.Record.{cell, bonded, onesOf, wellFormed}
+use Rattle.molecule.proofs.Rules.{Mirror, Sound, bytes-of-sound, rule-in-range}
+use Rattle.molecule.proofs.Bonds.{bonded-cell, bonded-facts}
+use Rattle.sheet.specs.declared.Sheet.{Sheet}
+use Rattle.sheet.specs.Bonds.{Bond, atomsKept, noneToItself, samePair, noneTwice, rowsOf}
+use Rattle.sheet.specs.Read.{lengthKept, linesKept, atomsOf, bondsOf, bondOf, turnedBack, accepted, readBonds, readSheet}
+use Rattle.sheet.proofs.Tables.{Kept, kept-of, Joins, joins-swaps, Table, tables}
+
+-- a rule that was kept on the way to an accepted sheet
+kept-on : (t : Bool) (x : Sheet) (r : Refusal) → cond t x (turnedBack r) .answer ≡ Accepted → (t ≡ true) × (x .answer ≡ Accepted)
+kept-on true x r e = (refl, e)
+kept-on false x r e = let z : _≡_ {A = ℕ} 0 1 = cc in absurd (omega arith)
+
+-- the rules that an accepted sheet keeps
+pub record Rules (s : List ℕ) : Type 0 where
+  pub length-kept : lengthKept s ≡ true
+  pub lines-kept : linesKept s ≡ true
+  pub few : atomsOf s ≤ 128
+  pub light : bondsOf s ≤ 1024
+  pub size : length s ≡ 9 * suc (bondsOf s)
+  pub atoms-kept : atomsKept (atomsOf s) (bondOf s) (bondsOf s) ≡ true
+  pub none-to-itself : noneToItself (bondOf s) (bondsOf s) ≡ true
+  pub none-twice : noneTwice (bondOf s) (bondsOf s) ≡ true
+  pub reads : readSheet s ≡ accepted (atomsOf s) (bondOf s) (bondsOf s)
+
+pub accepted-rules : (s : List ℕ) → readSheet s .answer ≡ Accepted → Rules s
+unfolding readSheet readBonds
+accepted-rules s e =
+    let r1 = kept-on (lengthKept s) _ _ e in
+    let r2 = kept-on (linesKept s) _ _ (r1 .1) in
+    let r3 = kept-on (leb (atomsOf s) 128) _ _ (r2 .1) in
+    let r4 = kept-on (leb (bondsOf s) 1024) _ _ (r3 .1) in
+    let r5 = kept-on (eqb (length s) (9 * suc (bondsOf s))) _ _ (r4 .1) in
+    let r6 = kept-on (atomsKept (atomsOf s) (bondOf s) (bondsOf s)) _ _ (r5 .1) in
+    let r7 = kept-on (noneToItself (bondOf s) (bondsOf s)) _ _ (r6 .1) in
+    let r8 = kept-on (noneTwice (bondOf s) (bondsOf s)) _ _ (r7 .1) in
+    record {
+      length-kept = r1 .0;
+      lines-kept = r2 .0;
+      few = leb-true (atomsOf s) 128 (r3 .0);
+      light = leb-true (bondsOf s) 1024 (r4 .0);
+      size = eqb-true (length s) (9 * suc (bondsOf s)) (r5 .0);
+      atoms-kept = r6 .0;
+      none-to-itself = r7 .0;
+      none-twice = r8 .0;
+      reads = rw (r1 .0, r2 .0, r3 .0, r4 .0, r5 .0, r6 .0, r7 .0, r8 .0);
+    }
+
+-- two pairs that are the same
+same-pair-cases : (x : Bond) (a b : ℕ) → samePair x (a, b) ≡ true → ((x .0 ≡ a) × (x .1 ≡ b)) ⊎ ((x .0 ≡ b) × (x .1 ≡ a))
+unfolding samePair
+same-pair-cases x a b e = go (either (eqb (x .0) a && eqb (x .1) b))
+  where
+    go : (eqb (x .0) a && eqb (x .1) b ≡ true) ⊎ (eqb (x .0) a && eqb (x .1) b ≡ false) → ((x .0 ≡ a) × (x .1 ≡ b)) ⊎ ((x .0 ≡ b) × (x .1 ≡ a))
+    go (inl t) = let p = and-parts (eqb (x .0) a) (eqb (x .1) b) t in inl (eqb-true (x .0) a (p .0), eqb-true (x .1) b (p .1))
+    go (inr f) = let p = and-parts (eqb (x .0) b) (eqb (x .1) a) (rw f at e) in inr (eqb-true (x .0) b (p .0), eqb-true (x .1) a (p .1))
+
+module _ (n : ℕ) (bond : ℕ → Bond) (m : ℕ) (kept : Kept n bond m) where
+  -- the atoms that a bond joins
+  joined-atoms : (a b : ℕ) → Joins bond m a b → (1 ≤ a) × (a ≤ n) × (1 ≤ b) × (b ≤ n) × (a ≡ b → ⊥)
+  unfolding Joins
+  joined-atoms a b (q, h, e) =
+      let l = kept .left q h in
+      let r = kept .right q h in
+      ⊎-elim
+      (λ (w : (bond q .0 ≡ a) × (bond q .1 ≡ b)). (rw (w .0) at (l .0), rw (w .0) at (l .1), rw (w .1) at (r .0), rw (w .1) at (r .1), λ (d : a ≡ b). kept .apart q h (w .0 ∙ d ∙ sym (w .1))))
+      (λ (w : (bond q .0 ≡ b) × (bond q .1 ≡ a)). (rw (w .1) at (r .0), rw (w .1) at (r .1), rw (w .0) at (l .0), rw (w .0) at (l .1), λ (d : a ≡ b). kept .apart q h (w .0 ∙ sym d ∙ sym (w .1))))
+      (same-pair-cases (bond q) a b e)
+
+  table : Table bond m (rowsOf bond m)
+  table = tables n bond m kept
+
+  sound : Sound (rowsOf bond m) n
+  unfolding Sound
+  sound i j hi hj set =
+      let w = table .cells i j hi hj .0 set in
+      let f = joined-atoms (suc i) (suc j) w in
+      record {
+        row-within = f .1;
+        column-within = f .3;
+        off-diagonal = λ d. f .4 (ap suc d);
+        image = table .cells j i hj hi .1 (joins-swaps bond m (suc i) (suc j) w);
+      }
+
+  -- The pairs that the record has are those that are listed
+  pub record-bonds : (a b : ℕ) → (bonded n (rowsOf bond m) a b ≡ true) ↔ Joins bond m a b
+  record-bonds a b = (there, back)
+    where
+      there : bonded n (rowsOf bond m) a b ≡ true → Joins bond m a b
+      there e =
+          let f = bonded-facts n (rowsOf bond m) a b e in
+          let few = kept .few in
+          let up-a : suc (a - 1) ≡ a = omega arith in
+          let up-b : suc (b - 1) ≡ b = omega arith in
+          rw (up-a, up-b) at (table .cells (a - 1) (b - 1) (omega arith) (omega arith) .0 (f .set))
+
+      back : Joins bond m a b → bonded n (rowsOf bond m) a b ≡ true
+      back w =
+          let f = joined-atoms a b w in
+          let few = kept .few in
+          let up-a : suc (a - 1) ≡ a = omega arith in
+          let up-b : suc (b - 1) ≡ b = omega arith in
+          bonded-cell n (rowsOf bond m) a b (f .0) (f .1) (f .2) (f .3) ∙ table .cells (a - 1) (b - 1) (omega arith) (omega arith) .1 (rw (up-a, up-b) w)
+
+  pub record-well-formed : m ≤ 1024 → noneTwice bond m ≡ true → wellFormed (record { atoms = n; bonds = m; rows = rowsOf bond m }) ≡ true
+  record-well-formed light twice =
+      rule-in-range (record { atoms = n; bonds = m; rows = rowsOf bond m }) (kept .few) light true (bytes-of-sound (rowsOf bond m) n sound)
+      ∙ eq-eqb (onesOf (rowsOf bond m)) (2 * m) (table .ones-count twice)
+
+-- An accepted sheet's record satisfies rule 9
+pub accepted-well-formed : (s : List ℕ) → readSheet s .answer ≡ Accepted → wellFormed (readSheet s .molecule) ≡ true
+accepted-well-formed s e =
+    let r = accepted-rules s e in
+    rw (r .reads) (record-well-formed (atomsOf s) (bondOf s) (bondsOf s) (kept-of (atomsOf s) (bondOf s) (bondsOf s) (r .few) (r .atoms-kept) (r .none-to-itself)) (r .light) (r .none-twice))
+
+-- Its atoms, bonds and pairs are the sheet's
+pub record SameAs (s : List ℕ) (mol : Molecule) : Type 0 where
+  pub atoms : mol .atoms ≡ atomsOf s
+  pub bonds : mol .bonds ≡ bondsOf s
+  pub pairs : (a b : ℕ) → (bonded (mol .atoms) (mol .rows) a b ≡ true) ↔ Joins (bondOf s) (bondsOf s) a b
+
+pub accepted-same : (s : List ℕ) → readSheet s .answer ≡ Accepted → SameAs s (readSheet s .molecule)
+accepted-same s e =
+    let r = accepted-rules s e in
+    rw (r .reads)
+    (record {
+      atoms = refl;
+      bonds = refl;
+      pairs = record-bonds (atomsOf s) (bondOf s) (bondsOf s) (kept-of (atomsOf s) (bondOf s) (bondsOf s) (r .few) (r .atoms-kept) (r .none-to-itself));
+    })
