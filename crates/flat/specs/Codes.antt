@@ -1,0 +1,66 @@
+-- What the test-only boundary returns and writes: the definitions of the entries, as numbers and flat bytes.
+use Prim.Native.Nat.{ℕ, _+_, _-_, _/_, _%_, _^_}
+use mathlib.Core.Bool.{Bool, cond}
+use mathlib.Core.List.{List, [], _∷_, _++_}
+use lib.ListN.{length}
+use lib.Dec.{eqb}
+use Rattle.fields.specs.declared.Number.{Number}
+use Rattle.fields.specs.declared.Number.the-variants.{Value, Bad}
+use Rattle.fields.specs.Field.{readField}
+use Rattle.refusal.specs.declared.Answer.{Answer}
+use Rattle.refusal.specs.declared.Answer.the-variants.{Accepted, Refused}
+use Rattle.refusal.specs.Number.{numberOf}
+use Rattle.molecule.specs.declared.Molecule.{Molecule}
+use Rattle.molecule.specs.Record.{wellFormed}
+use Rattle.judge.specs.declared.Verdict.{Verdict}
+use Rattle.judge.specs.declared.Verdict.the-variants as verdict
+use Rattle.judge.specs.Verdict.{judgeRing, judgePath}
+use Rattle.sheet.specs.Read.{readSheet}
+
+-- a buffer or rows of the wrong length
+abbrev pub wrongLength : ℕ
+wrongLength = 200
+
+abbrev pub answerCode : Answer → ℕ
+answerCode Accepted = 0
+answerCode (Refused r) = numberOf r
+
+abbrev pub verdictCode : Verdict → ℕ
+verdictCode verdict.Yes = 1
+verdictCode verdict.No = 0
+verdictCode (verdict.Refused r) = numberOf r
+
+abbrev pub fieldCode : Number → ℕ
+fieldCode (Value v) = v
+fieldCode Bad = 2 ^ 64 - 1
+
+abbrev pub molecule : ℕ → ℕ → List ℕ → Molecule
+molecule atoms bonds rows = record { atoms = atoms; bonds = bonds; rows = rows }
+
+-- atoms and bonds, low byte first
+unfoldable pub headBytes : ℕ → ℕ → List ℕ
+headBytes atoms bonds = atoms % 256 ∷ atoms / 256 % 256 ∷ bonds % 256 ∷ bonds / 256 % 256 ∷ []
+
+-- a record as bytes: atoms and bonds, then the rows
+unfoldable pub flatBytes : Molecule → List ℕ
+flatBytes mol = headBytes (mol .atoms) (mol .bonds) ++ mol .rows
+
+unfoldable pub readCode : List ℕ → List ℕ → ℕ
+readCode sheet out = cond (eqb (length out) 2052) (answerCode (readSheet sheet .answer)) wrongLength
+
+-- the record's bytes where the sheet is accepted; nothing changes otherwise
+abbrev pub writtenBy : Answer → Molecule → List ℕ → List ℕ
+writtenBy Accepted mol out = flatBytes mol
+writtenBy (Refused r) mol out = out
+
+unfoldable pub readOutput : List ℕ → List ℕ → List ℕ
+readOutput sheet out = cond (eqb (length out) 2052) (writtenBy (readSheet sheet .answer) (readSheet sheet .molecule) out) out
+
+unfoldable pub checkCode : ℕ → ℕ → List ℕ → ℕ
+checkCode atoms bonds rows = cond (eqb (length rows) 2048) (cond (wellFormed (molecule atoms bonds rows)) 0 9) wrongLength
+
+unfoldable pub ringCode : ℕ → ℕ → List ℕ → List ℕ → ℕ
+ringCode atoms bonds rows list = cond (eqb (length rows) 2048) (verdictCode (judgeRing (molecule atoms bonds rows) list)) wrongLength
+
+unfoldable pub pathCode : ℕ → ℕ → List ℕ → ℕ → ℕ → List ℕ → ℕ
+pathCode atoms bonds rows s t list = cond (eqb (length rows) 2048) (verdictCode (judgePath (molecule atoms bonds rows) s t list)) wrongLength

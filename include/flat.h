@@ -1,0 +1,49 @@
+/* include/flat.h: test-only boundary. */
+#ifndef FLAT_H
+#define FLAT_H
+
+#include <stddef.h>
+#include <stdint.h>
+
+#ifdef __cplusplus
+extern "C" {
+#endif
+
+/* Reads a bond sheet. `record` is 2,052 bytes: atoms and bonds as 2 bytes
+   each, low byte first, then 2,048 bytes of rows. Returns 0 (accepted, record
+   written) or the refusal 1 to 8 (record unchanged); 200 when record_len is
+   not 2,052 (nothing written, nothing read). */
+uint32_t flat_read_sheet(const uint8_t *sheet, size_t sheet_len,
+                         uint8_t *record, size_t record_len);
+
+/* Checks a molecule record given as its parts. 0: it follows the rules;
+   9: it breaks one; 200: rows_len is not 2,048. */
+uint32_t flat_check_record(uint64_t atoms, uint64_t bonds,
+                           const uint8_t *rows, size_t rows_len);
+
+/* Judge an atom list, one byte an atom. 1 yes, 0 no, 9 (10, 11 for a path)
+   refused, 200 rows_len is not 2,048. */
+uint32_t flat_judge_ring(uint64_t atoms, uint64_t bonds,
+                         const uint8_t *rows, size_t rows_len,
+                         const uint8_t *list, size_t list_len);
+uint32_t flat_judge_path(uint64_t atoms, uint64_t bonds,
+                         const uint8_t *rows, size_t rows_len,
+                         uint64_t s, uint64_t t,
+                         const uint8_t *list, size_t list_len);
+
+/* Reads a number field of any width: its value (at most
+   9,999,999,999,999,999,999), or UINT64_MAX when the bytes are no number field
+   (blanks, then digits, right-justified, no leading zero, at least one digit)
+   or the value is above that limit. */
+uint64_t flat_read_field(const uint8_t *field, size_t field_len);
+
+/* Writes value right-justified into the whole field, blanks in front; a value
+   with more digits than columns keeps its lowest digits (then with zeros where
+   those digits are zero). */
+void flat_write_field(uint8_t *field, size_t field_len, uint64_t value);
+
+#ifdef __cplusplus
+}
+#endif
+
+#endif

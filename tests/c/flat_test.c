@@ -1,0 +1,464 @@
+/* Hand-worked cases for the library behind include/flat.h. */
+#include "flat.h"
+
+#include <inttypes.h>
+#include <stdio.h>
+#include <stdlib.h>
+#include <string.h>
+
+#define ROWS 2048
+#define RECORD (4 + ROWS)
+#define PATTERN 0xA5
+
+static unsigned checks;
+static unsigned failures;
+
+static void check(int holds, int line, const char *what) {
+    checks++;
+    if (!holds) {
+        failures++;
+        printf("flat_test.c:%d: failed: %s\n", line, what);
+    }
+}
+
+static void check_number(uint64_t got, uint64_t expected, int line, const char *what) {
+    check(got == expected, line, what);
+    if (got != expected) {
+        printf("    got %" PRIu64 ", expected %" PRIu64 "\n", got, expected);
+    }
+}
+
+#define CHECK(holds) check((holds), __LINE__, #holds)
+#define EQUAL(got, expected) check_number((got), (expected), __LINE__, #got)
+
+static int all_are(const uint8_t *bytes, size_t len, uint8_t value) {
+    for (size_t i = 0; i < len; i++) {
+        if (bytes[i] != value) {
+            return 0;
+        }
+    }
+    return 1;
+}
+
+/* Inputs are handed over in memory of exactly their length, so that valgrind
+   sees a read past the end. */
+static uint8_t *exact(const void *bytes, size_t len) {
+    uint8_t *copy = malloc(len);
+    if (copy == NULL && len != 0) {
+        abort();
+    }
+    if (len != 0) {
+        memcpy(copy, bytes, len);
+    }
+    return copy;
+}
+
+/* The document's sheet: 4 atoms, 5 bonds. */
+static const char document[] =
+    "   4   5\n"
+    "   1   2\n"
+    "   2   3\n"
+    "   3   4\n"
+    "   1   4\n"
+    "   1   3\n";
+
+/* Its rows. Atom b is bit b - 1 of the first byte of a row, as all atoms are
+   at most 8; row a begins at byte 16 * (a - 1).
+     atom 1 is bonded to 2, 3, 4: bits 1, 2, 3: 2 + 4 + 8 = 0x0E
+     atom 2 is bonded to 1, 3:    bits 0, 2:    1 + 4     = 0x05
+     atom 3 is bonded to 1, 2, 4: bits 0, 1, 3: 1 + 2 + 8 = 0x0B
+     atom 4 is bonded to 1, 3:    bits 0, 2:    1 + 4     = 0x05
+   The one bits number 3 + 2 + 3 + 2 = 10 = 2 * 5. */
+static void document_rows(uint8_t rows[ROWS]) {
+    memset(rows, 0, ROWS);
+    rows[0] = 0x0E;
+    rows[16] = 0x05;
+    rows[32] = 0x0B;
+    rows[48] = 0x05;
+}
+
+/* Reads a sheet into a record filled with a pattern. */
+static uint32_t read_sheet(const char *sheet, size_t len, uint8_t record[RECORD]) {
+    uint8_t *given = exact(sheet, len);
+    uint8_t *output = malloc(RECORD);
+    if (output == NULL) {
+        abort();
+    }
+    memset(output, PATTERN, RECORD);
+    uint32_t answer = flat_read_sheet(given, len, output, RECORD);
+    memcpy(record, output, RECORD);
+    free(output);
+    free(given);
+    return answer;
+}
+
+/* A sheet, its answer, and the record left alone. */
+static void refused(const char *sheet, size_t len, uint32_t rule, int line) {
+    uint8_t record[RECORD];
+    check_number(read_sheet(sheet, len, record), rule, line, "answer of the reader");
+    check(all_are(record, RECORD, PATTERN), line, "record unchanged");
+}
+
+#define REFUSED(sheet, rule) refused((sheet), sizeof(sheet) - 1, (rule), __LINE__)
+
+static void sheets(void) {
+    uint8_t record[RECORD];
+    uint8_t expected[RECORD];
+
+    /* 4 atoms and 5 bonds, low byte first, then the rows. */
+    expected[0] = 4;
+    expected[1] = 0;
+    expected[2] = 5;
+    expected[3] = 0;
+    document_rows(expected + 4);
+    EQUAL(read_sheet(document, sizeof document - 1, record), 0);
+    CHECK(memcmp(record, expected, RECORD) == 0);
+
+    /* No atoms: all bytes 0. */
+    EQUAL(read_sheet("   0   0\n", 9, record), 0);
+    CHECK(all_are(record, RECORD, 0));
+
+    /* 128 atoms, the bonds 128-1 and 9-128.
+         atom 1 is bonded to 128: bit 127 of row 1: byte 15, bit 7: 0x80
+         atom 9 is bonded to 128: row 9 begins at 16 * 8 = 128; byte 143: 0x80
+         atom 128 is bonded to 1 and 9: row 128 begins at 16 * 127 = 2032;
+         byte 2032, bit 0: 0x01; byte 2033, bit 0: 0x01 */
+    memset(expected, 0, RECORD);
+    expected[0] = 128;
+    expected[2] = 2;
+    expected[4 + 15] = 0x80;
+    expected[4 + 143] = 0x80;
+    expected[4 + 2032] = 0x01;
+    expected[4 + 2033] = 0x01;
+    EQUAL(read_sheet(" 128   2\n 128   1\n   9 128\n", 27, record), 0);
+    CHECK(memcmp(record, expected, RECORD) == 0);
+
+    /* 1,024 bonds are 0x0400: byte 2 is 0, byte 3 is 4. They join each of
+       atoms 1 to 16 to each of atoms 17 to 80, so that rows 1 to 16 have bytes
+       2 to 9 full, and rows 17 to 80 have bytes 0 and 1 full. */
+    static char full[9 * 1025 + 1];
+    int at = sprintf(full, "%4d%4d\n", 80, 1024);
+    for (int a = 1; a <= 16; a++) {
+        for (int b = 17; b <= 80; b++) {
+            at += sprintf(full + at, "%4d%4d\n", a, b);
+        }
+    }
+    CHECK(at == 9 * 1025);
+    memset(expected, 0, RECORD);
+    expected[0] = 80;
+    expected[3] = 4;
+    for (int a = 1; a <= 80; a++) {
+        uint8_t *row = expected + 4 + 16 * (a - 1);
+        if (a <= 16) {
+            memset(row + 2, 0xFF, 8);
+        } else {
+            memset(row, 0xFF, 2);
+        }
+    }
+    EQUAL(read_sheet(full, 9 * 1025, record), 0);
+    CHECK(memcmp(record, expected, RECORD) == 0);
+    /* The same with the last line left out, and with its two fields equal. */
+    refused(full, 9 * 1024, 5, __LINE__);
+    memcpy(full + 9 * 1024, "  80  80\n", 9);
+    refused(full, 9 * 1025, 7, __LINE__);
+    memcpy(full + 9 * 1024, "  17   1\n", 9);
+    refused(full, 9 * 1025, 8, __LINE__);
+
+    /* 1: shorter than 9 bytes, or not a multiple of 9. */
+    REFUSED("", 1);
+    REFUSED("   0   0", 1);
+    REFUSED("   0   0\n\n", 1);
+    REFUSED("   0   0\r\n", 1);
+    /* 2: a field or a line end has the wrong bytes. */
+    REFUSED("   0    \n", 2);
+    REFUSED("0000   0\n", 2);
+    REFUSED("  04   0\n", 2);
+    REFUSED("4      0\n", 2);
+    REFUSED(" 4     0\n", 2);
+    REFUSED(" 1 2   0\n", 2);
+    REFUSED("  -1   0\n", 2);
+    REFUSED("\t  4   0\n", 2);
+    REFUSED("   4\0\0\0" "0\n", 2);
+    REFUSED("   4   0\r", 2);
+    REFUSED("   4   1\n   1   2 ", 2);
+    REFUSED("   /   0\n", 2);
+    REFUSED("   :   0\n", 2);
+    /* 3: n is above 128. */
+    REFUSED(" 129   0\n", 3);
+    REFUSED("9999   0\n", 3);
+    /* 4: m is above 1,024. */
+    REFUSED(" 1281025\n", 4);
+    REFUSED("   09999\n", 4);
+    /* 5: not 9 * (m + 1) bytes. */
+    REFUSED("   4   1\n", 5);
+    REFUSED("   4   0\n   1   2\n", 5);
+    REFUSED("   41024\n   1   2\n", 5);
+    /* 6: atom 0, or an atom above n. */
+    REFUSED("   4   1\n   0   2\n", 6);
+    REFUSED("   4   1\n   2   0\n", 6);
+    REFUSED("   4   1\n   5   2\n", 6);
+    REFUSED("   4   1\n   2   5\n", 6);
+    REFUSED("   0   1\n   1   2\n", 6);
+    /* 7: an atom bonded to itself. */
+    REFUSED("   4   1\n   3   3\n", 7);
+    /* 8: the same bond twice, in either order. */
+    REFUSED("   4   2\n   1   2\n   1   2\n", 8);
+    REFUSED("   4   2\n   1   2\n   2   1\n", 8);
+
+    /* The order of the rules: each over the whole sheet before the next. */
+    REFUSED("  04   0\n\n", 1);
+    REFUSED(" 1299999\n   1   x\n", 2);
+    REFUSED(" 1291025\n", 3);
+    REFUSED("   41025\n   1   1\n", 4);
+    REFUSED("   4   1\n   0   0\n   1   1\n", 5);
+    REFUSED("   4   3\n   1   2\n   1   1\n   0   2\n", 6);
+    REFUSED("   4   1\n   0   0\n", 6);
+    REFUSED("   4   3\n   1   2\n   2   1\n   3   3\n", 7);
+    REFUSED("   4   2\n   3   3\n   3   3\n", 7);
+
+    /* A record of a wrong length is left alone. */
+    uint8_t longer[RECORD + 1];
+    uint8_t *sheet = exact(document, sizeof document - 1);
+    memset(longer, PATTERN, sizeof longer);
+    EQUAL(flat_read_sheet(sheet, sizeof document - 1, longer, RECORD + 1), 200);
+    EQUAL(flat_read_sheet(sheet, sizeof document - 1, longer, RECORD - 1), 200);
+    EQUAL(flat_read_sheet(sheet, sizeof document - 1, longer, 0), 200);
+    EQUAL(flat_read_sheet(sheet, 0, longer, ROWS), 200);
+    CHECK(all_are(longer, sizeof longer, PATTERN));
+    free(sheet);
+}
+
+static void records(void) {
+    uint8_t rows[ROWS];
+    document_rows(rows);
+    EQUAL(flat_check_record(4, 5, rows, ROWS), 0);
+    /* Atoms without bonds may follow. */
+    EQUAL(flat_check_record(5, 5, rows, ROWS), 0);
+    EQUAL(flat_check_record(128, 5, rows, ROWS), 0);
+    /* n out of range, or below an atom that has bonds. */
+    EQUAL(flat_check_record(129, 5, rows, ROWS), 9);
+    EQUAL(flat_check_record(UINT64_MAX, 5, rows, ROWS), 9);
+    EQUAL(flat_check_record((UINT64_C(1) << 32) + 4, 5, rows, ROWS), 9);
+    EQUAL(flat_check_record(3, 5, rows, ROWS), 9);
+    EQUAL(flat_check_record(0, 5, rows, ROWS), 9);
+    /* m is not half the one bits, if only in its high bits. */
+    EQUAL(flat_check_record(4, 4, rows, ROWS), 9);
+    EQUAL(flat_check_record(4, 6, rows, ROWS), 9);
+    EQUAL(flat_check_record(4, (UINT64_C(1) << 63) + 5, rows, ROWS), 9);
+    EQUAL(flat_check_record(4, UINT64_MAX, rows, ROWS), 9);
+    /* The bond 2-4 on one side only, then on both. */
+    rows[16] |= 0x08;
+    EQUAL(flat_check_record(4, 5, rows, ROWS), 9);
+    EQUAL(flat_check_record(4, 6, rows, ROWS), 9);
+    rows[48] |= 0x02;
+    EQUAL(flat_check_record(4, 5, rows, ROWS), 9);
+    EQUAL(flat_check_record(4, 6, rows, ROWS), 0);
+    /* The bit of 2 in row 1 moved to the bit of 4 in row 2: 10 one bits. */
+    document_rows(rows);
+    rows[0] = 0x0C;
+    rows[16] |= 0x08;
+    EQUAL(flat_check_record(4, 5, rows, ROWS), 9);
+    /* A bit in row 5, beyond n. */
+    document_rows(rows);
+    rows[64] = 0x01;
+    EQUAL(flat_check_record(4, 5, rows, ROWS), 9);
+    /* Atoms 1 and 2 bonded to themselves: 10 + 2 one bits. */
+    document_rows(rows);
+    rows[0] |= 0x01;
+    rows[16] |= 0x02;
+    EQUAL(flat_check_record(4, 6, rows, ROWS), 9);
+    /* The bond 1-128: row 1, bit 127; row 128, bit 0. */
+    document_rows(rows);
+    rows[15] = 0x80;
+    rows[2032] = 0x01;
+    EQUAL(flat_check_record(128, 6, rows, ROWS), 0);
+    EQUAL(flat_check_record(127, 6, rows, ROWS), 9);
+    /* Rows 1 to 45 all bonded: 45 * 44 / 2 = 990 bonds. Atom 46 bonded to 34
+       of them makes 1,024, to 35 of them 1,025. */
+    memset(rows, 0, ROWS);
+    for (int a = 1; a <= 45; a++) {
+        for (int b = 1; b <= 45; b++) {
+            if (a != b) {
+                rows[16 * (a - 1) + (b - 1) / 8] |= (uint8_t)(1 << (b - 1) % 8);
+            }
+        }
+    }
+    EQUAL(flat_check_record(45, 990, rows, ROWS), 0);
+    for (int a = 1; a <= 35; a++) {
+        rows[16 * (a - 1) + 45 / 8] |= 1 << 45 % 8;
+        rows[16 * 45 + (a - 1) / 8] |= (uint8_t)(1 << (a - 1) % 8);
+        if (a == 34) {
+            EQUAL(flat_check_record(46, 1024, rows, ROWS), 0);
+        }
+    }
+    EQUAL(flat_check_record(46, 1025, rows, ROWS), 9);
+    /* No bonds. */
+    memset(rows, 0, ROWS);
+    EQUAL(flat_check_record(0, 0, rows, ROWS), 0);
+    EQUAL(flat_check_record(128, 0, rows, ROWS), 0);
+    EQUAL(flat_check_record(128, 1, rows, ROWS), 9);
+    EQUAL(flat_check_record(128, UINT64_C(1) << 63, rows, ROWS), 9);
+    /* Rows of a wrong length. */
+    EQUAL(flat_check_record(0, 0, rows, ROWS - 1), 200);
+    EQUAL(flat_check_record(129, 0, rows, 0), 200);
+    uint8_t longer[ROWS + 1] = {0};
+    EQUAL(flat_check_record(0, 0, longer, ROWS + 1), 200);
+}
+
+static uint8_t rows[ROWS];
+
+static uint32_t ring(const char *list, size_t len) {
+    uint8_t *given = exact(list, len);
+    uint32_t answer = flat_judge_ring(4, 5, rows, ROWS, given, len);
+    free(given);
+    return answer;
+}
+
+static uint32_t path(uint64_t s, uint64_t t, const char *list, size_t len) {
+    uint8_t *given = exact(list, len);
+    uint32_t answer = flat_judge_path(4, 5, rows, ROWS, s, t, given, len);
+    free(given);
+    return answer;
+}
+
+/* A list is written as a string of its atoms in octal. */
+#define RING(list) ring((list), sizeof(list) - 1)
+#define PATH(s, t, list) path((s), (t), (list), sizeof(list) - 1)
+
+static void judge(void) {
+    document_rows(rows);
+    EQUAL(RING("\1\2\3"), 1);
+    EQUAL(RING("\1\3\4"), 1);
+    /* The chord 1-3. */
+    EQUAL(RING("\1\2\3\4"), 0);
+    /* The second atom is above the last. */
+    EQUAL(RING("\1\4\3"), 0);
+    EQUAL(RING("\1\3\2"), 0);
+    /* The first atom is not the lowest. */
+    EQUAL(RING("\3\1\2"), 0);
+    EQUAL(RING("\2\1\3"), 0);
+    /* 2-4 is no bond. */
+    EQUAL(RING("\1\2\4"), 0);
+    EQUAL(RING("\2\3\4"), 0);
+    /* Too few atoms, an atom twice, atom 0, atoms above n. */
+    EQUAL(RING(""), 0);
+    EQUAL(RING("\1"), 0);
+    EQUAL(RING("\1\2"), 0);
+    EQUAL(RING("\1\2\1"), 0);
+    EQUAL(RING("\1\2\1\4"), 0);
+    EQUAL(RING("\1\2\3\3"), 0);
+    EQUAL(RING("\0\1\2"), 0);
+    EQUAL(RING("\1\2\0"), 0);
+    EQUAL(RING("\1\2\5"), 0);
+    EQUAL(RING("\1\2\203"), 0);
+    EQUAL(RING("\1\2\377"), 0);
+
+    EQUAL(PATH(2, 4, "\2\1\4"), 1);
+    EQUAL(PATH(2, 4, "\2\3\4"), 1);
+    EQUAL(PATH(4, 2, "\4\3\2"), 1);
+    EQUAL(PATH(1, 3, "\1\3"), 1);
+    EQUAL(PATH(3, 1, "\3\1"), 1);
+    /* 2 and 3 are bonded, and so are 1 and 4. */
+    EQUAL(PATH(2, 4, "\2\1\3\4"), 0);
+    EQUAL(PATH(1, 3, "\1\2\3"), 0);
+    /* Other ends. */
+    EQUAL(PATH(2, 4, "\4\1\2"), 0);
+    EQUAL(PATH(2, 4, "\2\1"), 0);
+    EQUAL(PATH(2, 4, "\1\4"), 0);
+    EQUAL(PATH(2, 4, "\2\4"), 0);
+    EQUAL(PATH(2, 4, "\2"), 0);
+    EQUAL(PATH(2, 4, ""), 0);
+    EQUAL(PATH(2, 4, "\2\0\4"), 0);
+    EQUAL(PATH(2, 4, "\2\5\4"), 0);
+    EQUAL(PATH(2, 4, "\2\1\2\1\4"), 0);
+    /* 10 before 11, and both before the list. */
+    EQUAL(PATH(0, 4, "\2\1\4"), 10);
+    EQUAL(PATH(2, 0, "\2\1\4"), 10);
+    EQUAL(PATH(5, 4, "\2\1\4"), 10);
+    EQUAL(PATH(2, 5, "\2\1\4"), 10);
+    EQUAL(PATH(258, 4, "\2\1\4"), 10);
+    EQUAL(PATH(2, UINT64_MAX, "\2\1\4"), 10);
+    EQUAL(PATH(0, 0, ""), 10);
+    EQUAL(PATH(5, 5, "\5"), 10);
+    EQUAL(PATH(2, 2, "\2"), 11);
+
+    /* 9 before all that: the bond 1-2 has lost one of its bits. */
+    rows[0] = 0x0C;
+    EQUAL(RING("\1\3\4"), 9);
+    EQUAL(RING(""), 9);
+    EQUAL(PATH(2, 4, "\2\3\4"), 9);
+    EQUAL(PATH(0, 4, "\2\3\4"), 9);
+    EQUAL(PATH(2, 2, "\2"), 9);
+    /* And a wrong length before 9. */
+    EQUAL(flat_judge_ring(4, 5, rows, ROWS - 1, rows, 0), 200);
+    EQUAL(flat_judge_path(4, 5, rows, ROWS - 1, 0, 0, rows, 0), 200);
+}
+
+static uint64_t read_field(const char *field, size_t len) {
+    uint8_t *given = exact(field, len);
+    uint64_t value = flat_read_field(given, len);
+    free(given);
+    return value;
+}
+
+#define READ(field) read_field((field), sizeof(field) - 1)
+
+/* Writes a value into a field with a byte on either side. */
+static int writes(uint64_t value, const char *expected) {
+    uint8_t bytes[32];
+    size_t len = strlen(expected);
+    memset(bytes, PATTERN, sizeof bytes);
+    flat_write_field(bytes + 1, len, value);
+    return bytes[0] == PATTERN && memcmp(bytes + 1, expected, len) == 0 &&
+           all_are(bytes + 1 + len, sizeof bytes - 1 - len, PATTERN);
+}
+
+static void fields(void) {
+    EQUAL(READ("   0"), 0);
+    EQUAL(READ("   7"), 7);
+    EQUAL(READ("  10"), 10);
+    EQUAL(READ(" 128"), 128);
+    EQUAL(READ("9999"), 9999);
+    EQUAL(READ("5"), 5);
+    EQUAL(READ("                   0"), 0);
+    EQUAL(READ(" 9999999999999999999"), UINT64_C(9999999999999999999));
+    EQUAL(READ("9999999999999999999"), UINT64_C(9999999999999999999));
+    /* One above the limit, and 2 to the 64th plus one. */
+    EQUAL(READ("10000000000000000000"), UINT64_MAX);
+    EQUAL(READ("18446744073709551617"), UINT64_MAX);
+    /* No fields. */
+    EQUAL(READ(""), UINT64_MAX);
+    EQUAL(READ("    "), UINT64_MAX);
+    EQUAL(READ("0012"), UINT64_MAX);
+    EQUAL(READ("  00"), UINT64_MAX);
+    EQUAL(READ("12  "), UINT64_MAX);
+    EQUAL(READ("1 2 "), UINT64_MAX);
+    EQUAL(READ(" 1 2"), UINT64_MAX);
+    EQUAL(READ("\t\t\t1"), UINT64_MAX);
+    EQUAL(READ("\0\0\0001"), UINT64_MAX);
+    EQUAL(READ("   /"), UINT64_MAX);
+    EQUAL(READ("   :"), UINT64_MAX);
+    EQUAL(READ("  +1"), UINT64_MAX);
+
+    CHECK(writes(0, "   0"));
+    CHECK(writes(7, "   7"));
+    CHECK(writes(10, "  10"));
+    CHECK(writes(9999, "9999"));
+    CHECK(writes(0, "0"));
+    CHECK(writes(7, ""));
+    CHECK(writes(UINT64_C(9999999999999999999), " 9999999999999999999"));
+    CHECK(writes(UINT64_MAX, "18446744073709551615"));
+    /* More digits than columns. */
+    CHECK(writes(12345, "2345"));
+    CHECK(writes(10020, "0020"));
+    CHECK(writes(10000, "0000"));
+}
+
+int main(void) {
+    sheets();
+    records();
+    judge();
+    fields();
+    printf("C test: %u checks, %u failed\n", checks, failures);
+    return failures == 0 ? 0 : 1;
+}

@@ -1,0 +1,21 @@
+//! Links the static library: from the folder FLAT_LIB_DIR names, or from
+//! target/staticlib at the root of the repository.
+
+use std::env;
+use std::path::PathBuf;
+
+fn main() {
+    let folder = match env::var_os("FLAT_LIB_DIR") {
+        Some(folder) => PathBuf::from(folder),
+        None => PathBuf::from(env::var_os("CARGO_MANIFEST_DIR").expect("set by cargo"))
+            .join("../../target/staticlib"),
+    };
+    println!("cargo:rustc-link-search=native={}", folder.display());
+    println!("cargo:rustc-link-lib=static=flat");
+    println!("cargo:rerun-if-env-changed=FLAT_LIB_DIR");
+    println!(
+        "cargo:rerun-if-changed={}",
+        folder.join("libflat.a").display()
+    );
+    println!("cargo:rerun-if-changed=build.rs");
+}

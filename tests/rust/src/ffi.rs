@@ -1,0 +1,98 @@
+//! The library: declarations as in `include/flat.h`, and safe wrappers.
+
+mod c {
+    extern "C" {
+        pub fn flat_read_sheet(
+            sheet: *const u8,
+            sheet_len: usize,
+            record: *mut u8,
+            record_len: usize,
+        ) -> u32;
+        pub fn flat_check_record(atoms: u64, bonds: u64, rows: *const u8, rows_len: usize) -> u32;
+        pub fn flat_judge_ring(
+            atoms: u64,
+            bonds: u64,
+            rows: *const u8,
+            rows_len: usize,
+            list: *const u8,
+            list_len: usize,
+        ) -> u32;
+        pub fn flat_judge_path(
+            atoms: u64,
+            bonds: u64,
+            rows: *const u8,
+            rows_len: usize,
+            s: u64,
+            t: u64,
+            list: *const u8,
+            list_len: usize,
+        ) -> u32;
+        pub fn flat_read_field(field: *const u8, field_len: usize) -> u64;
+        pub fn flat_write_field(field: *mut u8, field_len: usize, value: u64);
+    }
+}
+
+/// The answer to rows or a record of the wrong length.
+pub const WRONG_LENGTH: u32 = 200;
+
+/// The answer of [`read_field`] to bytes that are no number field.
+pub const NO_FIELD: u64 = u64::MAX;
+
+pub fn read_sheet(sheet: &[u8], record: &mut [u8]) -> u32 {
+    // SAFETY: both pointers come with the lengths of live slices, and only
+    // the second, borrowed mutably, is written.
+    unsafe {
+        c::flat_read_sheet(
+            sheet.as_ptr(),
+            sheet.len(),
+            record.as_mut_ptr(),
+            record.len(),
+        )
+    }
+}
+
+pub fn check_record(atoms: u64, bonds: u64, rows: &[u8]) -> u32 {
+    // SAFETY: the pointer comes with the length of a live slice, only read.
+    unsafe { c::flat_check_record(atoms, bonds, rows.as_ptr(), rows.len()) }
+}
+
+pub fn judge_ring(atoms: u64, bonds: u64, rows: &[u8], list: &[u8]) -> u32 {
+    // SAFETY: both pointers come with the lengths of live slices, only read.
+    unsafe {
+        c::flat_judge_ring(
+            atoms,
+            bonds,
+            rows.as_ptr(),
+            rows.len(),
+            list.as_ptr(),
+            list.len(),
+        )
+    }
+}
+
+pub fn judge_path(atoms: u64, bonds: u64, rows: &[u8], s: u64, t: u64, list: &[u8]) -> u32 {
+    // SAFETY: both pointers come with the lengths of live slices, only read.
+    unsafe {
+        c::flat_judge_path(
+            atoms,
+            bonds,
+            rows.as_ptr(),
+            rows.len(),
+            s,
+            t,
+            list.as_ptr(),
+            list.len(),
+        )
+    }
+}
+
+pub fn read_field(field: &[u8]) -> u64 {
+    // SAFETY: the pointer comes with the length of a live slice, only read.
+    unsafe { c::flat_read_field(field.as_ptr(), field.len()) }
+}
+
+pub fn write_field(field: &mut [u8], value: u64) {
+    // SAFETY: the pointer comes with the length of a live slice that is
+    // borrowed mutably.
+    unsafe { c::flat_write_field(field.as_mut_ptr(), field.len(), value) }
+}

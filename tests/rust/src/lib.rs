@@ -1,0 +1,25 @@
+//! Tests of the library behind `include/flat.h` against a model written from
+//! the scope document alone.
+
+pub mod ffi;
+pub mod generate;
+pub mod guard;
+pub mod model;
+pub mod rng;
+
+/// The divisor FLAT_SAMPLE (1 when unset), for slow runs such as under valgrind.
+pub fn sample() -> u64 {
+    match std::env::var("FLAT_SAMPLE") {
+        Ok(text) => text
+            .parse()
+            .ok()
+            .filter(|&divisor| divisor > 0)
+            .expect("FLAT_SAMPLE is a whole number above 0"),
+        Err(_) => 1,
+    }
+}
+
+/// A number of cases, or a least count, divided by FLAT_SAMPLE but never 0.
+pub fn sampled(count: u64) -> u64 {
+    (count / sample()).max(1)
+}

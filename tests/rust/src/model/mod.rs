@@ -1,0 +1,21 @@
+//! The model: the rules of the scope document in plain Rust. It shares
+//! nothing with the library.
+
+pub mod field;
+pub mod judge;
+pub mod record;
+pub mod search;
+pub mod sheet;
+
+pub use record::Record;
+
+/// The highest number of atoms.
+pub const MAX_ATOMS: u64 = 128;
+/// The highest number of bonds.
+pub const MAX_BONDS: u64 = 1024;
+/// Bytes of one row.
+pub const ROW: usize = 16;
+/// Bytes of all rows.
+pub const ROWS: usize = 2048;
+/// Bytes of a record: atoms, bonds, rows.
+pub const RECORD: usize = 4 + ROWS;
