@@ -11,17 +11,19 @@ if [ ! -f "$library" ]; then
     exit 1
 fi
 
-if ! command -v valgrind >/dev/null; then
+# need COMMAND PACKAGE: installs the package where the command is missing
+need() {
+    command -v "$1" >/dev/null && return
     if [ "$(id -u)" = 0 ] && command -v apt-get >/dev/null; then
-        echo "== valgrind is missing: installing it"
+        echo "== $1 is missing: installing $2"
         apt-get update -q >/dev/null || true
-        apt-get install -y -q valgrind >/dev/null || true
+        apt-get install -y -q "$2" >/dev/null || true
     fi
-    if ! command -v valgrind >/dev/null; then
-        echo "run_tests.sh: valgrind is missing and could not be installed" >&2
-        exit 1
-    fi
-fi
+    command -v "$1" >/dev/null || { echo "run_tests.sh: $1 is missing and could not be installed" >&2; exit 1; }
+}
+need cc gcc
+need cargo cargo
+need valgrind valgrind
 checker="valgrind --error-exitcode=9 -q"
 
 out=$root/target/tests

@@ -1,16 +1,14 @@
+-- A number written right-justified into the whole slice.
+-- Invariant: the columns still to write, followed by those written, are the field's text.
 use Prim.Native.Nat.{suc, _+_, _-_, _%_, _≤_}
-use mathlib.Core.Path.{_≡_, refl, sym, _∙_}
+use mathlib.Core.Path.{_≡_, refl, _∙_}
 use mathlib.Core.List.{_++_}
 use lib.ListN.{length, drop, length-set}
 use native.Mathlib.Omega.{arith}
-use borrow.Author.Needs.{needs}
 use Rattle.fields.specs.Field.{columns, fieldText}
 use Rattle.fields.proofs.Turns.{text-begins, text-goes-on, text-ends, text-none}
 use Rattle.fields.proofs.write_number.Statement.{statement}
 use Rattle.fields.proofs.write_number.Tie as tie
-use Rattle.fields.proofs.write_number.Reads as reads
-use Rattle.fields.proofs.write_number.Lts as lts
-use Rattle.fields.proofs.column_byte.Reads as column-byte-reads
 
 abbrev Inv-loop : tie.InvT-loop
 Inv-loop out₀ value i₀ v₀ out i v = (length out ≡ length out₀) × (i ≤ length out) × (columns i v ++ drop i out ≡ fieldText (length out₀) value)
@@ -18,27 +16,21 @@ Inv-loop out₀ value i₀ v₀ out i v = (length out ≡ length out₀) × (i �
 abbrev μ-loop : tie.MeasureT-loop
 μ-loop out₀ value i₀ v₀ out i v = i
 
--- src/lib.rt:81:9
 returns : tie.Need-returns Inv-loop μ-loop
 returns c = text-none (c .before .before .args .out .now) (c .before .before .args .value) (c .if1 .taken)
 
--- src/lib.rt:83:5
 sub-i : tie.Need-sub-i Inv-loop μ-loop
 sub-i c = omega arith
 
--- src/lib.rt:84:19
 cast-out : tie.Need-cast-out Inv-loop μ-loop
 cast-out c = omega arith
 
--- src/lib.rt:84:14
 add-out : tie.Need-add-out Inv-loop μ-loop
 add-out c = omega arith
 
--- src/lib.rt:84:5
 slice-write-out : tie.Need-slice-write-out Inv-loop μ-loop
 slice-write-out c = omega arith
 
--- src/lib.rt:86:5
 loop-holds : tie.Need-loop-holds Inv-loop μ-loop
 loop-holds c =
     let out = c .before .before .args .out .now in
@@ -46,23 +38,18 @@ loop-holds c =
     let last : suc (length out - 1) ≡ length out = omega arith in
     (refl, simp length-set (omega arith), rw (length-set out (length out - 1) (48 + value % 10)) (text-begins out value (length out - 1) last))
 
--- src/lib.rt:87:9
 sub-i-2 : tie.Need-sub-i-2 Inv-loop μ-loop
 sub-i-2 c = omega arith
 
--- src/lib.rt:88:18
 column-byte-requires : tie.Need-column-byte-requires Inv-loop μ-loop
 column-byte-requires c κs = tt
 
--- src/lib.rt:88:9
 slice-write-out-2 : tie.Need-slice-write-out-2 Inv-loop μ-loop
 slice-write-out-2 c = omega arith
 
--- src/lib.rt:86:5
 loop-less : tie.Need-loop-less Inv-loop μ-loop
 loop-less c = omega arith
 
--- src/lib.rt:86:5
 loop-again : tie.Need-loop-again Inv-loop μ-loop
 loop-again c =
     let out = c .before .before .loop .out in
@@ -75,11 +62,9 @@ loop-again c =
       rw (c .column-byte .ensures) (text-goes-on out v (i - 1) inside ∙ rw up (c .before .before .loop .inv .2)),
     )
 
--- src/lib.rt:76:1
 same-length : tie.Need-same-length Inv-loop μ-loop
 same-length c = simp length-set at (c .before .loop .inv .0)
 
--- src/lib.rt:76:1
 returns-2 : tie.Need-returns-2 Inv-loop μ-loop
 returns-2 c = text-ends _ _ _ _ (c .loop-test .left) (simp length-set at (c .before .loop .inv .2))
 

@@ -1,34 +1,26 @@
-use mathlib.Core.Path.{_≡_, ap, sym, _∙_}
+-- The judge of paths on flat buffers.
+-- The assembled record is the one of the definition.
+use mathlib.Core.Path.{ap, _∙_}
 use borrow.Author.Tests.{eq-eqb, ne-eqb}
 use Rattle.judge.specs.Verdict.{judgePath}
 use Rattle.flat.specs.Codes.{verdictCode, pathCode}
 use borrow.Author.Needs.{needs}
 use Rattle.flat.proofs.flat_judge_path.Statement.{statement}
 use Rattle.flat.proofs.flat_judge_path.Tie as tie
-use Rattle.flat.proofs.flat_judge_path.Reads as reads
-use Rattle.flat.proofs.flat_judge_path.Lts as lts
-use Rattle.flat.proofs.assemble.Reads as assemble-reads
-use Rattle.flat.proofs.verdict_code.Reads as verdict-code-reads
-use Rattle.judge.proofs.judge_path.Reads as judge-path-reads
 
--- src/lib.rt:110:9
 returns : tie.Need-returns
 unfolding pathCode
 returns c = rw (ne-eqb _ 2048 (c .if1 .taken))
 
--- src/lib.rt:112:36
 assemble-requires : tie.Need-assemble-requires
 assemble-requires c κs = search needs
 
--- src/lib.rt:112:18
 judge-path-requires : tie.Need-judge-path-requires
 judge-path-requires c κs = search needs
 
--- src/lib.rt:112:5
 verdict-code-requires : tie.Need-verdict-code-requires
 verdict-code-requires c κs = search needs
 
--- src/lib.rt:105:1
 returns-2 : tie.Need-returns-2
 unfolding pathCode
 returns-2 c = rw (eq-eqb _ 2048 (c .before .before .before .if1 .left)) (c .verdict-code .ensures ∙ ap verdictCode (c .before .judge-path .ensures ∙ ap (λ m. judgePath m (c .before .before .before .before .before .before .args .s) (c .before .before .before .before .before .before .args .t) (c .before .before .before .before .before .before .args .list .now)) (c .before .before .assemble .ensures)))

@@ -1,29 +1,23 @@
+-- A number field on flat buffers.
+-- By the two cases of the number read.
 use mathlib.Core.Path.{ap, sym, _∙_}
 use Rattle.flat.specs.Codes.{fieldCode}
 use borrow.Author.Needs.{needs}
 use Rattle.flat.proofs.flat_read_field.Statement.{statement}
 use Rattle.flat.proofs.flat_read_field.Tie as tie
-use Rattle.flat.proofs.flat_read_field.Reads as reads
-use Rattle.flat.proofs.flat_read_field.Lts as lts
-use Rattle.fields.proofs.read_number.Reads as read-number-reads
 
--- src/lib.rt:120:9
 read-number-requires : tie.Need-read-number-requires
 read-number-requires c κs = search needs
 
--- src/lib.rt:122:23
 enum-known-number : tie.Need-enum-known-number
 enum-known-number c = search needs
 
--- src/lib.rt:123:24
 enum-told : tie.Need-enum-told
 enum-told c = search needs
 
--- src/lib.rt:116:1
 returns : tie.Need-returns
 returns c = ap fieldCode (sym (sym (c .before .before .before .read-number .ensures) ∙ c .before .number .given .1))
 
--- src/lib.rt:116:1
 returns-2 : tie.Need-returns-2
 returns-2 c = ap fieldCode (sym (sym (c .before .before .read-number .ensures) ∙ c .enum-told .given .1))
 

@@ -1,45 +1,34 @@
-use mathlib.Core.Path.{_≡_, ap, sym, _∙_}
+-- The sheet reader on flat buffers.
+-- By the reader's answer.
+use mathlib.Core.Path.{ap, sym, _∙_}
 use Rattle.flat.specs.Codes.{flatBytes}
 use Rattle.sheet.specs.declared.Sheet.{Sheet}
 use Rattle.flat.proofs.Buffers.{read-wrong-length, read-accepted, read-refused}
 use borrow.Author.Needs.{needs}
 use Rattle.flat.proofs.flat_read_sheet.Statement.{statement}
 use Rattle.flat.proofs.flat_read_sheet.Tie as tie
-use Rattle.flat.proofs.flat_read_sheet.Reads as reads
-use Rattle.flat.proofs.flat_read_sheet.Lts as lts
-use Rattle.flat.proofs.flatten.Reads as flatten-reads
-use Rattle.refusal.proofs.number.Reads as number-reads
-use Rattle.sheet.proofs.read_sheet.Reads as read-sheet-reads
 
--- src/lib.rt:65:9
 returns : tie.Need-returns
 returns c = read-wrong-length (c .before .before .before .args .sheet .now) (c .before .before .before .args .«record» .now) (c .if1 .taken)
 
--- src/lib.rt:67:9
 read-sheet-requires : tie.Need-read-sheet-requires
 read-sheet-requires c κs = search needs
 
--- src/lib.rt:72:24
 enum-told : tie.Need-enum-told
 enum-told c = search needs
 
--- src/lib.rt:72:13
 flatten-requires : tie.Need-flatten-requires
 flatten-requires c κs = search needs
 
--- src/lib.rt:75:25
 enum-known-answer : tie.Need-enum-known-answer
 enum-known-answer c = search needs
 
--- src/lib.rt:75:31
 number-requires : tie.Need-number-requires
 number-requires c κs = search needs
 
--- src/lib.rt:59:1
 same-length : tie.Need-same-length
 same-length c = search needs
 
--- src/lib.rt:59:1
 returns-2 : tie.Need-returns-2
 returns-2 c =
     let sheet = c .before .before .before .before .before .before .before .before .before .before .before .args .sheet .now in
@@ -47,7 +36,6 @@ returns-2 c =
     let r = read-accepted sheet (c .before .before .before .before .before .before .before .before .before .before .before .args .«record» .now) (c .before .before .before .before .before .before .before .before .if1 .left) (ap (λ (x : Sheet). x .answer) (sym same) ∙ c .before .before .before .before .enum-told .given .1) in
     (r .0, c .before .before .flatten .ensures ∙ ap (λ (x : Sheet). flatBytes (x .molecule)) same ∙ r .1)
 
--- src/lib.rt:59:1
 returns-3 : tie.Need-returns-3
 returns-3 c =
     let sheet = c .before .before .before .before .before .before .before .before .before .args .sheet .now in

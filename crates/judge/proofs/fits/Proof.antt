@@ -1,3 +1,5 @@
+-- Every two places of the list.
+-- Invariant: the places passed fit every place before them.
 use Prim.Native.Nat.{_-_, _≤_}
 use mathlib.Core.Path.{_≡_, refl, sym, _∙_}
 use mathlib.Core.Bool.{true}
@@ -12,9 +14,6 @@ use Rattle.judge.specs.Parts.{fitsBefore}
 use Rattle.judge.proofs.Tests.{induces-is}
 use Rattle.judge.proofs.fits.Statement.{statement}
 use Rattle.judge.proofs.fits.Tie as tie
-use Rattle.judge.proofs.fits.Reads as reads
-use Rattle.judge.proofs.fits.Lts as lts
-use Rattle.judge.proofs.fits_before.Reads as fits-before-reads
 
 abbrev Inv-loop : tie.InvT-loop
 Inv-loop rows n k xs j₀ j = (j ≤ length xs) × (allBelow j (fitsBefore (bonded n rows) k xs) ≡ true)
@@ -22,31 +21,24 @@ Inv-loop rows n k xs j₀ j = (j ≤ length xs) × (allBelow j (fitsBefore (bond
 abbrev μ-loop : tie.MeasureT-loop
 μ-loop rows n k xs j₀ j = length xs - j
 
--- src/lib.rt:98:5
 loop-holds : tie.Need-loop-holds Inv-loop μ-loop
 loop-holds c = (search needs, refl)
 
--- src/lib.rt:99:13
 fits-before-requires : tie.Need-fits-before-requires Inv-loop μ-loop
 fits-before-requires c κs = (c .loop-test .taken, c .before .before .before .pre .0, c .before .before .before .pre .1)
 
--- src/lib.rt:100:13
 returns : tie.Need-returns Inv-loop μ-loop
 returns c = sym (induces-is _ _ _ ∙ all-fails _ (fitsBefore _ _ _) _ (c .before .before .loop-test .taken) (sym (c .before .fits-before .ensures) ∙ not-true _ (c .if1 .taken)))
 
--- src/lib.rt:102:9
 add-j : tie.Need-add-j Inv-loop μ-loop
 add-j c = omega arith
 
--- src/lib.rt:98:5
 loop-less : tie.Need-loop-less Inv-loop μ-loop
 loop-less c = omega arith
 
--- src/lib.rt:98:5
 loop-again : tie.Need-loop-again Inv-loop μ-loop
 loop-again c = (omega arith, all-more _ (fitsBefore _ _ _) (c .before .before .before .loop .inv .1) (sym (c .before .fits-before .ensures) ∙ not-false _ (c .if1 .left)))
 
--- src/lib.rt:93:1
 returns-2 : tie.Need-returns-2 Inv-loop μ-loop
 returns-2 c = sym (induces-is _ _ _ ∙ all-done _ _ (fitsBefore _ _ _) (c .before .loop .inv .0) (c .loop-test .left) (c .before .loop .inv .1))
 

@@ -1,9 +1,9 @@
-use Prim.Native.Nat.{suc, _-_, _≤_}
+-- One place against every place before it.
+-- Invariant: the places passed fit.
+use Prim.Native.Nat.{_-_, _≤_}
 use mathlib.Core.Path.{_≡_, refl, sym, _∙_}
-use mathlib.Core.Bool.{true, _&&_}
+use mathlib.Core.Bool.{true}
 use native.Mathlib.Omega.{arith}
-use lib.ListN.{length}
-use lib.Dec.{leb, ltb}
 use borrow.Author.Needs.{needs}
 use borrow.Author.Tests.{not-true, not-false}
 use Rattle.graph.specs.Every.{allBelow}
@@ -12,9 +12,6 @@ use Rattle.molecule.specs.Record.{bonded}
 use Rattle.judge.specs.Parts.{pairFits, fitsBefore}
 use Rattle.judge.proofs.fits_before.Statement.{statement}
 use Rattle.judge.proofs.fits_before.Tie as tie
-use Rattle.judge.proofs.fits_before.Reads as reads
-use Rattle.judge.proofs.fits_before.Lts as lts
-use Rattle.judge.proofs.pair_fits.Reads as pair-fits-reads
 
 abbrev Inv-loop : tie.InvT-loop
 Inv-loop rows n k xs j i₀ i = (i ≤ j) × (allBelow i (pairFits (bonded n rows) k xs j) ≡ true)
@@ -22,32 +19,25 @@ Inv-loop rows n k xs j i₀ i = (i ≤ j) × (allBelow i (pairFits (bonded n row
 abbrev μ-loop : tie.MeasureT-loop
 μ-loop rows n k xs j i₀ i = j - i
 
--- src/lib.rt:83:5
 loop-holds : tie.Need-loop-holds Inv-loop μ-loop
 loop-holds c = (search needs, refl)
 
--- src/lib.rt:84:13
 pair-fits-requires : tie.Need-pair-fits-requires Inv-loop μ-loop
 pair-fits-requires c κs = (c .loop-test .taken, c .before .before .before .pre .0, c .before .before .before .pre .1, c .before .before .before .pre .2)
 
--- src/lib.rt:85:13
 returns : tie.Need-returns Inv-loop μ-loop
 unfolding fitsBefore
 returns c = sym (all-fails _ (pairFits _ _ _ _) _ (c .before .before .loop-test .taken) (sym (c .before .pair-fits .ensures) ∙ not-true _ (c .if1 .taken)))
 
--- src/lib.rt:87:9
 add-i : tie.Need-add-i Inv-loop μ-loop
 add-i c = omega arith
 
--- src/lib.rt:83:5
 loop-less : tie.Need-loop-less Inv-loop μ-loop
 loop-less c = omega arith
 
--- src/lib.rt:83:5
 loop-again : tie.Need-loop-again Inv-loop μ-loop
 loop-again c = (omega arith, all-more _ (pairFits _ _ _ _) (c .before .before .before .loop .inv .1) (sym (c .before .pair-fits .ensures) ∙ not-false _ (c .if1 .left)))
 
--- src/lib.rt:78:1
 returns-2 : tie.Need-returns-2 Inv-loop μ-loop
 unfolding fitsBefore
 returns-2 c = sym (all-done _ _ (pairFits _ _ _ _) (c .before .loop .inv .0) (c .loop-test .left) (c .before .loop .inv .1))

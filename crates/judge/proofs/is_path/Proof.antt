@@ -1,60 +1,45 @@
+-- Whether a list is a path from s to t.
+-- Each return by the tests of `isPath` in their order.
 use mathlib.Core.Path.{sym, _∙_}
 use borrow.Author.Tests.{not-true, not-false}
 use Rattle.judge.proofs.Tests.{path-short, path-out, path-start, path-end, path-fits}
 use borrow.Author.Needs.{needs}
 use Rattle.judge.proofs.is_path.Statement.{statement}
 use Rattle.judge.proofs.is_path.Tie as tie
-use Rattle.judge.proofs.is_path.Reads as reads
-use Rattle.judge.proofs.is_path.Lts as lts
-use Rattle.judge.proofs.fits.Reads as fits-reads
-use Rattle.judge.proofs.in_range.Reads as in-range-reads
-use Rattle.judge.proofs.wide.Reads as wide-reads
 
--- src/lib.rt:156:9
 returns : tie.Need-returns
 returns c = sym (path-short (c .before .before .args .n) _ _ _ (c .before .before .args .xs .now) (c .if1 .taken))
 
--- src/lib.rt:158:9
 in-range-requires : tie.Need-in-range-requires
 in-range-requires c κs = search needs
 
--- src/lib.rt:159:9
 returns-2 : tie.Need-returns-2
 returns-2 c = sym (path-out (c .before .before .before .before .args .n) _ _ _ (c .before .before .before .before .args .xs .now) (c .before .before .if1 .left) (sym (c .before .in-range .ensures) ∙ not-true _ (c .if2 .taken)))
 
--- src/lib.rt:161:13
 shared-slice-read-wide : tie.Need-shared-slice-read-wide
 shared-slice-read-wide c = search needs
 
--- src/lib.rt:161:8
 wide-requires : tie.Need-wide-requires
 wide-requires c κs = search needs
 
--- src/lib.rt:162:9
 returns-3 : tie.Need-returns-3
 returns-3 c = sym (path-start (c .before .before .before .before .before .before .before .args .n) _ _ _ (c .before .before .before .before .before .before .before .args .xs .now) (c .before .before .before .before .before .if1 .left) (sym (c .before .before .before .before .in-range .ensures) ∙ not-false _ (c .before .before .before .if2 .left)) (λ e. c .if3 .taken (c .before .wide .ensures ∙ e)))
 
--- src/lib.rt:164:16
 sub-wide : tie.Need-sub-wide
 sub-wide c = search needs
 
--- src/lib.rt:164:13
 shared-slice-read-wide-2 : tie.Need-shared-slice-read-wide-2
 shared-slice-read-wide-2 c = search needs
 
--- src/lib.rt:164:8
 wide-requires-2 : tie.Need-wide-requires-2
 wide-requires-2 c κs = search needs
 
--- src/lib.rt:165:9
 returns-4 : tie.Need-returns-4
 returns-4 c = sym (path-end (c .before .before .before .before .before .before .before .before .before .before .args .n) _ _ _ (c .before .before .before .before .before .before .before .before .before .before .args .xs .now) (c .before .before .before .before .before .before .before .before .if1 .left) (sym (c .before .before .before .before .before .before .before .in-range .ensures) ∙ not-false _ (c .before .before .before .before .before .before .if2 .left)) (sym (c .before .before .before .before .wide .ensures) ∙ c .before .before .before .if3 .left) (λ e. c .if4 .taken (c .before .wide2 .ensures ∙ e)))
 
--- src/lib.rt:167:5
 fits-requires : tie.Need-fits-requires
 fits-requires c κs = (c .before .before .before .before .before .before .before .before .before .before .pre, (sym (c .before .before .before .before .before .before .before .in-range .ensures) ∙ not-false _ (c .before .before .before .before .before .before .if2 .left)))
 
--- src/lib.rt:151:1
 returns-5 : tie.Need-returns-5
 returns-5 c = c .fits2 .ensures ∙ sym (path-fits (c .before .before .before .before .before .before .before .before .before .before .before .args .n) _ _ _ (c .before .before .before .before .before .before .before .before .before .before .before .args .xs .now) (c .before .before .before .before .before .before .before .before .before .if1 .left) (sym (c .before .before .before .before .before .before .before .before .in-range .ensures) ∙ not-false _ (c .before .before .before .before .before .before .before .if2 .left)) (sym (c .before .before .before .before .before .wide .ensures) ∙ c .before .before .before .before .if3 .left) (sym (c .before .before .wide2 .ensures) ∙ c .before .if4 .left))
 

@@ -1,32 +1,26 @@
-use mathlib.Core.Path.{sym, _∙_}
+-- Whether two places are joined along a ring or a path.
+-- By the cases of `alongRing`; a ring of no atoms is a path.
+use mathlib.Core.Path.{sym}
 use Rattle.judge.proofs.Tests.{joined-next, joined-inner, joined-open, joined-close}
 use borrow.Author.Needs.{needs}
 use Rattle.judge.proofs.joined.Statement.{statement}
 use Rattle.judge.proofs.joined.Tie as tie
-use Rattle.judge.proofs.joined.Reads as reads
-use Rattle.judge.proofs.joined.Lts as lts
 
--- src/lib.rt:49:13
 add-if1 : tie.Need-add-if1
 add-if1 c = search needs
 
--- src/lib.rt:50:9
 returns : tie.Need-returns
 returns c = sym (joined-next _ _ _ (c .if1 .taken))
 
--- src/lib.rt:53:9
 returns-2 : tie.Need-returns-2
 returns-2 c = sym (joined-inner _ _ _ (c .before .if1 .left) (c .if2 .taken))
 
--- src/lib.rt:56:9
 returns-3 : tie.Need-returns-3
 returns-3 c = sym (joined-open _ _ _ (c .before .before .if1 .left) (c .before .if2 .left) (c .if3 .taken))
 
--- src/lib.rt:58:10
 sub-result : tie.Need-sub-result
 sub-result c = search needs
 
--- src/lib.rt:45:1
 returns-4 : tie.Need-returns-4
 returns-4 c = sym (joined-close _ _ _ (c .before .before .if1 .left) (c .before .if2 .left) (c .if3 .left))
 

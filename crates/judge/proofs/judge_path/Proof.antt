@@ -1,3 +1,5 @@
+-- A list judged as a path from s to t.
+-- Rules 9, 10 and 11 first, then the definition.
 use mathlib.Core.Path.{sym, _∙_}
 use mathlib.Core.Bool.{true, false}
 use borrow.Author.Tests.{not-true, not-false}
@@ -6,49 +8,34 @@ use Rattle.judge.proofs.Answers.{refused-record, path-no-start, path-no
 use borrow.Author.Needs.{needs}
 use Rattle.judge.proofs.judge_path.Statement.{statement}
 use Rattle.judge.proofs.judge_path.Tie as tie
-use Rattle.judge.proofs.judge_path.Reads as reads
-use Rattle.judge.proofs.judge_path.Lts as lts
-use Rattle.molecule.proofs.is_atom.Reads as is-atom-reads
-use Rattle.judge.proofs.is_path.Reads as is-path-reads
-use Rattle.molecule.proofs.well_formed.Reads as well-formed-reads
 
--- src/lib.rt:174:9
 well-formed-requires : tie.Need-well-formed-requires
 well-formed-requires c κs = search needs
 
--- src/lib.rt:175:9
 returns : tie.Need-returns
 returns c = sym (refused-record _ (sym (c .before .well-formed .ensures) ∙ not-true _ (c .if1 .taken)) .1 _ _ _)
 
--- src/lib.rt:179:9
 is-atom-requires : tie.Need-is-atom-requires
 is-atom-requires c κs = search needs
 
--- src/lib.rt:180:9
 returns-2 : tie.Need-returns-2
 returns-2 c = sym (path-no-start _ _ _ _ (sym (c .before .before .before .before .well-formed .ensures) ∙ not-false _ (c .before .before .before .if1 .left)) (sym (c .before .is-atom .ensures) ∙ not-true _ (c .if2 .taken)))
 
--- src/lib.rt:182:9
 is-atom-requires-2 : tie.Need-is-atom-requires-2
 is-atom-requires-2 c κs = search needs
 
--- src/lib.rt:183:9
 returns-3 : tie.Need-returns-3
 returns-3 c = sym (path-no-end _ _ _ _ (sym (c .before .before .before .before .before .before .well-formed .ensures) ∙ not-false _ (c .before .before .before .before .before .if1 .left)) (sym (c .before .before .before .is-atom .ensures) ∙ not-false _ (c .before .before .if2 .left)) (sym (c .before .is-atom2 .ensures) ∙ not-true _ (c .if3 .taken)))
 
--- src/lib.rt:186:9
 returns-4 : tie.Need-returns-4
 returns-4 c = sym (path-same-ends _ _ _ _ (sym (c .before .before .before .before .before .before .before .well-formed .ensures) ∙ not-false _ (c .before .before .before .before .before .before .if1 .left)) (sym (c .before .before .before .before .is-atom .ensures) ∙ not-false _ (c .before .before .before .if2 .left)) (sym (c .before .before .is-atom2 .ensures) ∙ not-false _ (c .before .if3 .left)) (c .if4 .taken))
 
--- src/lib.rt:188:8
 is-path-requires : tie.Need-is-path-requires
 is-path-requires c κs = rule9 (c .before .before .before .before .before .before .before .before .before .before .args .m) (sym (c .before .before .before .before .before .before .before .before .well-formed .ensures) ∙ not-false _ (c .before .before .before .before .before .before .before .if1 .left)) .atoms-high
 
--- src/lib.rt:189:9
 returns-5 : tie.Need-returns-5
 returns-5 c = sym (path-judged _ _ _ _ (sym (c .before .before .before .before .before .before .before .before .before .before .well-formed .ensures) ∙ not-false _ (c .before .before .before .before .before .before .before .before .before .if1 .left)) (sym (c .before .before .before .before .before .before .before .is-atom .ensures) ∙ not-false _ (c .before .before .before .before .before .before .if2 .left)) (sym (c .before .before .before .before .before .is-atom2 .ensures) ∙ not-false _ (c .before .before .before .before .if3 .left)) (c .before .before .before .if4 .left) true (sym (c .before .is-path .ensures) ∙ c .if5 .taken))
 
--- src/lib.rt:171:1
 returns-6 : tie.Need-returns-6
 returns-6 c = sym (path-judged _ _ _ _ (sym (c .before .before .before .before .before .before .before .before .before .before .well-formed .ensures) ∙ not-false _ (c .before .before .before .before .before .before .before .before .before .if1 .left)) (sym (c .before .before .before .before .before .before .before .is-atom .ensures) ∙ not-false _ (c .before .before .before .before .before .before .if2 .left)) (sym (c .before .before .before .before .before .is-atom2 .ensures) ∙ not-false _ (c .before .before .before .before .if3 .left)) (c .before .before .before .if4 .left) false (sym (c .before .is-path .ensures) ∙ c .if5 .left))
 

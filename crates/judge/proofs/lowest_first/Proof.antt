@@ -1,22 +1,17 @@
+-- Whether the first atom is the lowest.
+-- Invariant: the atoms passed are above the first.
 use Rattle.judge.proofs.Tests.{not-above, above}
-use Prim.Native.Nat.{suc, _-_, _≤_}
-use mathlib.Core.Path.{_≡_, refl, sym, _∙_}
-use mathlib.Core.Bool.{true, _&&_}
+use Prim.Native.Nat.{_-_, _≤_}
+use mathlib.Core.Path.{_≡_, refl, sym}
+use mathlib.Core.Bool.{true}
 use native.Mathlib.Omega.{arith}
 use lib.ListN.{length}
-use lib.Dec.{leb, ltb}
 use borrow.Author.Needs.{needs}
-use borrow.Author.Tests.{not-true, not-false}
 use Rattle.graph.specs.Every.{allBelow}
 use Rattle.graph.proofs.Loops.{all-fails, all-more, all-done}
-use borrow.Author.Tests.{lt-ltb, le-ltb}
-use native.Mathlib.Numerals.{add-one}
-use Rattle.graph.specs.Chordless.{atomAt}
 use Rattle.judge.specs.Parts.{lowestFirst, aboveFirst}
 use Rattle.judge.proofs.lowest_first.Statement.{statement}
 use Rattle.judge.proofs.lowest_first.Tie as tie
-use Rattle.judge.proofs.lowest_first.Reads as reads
-use Rattle.judge.proofs.lowest_first.Lts as lts
 
 abbrev Inv-loop : tie.InvT-loop
 Inv-loop xs first i₀ i = (i ≤ length xs - 1) × (allBelow i (aboveFirst xs) ≡ true)
@@ -24,44 +19,34 @@ Inv-loop xs first i₀ i = (i ≤ length xs - 1) × (allBelow i (aboveFirst xs) 
 abbrev μ-loop : tie.MeasureT-loop
 μ-loop xs first i₀ i = length xs - i
 
--- src/lib.rt:112:17
 shared-slice-read-first : tie.Need-shared-slice-read-first Inv-loop μ-loop
 shared-slice-read-first c = search needs
 
--- src/lib.rt:114:5
 loop-holds : tie.Need-loop-holds Inv-loop μ-loop
 loop-holds c = (search needs, refl)
 
--- src/lib.rt:114:15
 sub-loop : tie.Need-sub-loop Inv-loop μ-loop
 sub-loop c = search needs
 
--- src/lib.rt:115:15
 add-if1 : tie.Need-add-if1 Inv-loop μ-loop
 add-if1 c = omega arith
 
--- src/lib.rt:115:12
 shared-slice-read-if1 : tie.Need-shared-slice-read-if1 Inv-loop μ-loop
 shared-slice-read-if1 c = omega arith
 
--- src/lib.rt:116:13
 returns : tie.Need-returns Inv-loop μ-loop
 unfolding lowestFirst
 returns c = sym (all-fails _ (aboveFirst _) _ (c .before .before .loop-test .taken) (not-above (c .before .before .before .before .before .args .xs .now) (c .before .before .before .loop .i) (c .if1 .taken)))
 
--- src/lib.rt:118:9
 add-i : tie.Need-add-i Inv-loop μ-loop
 add-i c = omega arith
 
--- src/lib.rt:114:5
 loop-less : tie.Need-loop-less Inv-loop μ-loop
 loop-less c = omega arith
 
--- src/lib.rt:114:5
 loop-again : tie.Need-loop-again Inv-loop μ-loop
 loop-again c = (omega arith, all-more _ (aboveFirst _) (c .before .before .before .loop .inv .1) (above (c .before .before .before .before .before .args .xs .now) (c .before .before .before .loop .i) (c .if1 .left)))
 
--- src/lib.rt:108:1
 returns-2 : tie.Need-returns-2 Inv-loop μ-loop
 unfolding lowestFirst
 returns-2 c = sym (all-done _ _ (aboveFirst _) (c .before .loop .inv .0) (c .loop-test .left) (c .before .loop .inv .1))

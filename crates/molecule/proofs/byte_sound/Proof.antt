@@ -1,3 +1,5 @@
+-- Every bit of a byte; a zero byte at once.
+-- Invariant: the bits passed are sound.
 use Prim.Native.Nat.{_-_, _≤_}
 use mathlib.Core.Path.{_≡_, refl, sym, _∙_}
 use mathlib.Core.Bool.{true}
@@ -10,9 +12,6 @@ use Rattle.molecule.specs.Parts.{bitSound, byteSound}
 use Rattle.molecule.proofs.Checks.{zero-byte}
 use Rattle.molecule.proofs.byte_sound.Statement.{statement}
 use Rattle.molecule.proofs.byte_sound.Tie as tie
-use Rattle.molecule.proofs.byte_sound.Reads as reads
-use Rattle.molecule.proofs.byte_sound.Lts as lts
-use Rattle.molecule.proofs.bit_sound.Reads as bit-sound-reads
 
 abbrev Inv-loop : tie.InvT-loop
 Inv-loop rows n at k₀ k = (k ≤ 8) × (allBelow k (bitSound rows n at) ≡ true)
@@ -20,40 +19,31 @@ Inv-loop rows n at k₀ k = (k ≤ 8) × (allBelow k (bitSound rows n at) ≡ tr
 abbrev μ-loop : tie.MeasureT-loop
 μ-loop rows n at k₀ k = 8 - k
 
--- src/lib.rt:68:8
 element-copy-out-if1 : tie.Need-element-copy-out-if1 Inv-loop μ-loop
 element-copy-out-if1 c = search needs
 
--- src/lib.rt:69:9
 returns : tie.Need-returns Inv-loop μ-loop
 returns c = sym (zero-byte _ _ _ (c .if1 .taken))
 
--- src/lib.rt:72:5
 loop-holds : tie.Need-loop-holds Inv-loop μ-loop
 loop-holds c = (search needs, refl)
 
--- src/lib.rt:73:13
 bit-sound-requires : tie.Need-bit-sound-requires Inv-loop μ-loop
 bit-sound-requires c κs = omega arith
 
--- src/lib.rt:74:13
 returns-2 : tie.Need-returns-2 Inv-loop μ-loop
 unfolding byteSound
 returns-2 c = sym (all-fails 8 (bitSound _ _ _) _ (c .before .before .loop-test .taken) (sym (c .before .bit-sound .ensures) ∙ not-true _ (c .if2 .taken)))
 
--- src/lib.rt:76:9
 add-k : tie.Need-add-k Inv-loop μ-loop
 add-k c = omega arith
 
--- src/lib.rt:72:5
 loop-less : tie.Need-loop-less Inv-loop μ-loop
 loop-less c = omega arith
 
--- src/lib.rt:72:5
 loop-again : tie.Need-loop-again Inv-loop μ-loop
 loop-again c = (omega arith, all-more _ (bitSound _ _ _) (c .before .before .before .loop .inv .1) (sym (c .before .bit-sound .ensures) ∙ not-false _ (c .if2 .left)))
 
--- src/lib.rt:64:1
 returns-3 : tie.Need-returns-3 Inv-loop μ-loop
 unfolding byteSound
 returns-3 c = sym (all-done _ 8 _ (c .before .loop .inv .0) (c .loop-test .left) (c .before .loop .inv .1))

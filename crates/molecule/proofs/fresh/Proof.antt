@@ -1,11 +1,10 @@
+-- The fresh molecule.
+-- The struct made is the definition itself.
 use mathlib.Core.Path.{refl}
 use Rattle.molecule.specs.Record.{freshMolecule}
 use Rattle.molecule.proofs.fresh.Statement.{statement}
 use Rattle.molecule.proofs.fresh.Tie as tie
-use Rattle.molecule.proofs.fresh.Reads as reads
-use Rattle.molecule.proofs.fresh.Lts as lts
 
--- src/lib.rt:17:1
 returns : tie.Need-returns
 unfolding freshMolecule
 returns c = refl

@@ -1,14 +1,12 @@
+-- Whether a number is an atom.
+-- Each return rewrites with the test that led there.
 use borrow.Author.Tests.{le-leb, lt-leb}
 use Rattle.molecule.proofs.is_atom.Statement.{statement}
 use Rattle.molecule.proofs.is_atom.Tie as tie
-use Rattle.molecule.proofs.is_atom.Reads as reads
-use Rattle.molecule.proofs.is_atom.Lts as lts
 
--- src/lib.rt:198:9
 returns : tie.Need-returns
 returns c = simp (lt-leb _ _ (c .if1 .taken))
 
--- src/lib.rt:194:1
 returns-2 : tie.Need-returns-2
 returns-2 c = simp (le-leb _ _ (c .if1 .left))
 

@@ -1,3 +1,5 @@
+-- Rule 9.
+-- The tests in their order are the definition's; the rows' rules are one law.
 use mathlib.Core.Path.{sym, _∙_}
 use mathlib.Core.Bool.{true, false}
 use borrow.Author.Tests.{le-leb, lt-leb, not-true, not-false}
@@ -6,42 +8,30 @@ use Rattle.molecule.proofs.Rules.{rule-in-range}
 use borrow.Author.Needs.{needs}
 use Rattle.molecule.proofs.well_formed.Statement.{statement}
 use Rattle.molecule.proofs.well_formed.Tie as tie
-use Rattle.molecule.proofs.well_formed.Reads as reads
-use Rattle.molecule.proofs.well_formed.Lts as lts
-use Rattle.molecule.proofs.ones_of.Reads as ones-of-reads
-use Rattle.molecule.proofs.rows_sound.Reads as rows-sound-reads
 
--- src/lib.rt:116:9
 returns : tie.Need-returns
 unfolding wellFormed
 returns c = simp (lt-leb _ _ (c .if1 .taken))
 
--- src/lib.rt:120:9
 returns-2 : tie.Need-returns-2
 unfolding wellFormed
 returns-2 c = simp (le-leb _ _ (c .before .if1 .left), lt-leb _ _ (c .if2 .taken))
 
--- src/lib.rt:122:9
 rows-sound-requires : tie.Need-rows-sound-requires
 rows-sound-requires c κs = search needs
 
--- src/lib.rt:123:9
 returns-3 : tie.Need-returns-3
 returns-3 c = sym (rule-in-range (c .before .before .before .before .before .before .args .m) (c .before .before .before .before .if1 .left) (c .before .before .before .if2 .left) false (sym (c .before .rows-sound .ensures) ∙ not-true _ (c .if3 .taken)))
 
--- src/lib.rt:125:13
 slice-aggregate-ones-of : tie.Need-slice-aggregate-ones-of
 slice-aggregate-ones-of c = search needs
 
--- src/lib.rt:125:5
 ones-of-requires : tie.Need-ones-of-requires
 ones-of-requires c κs = search needs
 
--- src/lib.rt:125:23
 mul-result : tie.Need-mul-result
 mul-result c = search needs
 
--- src/lib.rt:110:1
 returns-4 : tie.Need-returns-4
 returns-4 c =
     let start = c .before .before .before .before .before .before .before .before in

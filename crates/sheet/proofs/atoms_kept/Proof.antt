@@ -1,3 +1,5 @@
+-- Rule 6 over the stored bonds.
+-- Invariant: the bonds passed have both atoms in range.
 use Prim.Native.Nat.{_-_, _≤_}
 use mathlib.Core.Path.{_≡_, refl, sym, _∙_}
 use mathlib.Core.Bool.{true}
@@ -10,10 +12,6 @@ use Rattle.sheet.specs.Parts.{storedBond}
 use Rattle.sheet.proofs.Stored.{within, within-left, within-right, within-both, atoms-kept-is}
 use Rattle.sheet.proofs.atoms_kept.Statement.{statement}
 use Rattle.sheet.proofs.atoms_kept.Tie as tie
-use Rattle.sheet.proofs.atoms_kept.Reads as reads
-use Rattle.sheet.proofs.atoms_kept.Lts as lts
-use Rattle.molecule.proofs.is_atom.Reads as is-atom-reads
-use Rattle.sheet.proofs.wide.Reads as wide-reads
 
 abbrev Inv-loop : tie.InvT-loop
 Inv-loop values n m k₀ k = (k ≤ m) × (allBelow k (within n (storedBond values)) ≡ true)
@@ -21,83 +19,63 @@ Inv-loop values n m k₀ k = (k ≤ m) × (allBelow k (within n (storedBond valu
 abbrev μ-loop : tie.MeasureT-loop
 μ-loop values n m k₀ k = m - k
 
--- src/lib.rt:116:5
 loop-holds : tie.Need-loop-holds Inv-loop μ-loop
 loop-holds c = (search needs, refl)
 
--- src/lib.rt:117:41
 add-wide : tie.Need-add-wide Inv-loop μ-loop
 add-wide c = omega arith
 
--- src/lib.rt:117:36
 mul-wide : tie.Need-mul-wide Inv-loop μ-loop
 mul-wide c = omega arith
 
--- src/lib.rt:117:29
 mul-wide-2 : tie.Need-mul-wide-2 Inv-loop μ-loop
 mul-wide-2 c = omega arith
 
--- src/lib.rt:117:29
 element-copy-out-wide : tie.Need-element-copy-out-wide Inv-loop μ-loop
 element-copy-out-wide c = omega arith
 
--- src/lib.rt:117:24
 wide-requires : tie.Need-wide-requires Inv-loop μ-loop
 wide-requires c κs = tt
 
--- src/lib.rt:117:13
 is-atom-requires : tie.Need-is-atom-requires Inv-loop μ-loop
 is-atom-requires c κs = tt
 
--- src/lib.rt:118:13
 returns : tie.Need-returns Inv-loop μ-loop
 returns c = sym (atoms-kept-is _ _ _ ∙ all-fails _ (within _ _) _ (c .before .before .before .before .loop-test .taken) (within-left (c .before .before .before .before .before .before .args .values .now) (c .before .before .before .before .before .loop .k) (c .before .before .before .before .before .before .args .n) (rw (c .before .before .wide .ensures) at (sym (c .before .is-atom .ensures)) ∙ not-true _ (c .if1 .taken))))
 
--- src/lib.rt:120:41
 add-wide-2 : tie.Need-add-wide-2 Inv-loop μ-loop
 add-wide-2 c = omega arith
 
--- src/lib.rt:120:36
 mul-wide-3 : tie.Need-mul-wide-3 Inv-loop μ-loop
 mul-wide-3 c = omega arith
 
--- src/lib.rt:120:36
 add-wide-3 : tie.Need-add-wide-3 Inv-loop μ-loop
 add-wide-3 c = omega arith
 
--- src/lib.rt:120:29
 mul-wide-4 : tie.Need-mul-wide-4 Inv-loop μ-loop
 mul-wide-4 c = omega arith
 
--- src/lib.rt:120:29
 element-copy-out-wide-2 : tie.Need-element-copy-out-wide-2 Inv-loop μ-loop
 element-copy-out-wide-2 c = omega arith
 
--- src/lib.rt:120:24
 wide-requires-2 : tie.Need-wide-requires-2 Inv-loop μ-loop
 wide-requires-2 c κs = tt
 
--- src/lib.rt:120:13
 is-atom-requires-2 : tie.Need-is-atom-requires-2 Inv-loop μ-loop
 is-atom-requires-2 c κs = tt
 
--- src/lib.rt:121:13
 returns-2 : tie.Need-returns-2 Inv-loop μ-loop
 returns-2 c = sym (atoms-kept-is _ _ _ ∙ all-fails _ (within _ _) _ (c .before .before .before .before .before .before .before .before .loop-test .taken) (within-right (c .before .before .before .before .before .before .before .before .before .before .args .values .now) (c .before .before .before .before .before .before .before .before .before .loop .k) (c .before .before .before .before .before .before .before .before .before .before .args .n) (rw (c .before .before .before .before .before .before .wide .ensures) at (sym (c .before .before .before .before .before .is-atom .ensures)) ∙ not-false _ (c .before .before .before .before .if1 .left)) (rw (c .before .before .wide2 .ensures) at (sym (c .before .is-atom2 .ensures)) ∙ not-true _ (c .if2 .taken))))
 
--- src/lib.rt:123:9
 add-k : tie.Need-add-k Inv-loop μ-loop
 add-k c = omega arith
 
--- src/lib.rt:116:5
 loop-less : tie.Need-loop-less Inv-loop μ-loop
 loop-less c = omega arith
 
--- src/lib.rt:116:5
 loop-again : tie.Need-loop-again Inv-loop μ-loop
 loop-again c = (omega arith, all-more _ (within _ _) (c .before .before .before .before .before .before .before .before .before .loop .inv .1) (within-both (c .before .before .before .before .before .before .before .before .before .before .args .values .now) (c .before .before .before .before .before .before .before .before .before .loop .k) (c .before .before .before .before .before .before .before .before .before .before .args .n) (rw (c .before .before .before .before .before .before .wide .ensures) at (sym (c .before .before .before .before .before .is-atom .ensures)) ∙ not-false _ (c .before .before .before .before .if1 .left)) (rw (c .before .before .wide2 .ensures) at (sym (c .before .is-atom2 .ensures)) ∙ not-false _ (c .if2 .left))))
 
--- src/lib.rt:111:1
 returns-3 : tie.Need-returns-3 Inv-loop μ-loop
 returns-3 c = sym (atoms-kept-is _ _ _ ∙ all-done _ _ (within _ _) (c .before .loop .inv .0) (c .loop-test .left) (c .before .loop .inv .1))
 

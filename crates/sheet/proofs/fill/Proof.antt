@@ -1,5 +1,7 @@
+-- Rule 8, and the rows of the bonds.
+-- Invariant: the rows are those of the bonds passed, none of them twice; a set bit is a bond listed before.
 use Prim.Native.Nat.{_-_, _≤_}
-use mathlib.Core.Path.{_≡_, refl, ap, sym, _∙_}
+use mathlib.Core.Path.{_≡_, sym, _∙_}
 use mathlib.Core.Bool.{true}
 use native.Mathlib.Omega.{arith}
 use borrow.Author.Needs.{needs}
@@ -9,12 +11,6 @@ use Rattle.sheet.proofs.Tables.{kept-of}
 use Rattle.sheet.proofs.Answers.{bonds-twice, bonds-done, twice-found, twice-none, stored-ends, rows-size, cell-here, rows-more, rows-none, twice-zero}
 use Rattle.sheet.proofs.fill.Statement.{statement}
 use Rattle.sheet.proofs.fill.Tie as tie
-use Rattle.sheet.proofs.fill.Reads as reads
-use Rattle.sheet.proofs.fill.Lts as lts
-use Rattle.molecule.proofs.linked.Reads as linked-reads
-use Rattle.sheet.proofs.link.Reads as link-reads
-use Rattle.sheet.proofs.refused.Reads as refused-reads
-use Rattle.sheet.proofs.wide.Reads as wide-reads
 
 abbrev Inv-loop : tie.InvT-loop
 Inv-loop values n m rows₀ k₀ rows k = (k ≤ m) × (rows ≡ rowsOf (storedBond values) k) × (noneTwice (storedBond values) k ≡ true)
@@ -22,99 +18,75 @@ Inv-loop values n m rows₀ k₀ rows k = (k ≤ m) × (rows ≡ rowsOf (storedB
 abbrev μ-loop : tie.MeasureT-loop
 μ-loop values n m rows₀ k₀ rows k = m - k
 
--- src/lib.rt:165:5
 loop-holds : tie.Need-loop-holds Inv-loop μ-loop
 loop-holds c = (search needs, rows-none _, twice-zero _)
 
--- src/lib.rt:166:34
 add-wide : tie.Need-add-wide Inv-loop μ-loop
 add-wide c = omega arith
 
--- src/lib.rt:166:29
 mul-wide : tie.Need-mul-wide Inv-loop μ-loop
 mul-wide c = omega arith
 
--- src/lib.rt:166:22
 mul-wide-2 : tie.Need-mul-wide-2 Inv-loop μ-loop
 mul-wide-2 c = omega arith
 
--- src/lib.rt:166:22
 element-copy-out-wide : tie.Need-element-copy-out-wide Inv-loop μ-loop
 element-copy-out-wide c = omega arith
 
--- src/lib.rt:166:17
 wide-requires : tie.Need-wide-requires Inv-loop μ-loop
 wide-requires c κs = tt
 
--- src/lib.rt:166:17
 sub-i : tie.Need-sub-i Inv-loop μ-loop
 sub-i c = rw (c .wide .ensures) (stored-ends (c .before .before .before .before .args .n) (c .before .before .before .before .args .values .now) (c .before .before .before .before .args .m) (kept-of (c .before .before .before .before .args .n) (storedBond (c .before .before .before .before .args .values .now)) (c .before .before .before .before .args .m) (c .before .before .before .before .pre .0) (c .before .before .before .before .pre .2) (c .before .before .before .before .pre .3)) (c .before .before .before .loop .k) (c .before .before .loop-test .taken) .0)
 
--- src/lib.rt:167:34
 add-wide-2 : tie.Need-add-wide-2 Inv-loop μ-loop
 add-wide-2 c = omega arith
 
--- src/lib.rt:167:29
 mul-wide-3 : tie.Need-mul-wide-3 Inv-loop μ-loop
 mul-wide-3 c = omega arith
 
--- src/lib.rt:167:29
 add-wide-3 : tie.Need-add-wide-3 Inv-loop μ-loop
 add-wide-3 c = omega arith
 
--- src/lib.rt:167:22
 mul-wide-4 : tie.Need-mul-wide-4 Inv-loop μ-loop
 mul-wide-4 c = omega arith
 
--- src/lib.rt:167:22
 element-copy-out-wide-2 : tie.Need-element-copy-out-wide-2 Inv-loop μ-loop
 element-copy-out-wide-2 c = omega arith
 
--- src/lib.rt:167:17
 wide-requires-2 : tie.Need-wide-requires-2 Inv-loop μ-loop
 wide-requires-2 c κs = tt
 
--- src/lib.rt:167:17
 sub-j : tie.Need-sub-j Inv-loop μ-loop
 sub-j c = rw (c .wide2 .ensures) (stored-ends (c .before .before .before .before .before .before .args .n) (c .before .before .before .before .before .before .args .values .now) (c .before .before .before .before .before .before .args .m) (kept-of (c .before .before .before .before .before .before .args .n) (storedBond (c .before .before .before .before .before .before .args .values .now)) (c .before .before .before .before .before .before .args .m) (c .before .before .before .before .before .before .pre .0) (c .before .before .before .before .before .before .pre .2) (c .before .before .before .before .before .before .pre .3)) (c .before .before .before .before .before .loop .k) (c .before .before .before .before .loop-test .taken) .2)
 
--- src/lib.rt:168:12
 linked-requires : tie.Need-linked-requires Inv-loop μ-loop
 linked-requires c κs = let e = stored-ends (c .before .before .before .before .before .before .before .args .n) (c .before .before .before .before .before .before .before .args .values .now) (c .before .before .before .before .before .before .before .args .m) (kept-of (c .before .before .before .before .before .before .before .args .n) (storedBond (c .before .before .before .before .before .before .before .args .values .now)) (c .before .before .before .before .before .before .before .args .m) (c .before .before .before .before .before .before .before .pre .0) (c .before .before .before .before .before .before .before .pre .2) (c .before .before .before .before .before .before .before .pre .3)) (c .before .before .before .before .before .before .loop .k) (c .before .before .before .before .before .loop-test .taken) in omega (arith, c .before .before .before .wide .ensures, c .before .wide2 .ensures, c .before .before .before .before .before .before .before .pre .0)
 
--- src/lib.rt:169:13
 refused-requires : tie.Need-refused-requires Inv-loop μ-loop
 refused-requires c κs = tt
 
--- src/lib.rt:169:13
 returns : tie.Need-returns Inv-loop μ-loop
 returns c = c .refused .ensures ∙ sym (bonds-twice _ _ _ (c .before .before .before .before .before .before .before .before .before .before .pre .2) (c .before .before .before .before .before .before .before .before .before .before .pre .3) (twice-found (c .before .before .before .before .before .before .before .before .before .before .args .n) (storedBond (c .before .before .before .before .before .before .before .before .before .before .args .values .now)) (c .before .before .before .before .before .before .before .before .before .before .args .m) (kept-of (c .before .before .before .before .before .before .before .before .before .before .args .n) (storedBond (c .before .before .before .before .before .before .before .before .before .before .args .values .now)) (c .before .before .before .before .before .before .before .before .before .before .args .m) (c .before .before .before .before .before .before .before .before .before .before .pre .0) (c .before .before .before .before .before .before .before .before .before .before .pre .2) (c .before .before .before .before .before .before .before .before .before .before .pre .3)) (c .before .before .before .before .before .before .before .before .before .loop .k) (c .before .before .before .before .before .before .before .before .loop-test .taken) (sym (cell-here (c .before .before .before .before .before .before .before .before .before .before .args .values .now) (c .before .before .before .before .before .before .before .before .before .loop .k) _ _ _ (c .before .before .before .before .before .before .wide .ensures) (c .before .before .before .before .wide2 .ensures) (c .before .before .before .before .before .before .before .before .before .loop .inv .1)) ∙ sym (c .before .before .linked .ensures) ∙ c .before .if1 .taken)))
 
--- src/lib.rt:171:14
 slice-aggregate-link : tie.Need-slice-aggregate-link Inv-loop μ-loop
 slice-aggregate-link c = sym (rows-size (c .before .before .before .before .before .before .before .before .before .before .args .n) (c .before .before .before .before .before .before .before .before .before .before .args .values .now) (c .before .before .before .before .before .before .before .before .before .before .args .m) (kept-of (c .before .before .before .before .before .before .before .before .before .before .args .n) (storedBond (c .before .before .before .before .before .before .before .before .before .before .args .values .now)) (c .before .before .before .before .before .before .before .before .before .before .args .m) (c .before .before .before .before .before .before .before .before .before .before .pre .0) (c .before .before .before .before .before .before .before .before .before .before .pre .2) (c .before .before .before .before .before .before .before .before .before .before .pre .3)) (c .before .before .before .before .before .before .before .before .before .loop .k) _ (c .before .before .before .before .before .before .before .before .before .loop .inv .0) (c .before .before .before .before .before .before .before .before .before .loop .inv .1))
 
--- src/lib.rt:171:9
 link-requires : tie.Need-link-requires Inv-loop μ-loop
 link-requires c κs = let e = stored-ends (c .before .before .before .before .before .before .before .before .before .before .args .n) (c .before .before .before .before .before .before .before .before .before .before .args .values .now) (c .before .before .before .before .before .before .before .before .before .before .args .m) (kept-of (c .before .before .before .before .before .before .before .before .before .before .args .n) (storedBond (c .before .before .before .before .before .before .before .before .before .before .args .values .now)) (c .before .before .before .before .before .before .before .before .before .before .args .m) (c .before .before .before .before .before .before .before .before .before .before .pre .0) (c .before .before .before .before .before .before .before .before .before .before .pre .2) (c .before .before .before .before .before .before .before .before .before .before .pre .3)) (c .before .before .before .before .before .before .before .before .before .loop .k) (c .before .before .before .before .before .before .before .before .loop-test .taken) in (omega (arith, c .before .before .before .before .before .before .wide .ensures, c .before .before .before .before .before .before .before .before .before .before .pre .0), omega (arith, c .before .before .before .before .wide2 .ensures, c .before .before .before .before .before .before .before .before .before .before .pre .0), rows-size (c .before .before .before .before .before .before .before .before .before .before .args .n) (c .before .before .before .before .before .before .before .before .before .before .args .values .now) (c .before .before .before .before .before .before .before .before .before .before .args .m) (kept-of (c .before .before .before .before .before .before .before .before .before .before .args .n) (storedBond (c .before .before .before .before .before .before .before .before .before .before .args .values .now)) (c .before .before .before .before .before .before .before .before .before .before .args .m) (c .before .before .before .before .before .before .before .before .before .before .pre .0) (c .before .before .before .before .before .before .before .before .before .before .pre .2) (c .before .before .before .before .before .before .before .before .before .before .pre .3)) (c .before .before .before .before .before .before .before .before .before .loop .k) _ (c .before .before .before .before .before .before .before .before .before .loop .inv .0) (c .before .before .before .before .before .before .before .before .before .loop .inv .1))
 
--- src/lib.rt:172:14
 slice-aggregate-link-2 : tie.Need-slice-aggregate-link-2 Inv-loop μ-loop
 slice-aggregate-link-2 c = sym (c .before .before .link .kept .0 ∙ rows-size (c .before .before .before .before .before .before .before .before .before .before .before .before .before .args .n) (c .before .before .before .before .before .before .before .before .before .before .before .before .before .args .values .now) (c .before .before .before .before .before .before .before .before .before .before .before .before .before .args .m) (kept-of (c .before .before .before .before .before .before .before .before .before .before .before .before .before .args .n) (storedBond (c .before .before .before .before .before .before .before .before .before .before .before .before .before .args .values .now)) (c .before .before .before .before .before .before .before .before .before .before .before .before .before .args .m) (c .before .before .before .before .before .before .before .before .before .before .before .before .before .pre .0) (c .before .before .before .before .before .before .before .before .before .before .before .before .before .pre .2) (c .before .before .before .before .before .before .before .before .before .before .before .before .before .pre .3)) (c .before .before .before .before .before .before .before .before .before .before .before .before .loop .k) _ (c .before .before .before .before .before .before .before .before .before .before .before .before .loop .inv .0) (c .before .before .before .before .before .before .before .before .before .before .before .before .loop .inv .1))
 
--- src/lib.rt:172:9
 link-requires-2 : tie.Need-link-requires-2 Inv-loop μ-loop
 link-requires-2 c κs = let e = stored-ends (c .before .before .before .before .before .before .before .before .before .before .before .before .before .args .n) (c .before .before .before .before .before .before .before .before .before .before .before .before .before .args .values .now) (c .before .before .before .before .before .before .before .before .before .before .before .before .before .args .m) (kept-of (c .before .before .before .before .before .before .before .before .before .before .before .before .before .args .n) (storedBond (c .before .before .before .before .before .before .before .before .before .before .before .before .before .args .values .now)) (c .before .before .before .before .before .before .before .before .before .before .before .before .before .args .m) (c .before .before .before .before .before .before .before .before .before .before .before .before .before .pre .0) (c .before .before .before .before .before .before .before .before .before .before .before .before .before .pre .2) (c .before .before .before .before .before .before .before .before .before .before .before .before .before .pre .3)) (c .before .before .before .before .before .before .before .before .before .before .before .before .loop .k) (c .before .before .before .before .before .before .before .before .before .before .before .loop-test .taken) in (omega (arith, c .before .before .before .before .before .before .before .wide2 .ensures, c .before .before .before .before .before .before .before .before .before .before .before .before .before .pre .0), omega (arith, c .before .before .before .before .before .before .before .before .before .wide .ensures, c .before .before .before .before .before .before .before .before .before .before .before .before .before .pre .0), c .before .before .link .kept .0 ∙ rows-size (c .before .before .before .before .before .before .before .before .before .before .before .before .before .args .n) (c .before .before .before .before .before .before .before .before .before .before .before .before .before .args .values .now) (c .before .before .before .before .before .before .before .before .before .before .before .before .before .args .m) (kept-of (c .before .before .before .before .before .before .before .before .before .before .before .before .before .args .n) (storedBond (c .before .before .before .before .before .before .before .before .before .before .before .before .before .args .values .now)) (c .before .before .before .before .before .before .before .before .before .before .before .before .before .args .m) (c .before .before .before .before .before .before .before .before .before .before .before .before .before .pre .0) (c .before .before .before .before .before .before .before .before .before .before .before .before .before .pre .2) (c .before .before .before .before .before .before .before .before .before .before .before .before .before .pre .3)) (c .before .before .before .before .before .before .before .before .before .before .before .before .loop .k) _ (c .before .before .before .before .before .before .before .before .before .before .before .before .loop .inv .0) (c .before .before .before .before .before .before .before .before .before .before .before .before .loop .inv .1))
 
--- src/lib.rt:173:9
 add-k : tie.Need-add-k Inv-loop μ-loop
 add-k c = omega arith
 
--- src/lib.rt:165:5
 loop-less : tie.Need-loop-less Inv-loop μ-loop
 loop-less c = omega arith
 
--- src/lib.rt:165:5
 loop-again : tie.Need-loop-again Inv-loop μ-loop
 loop-again c = (
   omega arith,
@@ -122,7 +94,6 @@ loop-again c = (
   twice-none (c .before .before .before .before .before .before .before .before .before .before .before .before .before .before .before .args .n) (storedBond (c .before .before .before .before .before .before .before .before .before .before .before .before .before .before .before .args .values .now)) (c .before .before .before .before .before .before .before .before .before .before .before .before .before .before .before .args .m) (kept-of (c .before .before .before .before .before .before .before .before .before .before .before .before .before .before .before .args .n) (storedBond (c .before .before .before .before .before .before .before .before .before .before .before .before .before .before .before .args .values .now)) (c .before .before .before .before .before .before .before .before .before .before .before .before .before .before .before .args .m) (c .before .before .before .before .before .before .before .before .before .before .before .before .before .before .before .pre .0) (c .before .before .before .before .before .before .before .before .before .before .before .before .before .before .before .pre .2) (c .before .before .before .before .before .before .before .before .before .before .before .before .before .before .before .pre .3)) (c .before .before .before .before .before .before .before .before .before .before .before .before .before .before .loop .k) (c .before .before .before .before .before .before .before .before .before .before .before .before .before .loop-test .taken) (sym (cell-here (c .before .before .before .before .before .before .before .before .before .before .before .before .before .before .before .args .values .now) (c .before .before .before .before .before .before .before .before .before .before .before .before .before .before .loop .k) _ _ _ (c .before .before .before .before .before .before .before .before .before .before .before .wide .ensures) (c .before .before .before .before .before .before .before .before .before .wide2 .ensures) (c .before .before .before .before .before .before .before .before .before .before .before .before .before .before .loop .inv .1)) ∙ sym (c .before .before .before .before .before .before .before .linked .ensures) ∙ c .before .before .before .before .before .before .if1 .left) (c .before .before .before .before .before .before .before .before .before .before .before .before .before .before .loop .inv .2),
 )
 
--- src/lib.rt:159:1
 returns-2 : tie.Need-returns-2 Inv-loop μ-loop
 returns-2 c = bonds-done _ _ _ _ _ (c .before .before .pre .2) (c .before .before .pre .3) (c .before .loop .inv .0) (c .loop-test .left) (c .before .loop .inv .2) (c .before .loop .inv .1)
 

@@ -1,3 +1,5 @@
+-- Rule 7 over the stored bonds.
+-- Invariant: the bonds passed join different atoms.
 use Prim.Native.Nat.{_-_, _≤_}
 use mathlib.Core.Path.{_≡_, refl, sym, _∙_}
 use mathlib.Core.Bool.{true}
@@ -5,13 +7,10 @@ use native.Mathlib.Omega.{arith}
 use borrow.Author.Needs.{needs}
 use Rattle.graph.specs.Every.{allBelow}
 use Rattle.graph.proofs.Loops.{all-fails, all-more, all-done}
-use Rattle.sheet.specs.Bonds.{noneToItself}
 use Rattle.sheet.specs.Parts.{storedBond}
 use Rattle.sheet.proofs.Stored.{differs, differs-yes, differs-no, none-to-itself-is}
 use Rattle.sheet.proofs.none_to_itself.Statement.{statement}
 use Rattle.sheet.proofs.none_to_itself.Tie as tie
-use Rattle.sheet.proofs.none_to_itself.Reads as reads
-use Rattle.sheet.proofs.none_to_itself.Lts as lts
 
 abbrev Inv-loop : tie.InvT-loop
 Inv-loop values m k₀ k = (k ≤ m) × (allBelow k (differs (storedBond values)) ≡ true)
@@ -19,63 +18,48 @@ Inv-loop values m k₀ k = (k ≤ m) × (allBelow k (differs (storedBond values)
 abbrev μ-loop : tie.MeasureT-loop
 μ-loop values m k₀ k = m - k
 
--- src/lib.rt:134:5
 loop-holds : tie.Need-loop-holds Inv-loop μ-loop
 loop-holds c = (search needs, refl)
 
--- src/lib.rt:135:24
 add-if1 : tie.Need-add-if1 Inv-loop μ-loop
 add-if1 c = omega arith
 
--- src/lib.rt:135:19
 mul-if1 : tie.Need-mul-if1 Inv-loop μ-loop
 mul-if1 c = omega arith
 
--- src/lib.rt:135:12
 mul-if1-2 : tie.Need-mul-if1-2 Inv-loop μ-loop
 mul-if1-2 c = omega arith
 
--- src/lib.rt:135:12
 element-copy-out-if1 : tie.Need-element-copy-out-if1 Inv-loop μ-loop
 element-copy-out-if1 c = omega arith
 
--- src/lib.rt:135:47
 add-if1-2 : tie.Need-add-if1-2 Inv-loop μ-loop
 add-if1-2 c = omega arith
 
--- src/lib.rt:135:42
 mul-if1-3 : tie.Need-mul-if1-3 Inv-loop μ-loop
 mul-if1-3 c = omega arith
 
--- src/lib.rt:135:42
 add-if1-3 : tie.Need-add-if1-3 Inv-loop μ-loop
 add-if1-3 c = omega arith
 
--- src/lib.rt:135:35
 mul-if1-4 : tie.Need-mul-if1-4 Inv-loop μ-loop
 mul-if1-4 c = omega arith
 
--- src/lib.rt:135:35
 element-copy-out-if1-2 : tie.Need-element-copy-out-if1-2 Inv-loop μ-loop
 element-copy-out-if1-2 c = omega arith
 
--- src/lib.rt:136:13
 returns : tie.Need-returns Inv-loop μ-loop
 returns c = sym (none-to-itself-is _ _ ∙ all-fails _ (differs _) _ (c .before .before .before .loop-test .taken) (differs-no (c .before .before .before .before .before .args .values .now) (c .before .before .before .before .loop .k) (c .if1 .taken)))
 
--- src/lib.rt:138:9
 add-k : tie.Need-add-k Inv-loop μ-loop
 add-k c = omega arith
 
--- src/lib.rt:134:5
 loop-less : tie.Need-loop-less Inv-loop μ-loop
 loop-less c = omega arith
 
--- src/lib.rt:134:5
 loop-again : tie.Need-loop-again Inv-loop μ-loop
 loop-again c = (omega arith, all-more _ (differs _) (c .before .before .before .before .loop .inv .1) (differs-yes (c .before .before .before .before .before .args .values .now) (c .before .before .before .before .loop .k) (c .if1 .left)))
 
--- src/lib.rt:129:1
 returns-2 : tie.Need-returns-2 Inv-loop μ-loop
 returns-2 c = sym (none-to-itself-is _ _ ∙ all-done _ _ (differs _) (c .before .loop .inv .0) (c .loop-test .left) (c .before .loop .inv .1))
 

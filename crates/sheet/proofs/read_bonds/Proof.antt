@@ -1,45 +1,33 @@
+-- Rules 6, 7 and 8.
+-- Each return by the rule that was broken first.
 use mathlib.Core.Path.{sym, _∙_}
 use borrow.Author.Tests.{not-true, not-false}
 use Rattle.sheet.proofs.Answers.{bonds-out, bonds-self}
 use borrow.Author.Needs.{needs}
 use Rattle.sheet.proofs.read_bonds.Statement.{statement}
 use Rattle.sheet.proofs.read_bonds.Tie as tie
-use Rattle.sheet.proofs.read_bonds.Reads as reads
-use Rattle.sheet.proofs.read_bonds.Lts as lts
-use Rattle.sheet.proofs.atoms_kept.Reads as atoms-kept-reads
-use Rattle.sheet.proofs.fill.Reads as fill-reads
-use Rattle.sheet.proofs.none_to_itself.Reads as none-to-itself-reads
-use Rattle.sheet.proofs.refused.Reads as refused-reads
 
--- src/lib.rt:191:9
 atoms-kept-requires : tie.Need-atoms-kept-requires
 atoms-kept-requires c κs = search needs
 
--- src/lib.rt:192:9
 refused-requires : tie.Need-refused-requires
 refused-requires c κs = search needs
 
--- src/lib.rt:192:9
 returns : tie.Need-returns
 returns c = c .refused .ensures ∙ sym (bonds-out _ _ _ (sym (c .before .before .atoms-kept .ensures) ∙ not-true _ (c .before .if1 .taken)))
 
--- src/lib.rt:194:9
 none-to-itself-requires : tie.Need-none-to-itself-requires
 none-to-itself-requires c κs = search needs
 
--- src/lib.rt:195:9
 refused-requires-2 : tie.Need-refused-requires-2
 refused-requires-2 c κs = search needs
 
--- src/lib.rt:195:9
 returns-2 : tie.Need-returns-2
 returns-2 c = c .refused2 .ensures ∙ sym (bonds-self _ _ _ (sym (c .before .before .before .before .atoms-kept .ensures) ∙ not-false _ (c .before .before .before .if1 .left)) (sym (c .before .before .none-to-itself .ensures) ∙ not-true _ (c .before .if2 .taken)))
 
--- src/lib.rt:197:5
 fill-requires : tie.Need-fill-requires
 fill-requires c κs = (c .before .before .before .before .pre .0, c .before .before .before .before .pre .1, (sym (c .before .before .before .atoms-kept .ensures) ∙ not-false _ (c .before .before .if1 .left)), (sym (c .before .none-to-itself .ensures) ∙ not-false _ (c .if2 .left)))
 
--- src/lib.rt:187:1
 returns-3 : tie.Need-returns-3
 returns-3 c = search needs
 

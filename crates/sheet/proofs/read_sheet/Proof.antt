@@ -1,3 +1,5 @@
+-- The whole reader, rules 1 to 8 in their order.
+-- Each return by the rule that was broken first; the stored numbers are the sheet's.
 use Prim.Native.Nat.{suc, _*_}
 use mathlib.Core.Path.{_≡_, refl, ap₂, sym, _∙_}
 use lib.ListN.{length}
@@ -8,62 +10,43 @@ use Rattle.sheet.proofs.Answers.{sheet-short, sheet-ragged, sheet-bytes
 use borrow.Author.Needs.{needs}
 use Rattle.sheet.proofs.read_sheet.Statement.{statement}
 use Rattle.sheet.proofs.read_sheet.Tie as tie
-use Rattle.sheet.proofs.read_sheet.Reads as reads
-use Rattle.sheet.proofs.read_sheet.Lts as lts
-use Rattle.sheet.proofs.decode.Reads as decode-reads
-use Rattle.sheet.proofs.read_bonds.Reads as read-bonds-reads
-use Rattle.sheet.proofs.refused.Reads as refused-reads
-use Rattle.sheet.proofs.wide.Reads as wide-reads
 
--- src/lib.rt:205:9
 refused-requires : tie.Need-refused-requires
 refused-requires c κs = search needs
 
--- src/lib.rt:205:9
 returns : tie.Need-returns
 returns c = c .refused .ensures ∙ sym (sheet-short _ (c .before .if1 .taken))
 
--- src/lib.rt:208:9
 refused-requires-2 : tie.Need-refused-requires-2
 refused-requires-2 c κs = search needs
 
--- src/lib.rt:208:9
 returns-2 : tie.Need-returns-2
 returns-2 c = c .refused2 .ensures ∙ sym (sheet-ragged (c .before .before .before .before .args .s .now) (c .before .before .if1 .left) (c .before .if2 .taken))
 
--- src/lib.rt:210:9
 decode-requires : tie.Need-decode-requires
 decode-requires c κs = search needs
 
--- src/lib.rt:212:9
 refused-requires-3 : tie.Need-refused-requires-3
 refused-requires-3 c κs = search needs
 
--- src/lib.rt:212:9
 returns-3 : tie.Need-returns-3
 returns-3 c = c .refused3 .ensures ∙ sym (sheet-bytes (c .before .before .before .before .before .before .before .args .s .now) (c .before .before .before .before .before .if1 .left) (c .before .before .before .before .if2 .left) (sym (c .before .before .before .decode .ensures .ok) ∙ not-true _ (c .before .if3 .taken)))
 
--- src/lib.rt:215:18
 array-read-wide : tie.Need-array-read-wide
 array-read-wide c = search needs
 
--- src/lib.rt:215:9
 wide-requires : tie.Need-wide-requires
 wide-requires c κs = search needs
 
--- src/lib.rt:216:18
 array-read-wide-2 : tie.Need-array-read-wide-2
 array-read-wide-2 c = search needs
 
--- src/lib.rt:216:9
 wide-requires-2 : tie.Need-wide-requires-2
 wide-requires-2 c κs = search needs
 
--- src/lib.rt:218:9
 refused-requires-4 : tie.Need-refused-requires-4
 refused-requires-4 c κs = search needs
 
--- src/lib.rt:218:9
 returns-4 : tie.Need-returns-4
 returns-4 c =
     let s = c .before .before .before .before .before .before .before .before .before .before .before .args .s .now in
@@ -75,11 +58,9 @@ returns-4 c =
     let n : c .before .before .before .wide .result ≡ atomsOf s = c .before .before .before .wide .ensures ∙ stored-atoms s _ decodes long in
     c .refused4 .ensures ∙ sym (sheet-atoms s long whole lines (rw n at (c .before .if4 .taken)))
 
--- src/lib.rt:221:9
 refused-requires-5 : tie.Need-refused-requires-5
 refused-requires-5 c κs = search needs
 
--- src/lib.rt:221:9
 returns-5 : tie.Need-returns-5
 returns-5 c =
     let s = c .before .before .before .before .before .before .before .before .before .before .before .before .args .s .now in
@@ -93,19 +74,15 @@ returns-5 c =
     let few = rw n at (c .before .before .if4 .left) in
     c .refused5 .ensures ∙ sym (sheet-bonds s long whole lines few (rw m at (c .before .if5 .taken)))
 
--- src/lib.rt:223:24
 add-if6 : tie.Need-add-if6
 add-if6 c = search needs
 
--- src/lib.rt:223:19
 mul-if6 : tie.Need-mul-if6
 mul-if6 c = search needs
 
--- src/lib.rt:224:9
 refused-requires-6 : tie.Need-refused-requires-6
 refused-requires-6 c κs = search needs
 
--- src/lib.rt:224:9
 returns-6 : tie.Need-returns-6
 returns-6 c =
     let s = c .before .before .before .before .before .before .before .before .before .before .before .before .before .args .s .now in
@@ -120,11 +97,9 @@ returns-6 c =
     let light = rw m at (c .before .before .if5 .left) in
     c .refused6 .ensures ∙ sym (sheet-size s long whole lines few light (λ e. c .before .if6 .taken (e ∙ size-same _ _ m)))
 
--- src/lib.rt:226:5
 read-bonds-requires : tie.Need-read-bonds-requires
 read-bonds-requires c κs = search needs
 
--- src/lib.rt:201:1
 returns-7 : tie.Need-returns-7
 returns-7 c =
     let s = c .before .before .before .before .before .before .before .before .before .before .before .before .before .before .args .s .now in
