@@ -2,7 +2,11 @@
 use Prim.Native.Nat.{ℕ}
 use mathlib.Core.Bool.{Bool, false, _&&_, _||_}
 use mathlib.Core.List.{List, [], _∷_}
+use lib.ListN.{length}
 use lib.Dec.{eqb}
+use Rattle.molecule.specs.declared.Molecule.{Molecule}
+use Rattle.sheet.specs.Bonds.{rowsOf}
+use Rattle.sheet.specs.Text.{bondAt}
 use Rattle.graph.specs.Chordless.{Adjacency}
 use Rattle.enumeration.specs.Words.{Family}
 use Rattle.chordless.specs.Families.{rings, paths}
@@ -17,6 +21,10 @@ unfoldable pub bondedBy : List (ℕ × ℕ) → Adjacency
 bondedBy [] a b = false
 bondedBy (bond ∷ rest) a b =
     eqb (bond .0) a && eqb (bond .1) b || eqb (bond .0) b && eqb (bond .1) a || bondedBy rest a b
+
+-- the molecule record of the sheet, for its mark
+abbrev pub recordFor : Sheet → Molecule
+recordFor m = record { atoms = m .atoms; bonds = length (m .bonds); rows = rowsOf (bondAt (m .bonds)) (length (m .bonds)) }
 
 abbrev pub ringsOf : Sheet → Family
 ringsOf m = rings (m .atoms) (bondedBy (m .bonds))

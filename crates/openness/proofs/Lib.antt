@@ -1,0 +1,9 @@
+pub mod Sets
+pub mod Arrays
+pub mod Rings
+pub mod Paths
+pub mod Plans
+pub mod Opens
+pub mod Checks
+pub mod Molecules
+pub mod Starts

@@ -1,0 +1,42 @@
+-- What a trial finds at a beginning, as two sets of atoms, over the word table of a molecule's rows.
+use Prim.Native.Nat.{ℕ, _≤_}
+use mathlib.Core.Path.{_≡_}
+use mathlib.Core.Bool.{Bool, true, cond}
+use mathlib.Core.List.{List, [], _∷_, _++_}
+use lib.ListN.{length, take}
+use lib.Dec.{eqb}
+use Rattle.enumeration.specs.Words.{Family, isOpen}
+use Rattle.chordless.specs.Families.{rings, paths}
+use Rattle.chordless.specs.Reach.{Irreflexive}
+use Rattle.atomset.specs.Set.{has, linkedBy}
+use Rattle.sweep.specs.Swept.{Symmetric}
+use Rattle.search.specs.Place.{kindKept}
+use Rattle.openness.specs.declared.Plan.{Plan}
+
+-- The family of a kind over a word table
+unfoldable pub familyBy : ℕ → List ℕ → ℕ → ℕ → ℕ → Family
+familyBy n table kind s t = cond (eqb kind 0) (rings n (linkedBy table)) (paths n (linkedBy table) s t)
+
+-- a word table of n atoms
+pub record Words (n : ℕ) (table : List ℕ) : Type 0 where
+  pub few : n ≤ 128
+  pub symmetric : Symmetric (linkedBy table)
+  pub irreflexive : Irreflexive n (linkedBy table)
+
+-- The sets tell whether the beginning p with v added is a member, and whether it is open
+pub record Tells (F : Family) (p : List ℕ) (plan : Plan) (v : ℕ) : Type 0 where
+  pub members : has (plan .members) v ≡ F .member (p ++ v ∷ [])
+  pub opens : has (plan .opens) v ≡ isOpen F (p ++ v ∷ [])
+
+-- They tell it of the next atom c, and of every atom where p has two atoms or more
+pub record Planned (F : Family) (p : List ℕ) (c : ℕ) (plan : Plan) : Type 0 where
+  pub next : Tells F p plan c
+  pub every : 2 ≤ length p → (v : ℕ) → Tells F p plan v
+
+-- an open beginning of a search in its array
+pub record Beginning (n : ℕ) (table : List ℕ) (kind s t : ℕ) (prefix : List ℕ) (len : ℕ) : Type 0 where
+  pub words : Words n table
+  pub kinds : kindKept n kind s t ≡ true
+  pub size : length prefix ≡ 128
+  pub short : len ≤ 127
+  pub isOpened : isOpen (familyBy n table kind s t) (take len prefix) ≡ true
