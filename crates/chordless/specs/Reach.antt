@@ -1,5 +1,5 @@
 -- Openness as reachability (document 01, after lemma 2 of document 003): what an atom must be to go on a beginning p of a ring or of a path.
--- Any adjacency in which no atom from 1 to n is bonded to itself: a bond is asked from the earlier atom of a list to the later one, as in `induces`.
+-- Any adjacency: a bond is asked from the earlier atom of a list to the later one, as in `induces`. The laws ask that it is `Irreflexive`.
 use Prim.Native.Nat.{ℕ, suc, _≤_, _<_}
 use mathlib.Core.Path.{_≡_}
 use mathlib.Core.Bool.{Bool, true, false, _&&_, _||_, not, Bool·beq}

@@ -20,7 +20,7 @@ attempt F st = cond (isDone (F .atoms) st) [] (tried st ∷ [])
 unfoldable pub newly : Family → State → List (List ℕ)
 newly F st = cond (isDone (F .atoms) st) [] (cond (F .member (tried st)) (tried st ∷ []) [])
 
--- The search after k trials
+-- The search after k trials; one that is done stays as it is
 unfoldable pub steps : Family → ℕ → State → State
 steps F zero st = st
 steps F (suc k) st = steps F k (moved F st)

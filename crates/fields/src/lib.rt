@@ -62,7 +62,7 @@ pub fn read_number(s: &[u8]) -> Number
     Number::Bad
 }
 
-// The byte of a column left of which v stands: a blank where nothing is left of it.
+// The byte of a column where v is what is left of the number: its last digit, or a blank where nothing is left.
 fn column_byte(v: u64) -> u8
     ensures { λ r. ⌜ r ≡ column v ⌝ }
 {
@@ -72,7 +72,7 @@ fn column_byte(v: u64) -> u8
     48 + (v % 10) as u8
 }
 
-// Writes a number into the whole slice, right-justified.
+// Writes a number into the whole slice, right-justified; of a number with more digits than columns the lowest digits are kept.
 pub fn write_number(out: &mut [u8], value: u64)
     ensures { λ _. ⌜ now (out .exit) ≡ fieldText (length (now (out .entry))) value ⌝ }
 {

@@ -1,1 +1,1 @@
-// Definitions alone: chordless cycles and chordless paths over any adjacency (specs/), and their laws (proofs/).
+// Definitions alone: rings and paths over any adjacency (specs/), and their laws (proofs/).

@@ -1,4 +1,5 @@
--- The calls of a host that keeps only marks: each time it restores the mark that the last save wrote, runs, and saves.
+-- The calls of a host that keeps only marks: each time it restores the mark of the search that the last run returned, runs, and saves.
+-- A host whose buffer is too short for a save has no such mark; the entry for C asks 599 bytes, which every mark fits.
 use Prim.Native.Nat.{ℕ}
 use mathlib.Core.List.{List, [], _∷_}
 use Rattle.molecule.specs.declared.Molecule.{Molecule}

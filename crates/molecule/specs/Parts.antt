@@ -1,4 +1,4 @@
--- What the parts of the record check decide. Nothing to believe: the law `rowsSound-is` relates them to rule 9.
+-- What the parts of the record check decide. Nothing to believe: the law `rows-rules` relates them to rule 9.
 use Prim.Native.Nat.{ℕ, _+_, _*_, _/_, _%_}
 use mathlib.Core.Bool.{Bool, _&&_, _||_, not}
 use mathlib.Core.List.{List}

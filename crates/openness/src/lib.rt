@@ -287,7 +287,7 @@ fn ends_kept(n: usize, s: usize, t: usize) -> bool
 }
 
 // Rule 16: whether kind, s and t go together.
-fn kind_kept(n: usize, kind: usize, s: usize, t: usize) -> bool
+pub fn kind_kept(n: usize, kind: usize, s: usize, t: usize) -> bool
     ensures { λ r. ⌜ r ≡ kindKept n kind s t ⌝ }
 {
     if kind == 0 {
@@ -303,7 +303,7 @@ fn kind_kept(n: usize, kind: usize, s: usize, t: usize) -> bool
 }
 
 // Whether the next atom is from 1 to n, or n + 1 after an empty beginning.
-fn next_kept(n: usize, len: usize, c: usize) -> bool
+pub fn next_kept(n: usize, len: usize, c: usize) -> bool
     requires { ⌜ n ≤ 128 ⌝ }
     ensures { λ r. ⌜ r ≡ nextKept n len c ⌝ }
 {
@@ -385,7 +385,7 @@ fn made(q: Search) -> Made
 }
 
 // A refusal, which returns the fresh ring search.
-fn turned_back(refusal: Refusal) -> Made
+pub fn turned_back(refusal: Refusal) -> Made
     ensures { λ r. ⌜ r ≡ turnedBack refusal ⌝ }
 {
     let q = fresh_search(0, 0, 0);

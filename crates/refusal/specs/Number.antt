@@ -26,15 +26,15 @@ numberOf Record = 9
 numberOf PathEnd = 10
 -- s equals t
 numberOf SameEnds = 11
--- a search could not be restored from any mark on this molecule
+-- a search handed to a run or a save could not be restored from any mark on this molecule
 numberOf Search = 12
--- the mark output is shorter than the mark
+-- the mark output is shorter than the mark (host entry: than 599)
 numberOf MarkRoom = 13
 -- the mark's bytes do not follow the layout
 numberOf MarkBytes = 14
 -- the mark's n or m differs from the molecule's
 numberOf MarkMolecule = 15
--- the kind, s or t is wrong
+-- the kind is not 0 or 1, or s and t are not 0 and 0 for rings, or break rule 10 or 11 for paths
 numberOf MarkKind = 16
--- p is not open, or c is out of range
+-- p is not open, or c is 0 or above n; p empty with c = n + 1 is allowed
 numberOf MarkPlace = 17

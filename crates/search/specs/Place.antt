@@ -32,7 +32,7 @@ stateOf q = record { stack = reverse (beginning q); next = q .next; trials = q .
 unfoldable pub held : List ℕ → List ℕ
 held p = p ++ replicate (128 - length p) 0
 
--- The search of a kind, s and t at a state of the machine
+-- The search of a kind, s and t at a state of the machine, whose stack has at most 128 atoms
 unfoldable pub searchAt : ℕ → ℕ → ℕ → State → Search
 searchAt kind s t st =
     record { kind = kind; s = s; t = t; len = length (st .stack); prefix = held (reverse (st .stack)); next = st .next; trials = st .trials; extensions = st .extensions; listed = st .listed }
@@ -53,7 +53,7 @@ kindKept n kind s t = eqb kind 0 && eqb s 0 && eqb t 0 || eqb kind 1 && endsKept
 unfoldable pub placeKept : Family → List ℕ → ℕ → Bool
 placeKept F p c = isOpen F p && (isAtom (F .atoms) c || isEmpty p && eqb c (suc (F .atoms)))
 
--- Rule 12 kept: the search could be restored from a mark on this molecule
+-- Rule 12 kept: the search could be restored from a mark on this molecule. The array has 128 places, as the struct says
 unfoldable pub restorable : Molecule → Search → Bool
 restorable mol q =
     leb (q .len) 127

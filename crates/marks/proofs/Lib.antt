@@ -1,0 +1,4 @@
+pub mod Splices
+pub mod Stored
+pub mod Layouts
+pub mod Answers

@@ -1,0 +1,65 @@
+-- `marks::atoms_of` meets its contract. The invariant: the array holds the first i atoms, and zeros past them.
+use Prim.Native.Nat.{_-_, _≤_}
+use mathlib.Core.Path.{_≡_, refl, ap, _∙_}
+use native.Mathlib.Omega.{arith}
+use mathlib.Core.List.{map}
+use lib.ListN.{length, length-set}
+use Rattle.search.specs.Place.{held}
+use Rattle.search.specs.Mark.{valuesAt}
+use Rattle.marks.specs.Parts.{low}
+use Rattle.marks.proofs.Stored.{atoms-none, atoms-turn}
+use Rattle.marks.proofs.atoms_of.Statement.{statement}
+use Rattle.marks.proofs.atoms_of.Tie as tie
+
+abbrev Inv-loop : tie.InvT-loop
+Inv-loop bytes k prefix₀ i₀ prefix i = (i ≤ k) × (length prefix ≡ 128) × (prefix ≡ held (map low (valuesAt bytes 90 i)))
+
+abbrev μ-loop : tie.MeasureT-loop
+μ-loop bytes k prefix₀ i₀ prefix i = k - i
+
+loop-holds : tie.Need-loop-holds Inv-loop μ-loop
+loop-holds c = (omega arith, refl, atoms-none (c .before .args .bytes .now))
+
+mul-small-at : tie.Need-mul-small-at Inv-loop μ-loop
+mul-small-at c = omega arith
+
+add-small-at : tie.Need-add-small-at Inv-loop μ-loop
+add-small-at c = omega arith
+
+small-at-requires : tie.Need-small-at-requires Inv-loop μ-loop
+small-at-requires c κs = omega arith
+
+low-byte-requires : tie.Need-low-byte-requires Inv-loop μ-loop
+low-byte-requires c κs = tt
+
+array-write-prefix : tie.Need-array-write-prefix Inv-loop μ-loop
+array-write-prefix c = omega arith
+
+add-i : tie.Need-add-i Inv-loop μ-loop
+add-i c = omega arith
+
+loop-less : tie.Need-loop-less Inv-loop μ-loop
+loop-less c = omega arith
+
+loop-again : tie.Need-loop-again Inv-loop μ-loop
+loop-again c = (omega arith, simp length-set (c .before .before .before .loop .inv .1), atoms-turn (c .before .before .before .before .before .args .bytes .now) (c .before .before .before .loop .prefix) (c .before .before .before .loop .i) (c .low-byte .result) (omega arith) (c .low-byte .ensures ∙ ap low (c .before .small-at .ensures)) (c .before .before .before .loop .inv .2))
+
+returns : tie.Need-returns Inv-loop μ-loop
+returns c = let same : c .before .loop .i ≡ c .before .before .before .args .k = omega arith in rw same at (c .before .loop .inv .2)
+
+pub atoms-of-spec : {M : Type 1} → statement M
+atoms-of-spec =
+    tie.close
+    (tie.spec
+    Inv-loop
+    μ-loop
+    loop-holds
+    mul-small-at
+    add-small-at
+    small-at-requires
+    low-byte-requires
+    array-write-prefix
+    add-i
+    loop-less
+    loop-again
+    returns)

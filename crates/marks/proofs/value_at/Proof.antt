@@ -1,0 +1,23 @@
+use mathlib.Core.Path.{ap, sym, _∙_}
+use Rattle.fields.specs.Field.{valueOf}
+use borrow.Author.Needs.{needs}
+use Rattle.marks.proofs.value_at.Statement.{statement}
+use Rattle.marks.proofs.value_at.Tie as tie
+
+number-at-requires : tie.Need-number-at-requires
+number-at-requires c κs = search needs
+
+enum-known-x : tie.Need-enum-known-x
+enum-known-x c = search needs
+
+enum-told : tie.Need-enum-told
+enum-told c = search needs
+
+returns : tie.Need-returns
+returns c = sym (ap valueOf (sym (c .before .before .before .number-at .ensures) ∙ c .before .x .given .1))
+
+returns-2 : tie.Need-returns-2
+returns-2 c = sym (ap valueOf (sym (c .before .before .number-at .ensures) ∙ c .enum-told .given .1))
+
+pub value-at-spec : {M : Type 1} → statement M
+value-at-spec = tie.close (tie.spec number-at-requires enum-known-x enum-told returns returns-2)

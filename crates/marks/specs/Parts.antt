@@ -1,0 +1,22 @@
+-- What the parts of saving and restoring hold. Nothing to believe: the contracts of both are the definitions of marks.
+use Prim.Native.Nat.{ℕ, suc, min, _+_}
+use mathlib.Core.Bool.{Bool, _&&_, _||_}
+use mathlib.Core.List.{List, _++_}
+use lib.ListN.{length, take, drop}
+use lib.Dec.{eqb}
+use Rattle.fields.specs.Field.{valueAt}
+use Rattle.molecule.specs.Record.{isAtom}
+use Rattle.search.specs.declared.Search.{Search}
+
+-- a list with a text over its bytes from a place on
+unfoldable pub spliced : ℕ → List ℕ → List ℕ → List ℕ
+spliced at text bytes = take at bytes ++ text ++ drop (at + length text) bytes
+
+-- an atom as a byte holds it: above 255 it is 255
+abbrev pub low : ℕ → ℕ
+low v = min v 255
+
+-- the search that the fields of a mark name, with its atoms in an array
+unfoldable pub searchOf : List ℕ → List ℕ → Search
+searchOf bytes prefix =
+    record { kind = valueAt 4 bytes 0; s = valueAt 4 bytes 4; t = valueAt 4 bytes 8; len = valueAt 4 bytes 20; prefix = prefix; next = valueAt 4 bytes 24; trials = valueAt 20 bytes 29; extensions = valueAt 20 bytes 49; listed = valueAt 20 bytes 69 }
