@@ -1,0 +1,5 @@
+pub mod Arrays
+pub mod Bytes
+pub mod Turns
+pub mod Trials
+pub mod Answers

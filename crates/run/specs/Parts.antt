@@ -1,0 +1,95 @@
+-- What the parts of a run promise: the place of a search in its array, a trial, a record, and the run over a word table.
+use Prim.Native.Nat.{ℕ, _≤_, _<_}
+use mathlib.Core.Path.{_≡_}
+use mathlib.Core.Bool.{Bool, true, false}
+use mathlib.Core.List.{List, _++_, reverse}
+use lib.ListN.{length, getD, take, drop}
+use Rattle.enumeration.specs.Machine.{State, unwound, act}
+use Rattle.enumeration.specs.Run.{Outcome, limit, run}
+use Rattle.enumeration.specs.Trials.{Valid}
+use Rattle.enumeration.specs.Ran.{Bounded}
+use Rattle.enumeration.specs.declared.Stop.{Stop}
+use Rattle.search.specs.declared.Search.{Search}
+use Rattle.search.specs.declared.Ended.the-variants.{Stopped}
+use Rattle.search.specs.declared.Ran.{Ran}
+use Rattle.search.specs.Place.{stateOf, kindKept}
+use Rattle.openness.specs.Plan.{familyBy, Words}
+use Rattle.run.specs.declared.Spot.{Spot}
+use Rattle.run.specs.declared.Place.{Place}
+use Rattle.run.specs.declared.Advanced.{Advanced}
+
+-- the stack of the beginning that the first `len` places of an array hold
+abbrev pub stackOf : List ℕ → ℕ → List ℕ
+stackOf prefix len = reverse (take len prefix)
+
+-- the state of a search at a place
+abbrev pub stateAt : List ℕ → Spot → State
+stateAt prefix at = record { stack = stackOf prefix (at .len); next = at .next; trials = at .trials; extensions = at .extensions; listed = at .listed }
+
+-- the place and the counts of a search
+abbrev pub spotOf : Search → Spot
+spotOf q = record { len = q .len; next = q .next; trials = q .trials; extensions = q .extensions; listed = q .listed }
+
+-- the search at a place
+abbrev pub searchHeld : ℕ → ℕ → ℕ → List ℕ → Spot → Search
+searchHeld kind s t prefix at =
+    record { kind = kind; s = s; t = t; len = at .len; prefix = prefix; next = at .next; trials = at .trials; extensions = at .extensions; listed = at .listed }
+
+-- the answer of a run of q that has stopped there
+abbrev pub stoppedAt : Search → List ℕ → Spot → Stop → ℕ → ℕ → Ran
+stoppedAt q prefix at stop used made = record { ended = Stopped stop; search = searchHeld (q .kind) (q .s) (q .t) prefix at; used = used; made = made }
+
+-- a beginning of `len` atoms in its array: the places past them hold 0
+pub record Held (prefix : List ℕ) (len : ℕ) : Type 0 where
+  pub size : length prefix ≡ 128
+  pub most : len ≤ 128
+  pub zeros : (i : ℕ) → len ≤ i → i < 128 → getD prefix i 0 ≡ 0
+
+-- the same with room for one atom more
+pub record Standing (prefix : List ℕ) (len : ℕ) : Type 0 where
+  pub within : Held prefix len
+  pub short : len ≤ 127
+
+-- the next atom is from 1 to n, and counts are below the limit
+pub record Counting (n : ℕ) (at : Spot) : Type 0 where
+  pub few : n ≤ 128
+  pub low : 1 ≤ at .next
+  pub high : at .next ≤ n
+  pub trials-less : at .trials < limit
+  pub extensions-less : at .extensions < limit
+  pub listed-less : at .listed < limit
+
+-- unwinding of the place of `from` atoms and the next atom c
+pub record Unwound (n : ℕ) (before : List ℕ) (from c : ℕ) (after : List ℕ) (place : Place) : Type 0 where
+  pub within : Held after (place .len)
+  pub place-is : (stackOf after (place .len), place .next) ≡ unwound n (stackOf before from) c
+
+-- a trial
+pub record Acted (n : ℕ) (before : List ℕ) (at : Spot) (member extends : Bool) (after : List ℕ) (r : Spot) : Type 0 where
+  pub within : Held after (r .len)
+  pub state-is : stateAt after r ≡ act n member extends (stateAt before at)
+
+-- no new plan: the beginning is as long as it was, and has two atoms or more
+pub record Stale (before after : ℕ) (stale : Bool) : Type 0 where
+  pub same : stale ≡ false → before ≡ after
+  pub long : stale ≡ false → 2 ≤ after
+
+-- a search that a run over a word table starts from
+pub record Ready (n : ℕ) (table : List ℕ) (q : Search) : Type 0 where
+  pub words : Words n table
+  pub kinds : kindKept n (q .kind) (q .s) (q .t) ≡ true
+  pub standing : Standing (q .prefix) (q .len)
+  pub valid : Valid (familyBy n table (q .kind) (q .s) (q .t)) (stateOf q)
+  pub bounded : Bounded (stateOf q)
+
+-- its outcome by the definition
+abbrev pub outcomeBy : ℕ → List ℕ → Search → ℕ → List ℕ → Outcome
+outcomeBy n table q budget out = run (familyBy n table (q .kind) (q .s) (q .t)) budget (length out) (stateOf q)
+
+-- an output after an outcome: its bytes, and then what was there
+abbrev pub runOnto : Outcome → List ℕ → List ℕ
+runOnto o out = o .bytes ++ drop (length (o .bytes)) out
+
+-- a run's answer without its search
+abbrev pub answerOf : Ran → Advanced
+answerOf r = record { ended = r .ended; used = r .used; made = r .made }
