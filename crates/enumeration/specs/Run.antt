@@ -10,6 +10,13 @@ pub use Rattle.fields.specs.Field.{limit}
 use Rattle.enumeration.specs.Words.{Family}
 use Rattle.enumeration.specs.Machine.{State, tried, isDone, trial}
 
+-- The number that the host entry returns for each stop (document 01, "Judge, host entry and `ringlist`")
+abbrev pub stopNumber : Stop → ℕ
+stopNumber Done = 101
+stopNumber Limit = 102
+stopNumber Spent = 103
+stopNumber Full = 104
+
 unfoldable pub atLimit : State → Bool
 atLimit st = eqb (st .trials) limit || eqb (st .extensions) limit || eqb (st .listed) limit
 
