@@ -42,6 +42,49 @@ uint64_t flat_read_field(const uint8_t *field, size_t field_len);
    those digits are zero). */
 void flat_write_field(uint8_t *field, size_t field_len, uint64_t value);
 
+/* Searches. `rows` are the 2,048 bytes of a molecule record's rows. `numbers`
+   are 10 numbers: kind, s, t, length of p, next atom c, trials, extensions,
+   listed, used, made; `prefix` are 128 bytes: the atoms of p, then zeros. A
+   search is all of these but used and made, which are only results. Each
+   function below returns 200 when rows_len is not 2,048, numbers_len not 10 or
+   prefix_len not 128; that, and every refusal, writes nothing. */
+
+/* 0: the fresh search is written (used and made 0); 9 (10, 11 for paths):
+   refused. */
+uint32_t flat_start_rings(uint64_t atoms, uint64_t bonds,
+                          const uint8_t *rows, size_t rows_len,
+                          uint64_t *numbers, size_t numbers_len,
+                          uint8_t *prefix, size_t prefix_len);
+uint32_t flat_start_paths(uint64_t atoms, uint64_t bonds,
+                          const uint8_t *rows, size_t rows_len,
+                          uint64_t s, uint64_t t,
+                          uint64_t *numbers, size_t numbers_len,
+                          uint8_t *prefix, size_t prefix_len);
+
+/* Runs the search: 101 done, 102 limit, 103 spent, 104 full, with the search,
+   used and made written back and the records in out; 9 or 12: refused. */
+uint32_t flat_run(uint64_t atoms, uint64_t bonds,
+                  const uint8_t *rows, size_t rows_len,
+                  uint64_t *numbers, size_t numbers_len,
+                  uint8_t *prefix, size_t prefix_len,
+                  uint64_t budget, uint8_t *out, size_t out_len);
+
+/* Writes the mark of the search: the number of its bytes (91 + 4 * length), or
+   9, 12, 13: refused. (No mark has 200 bytes.) */
+uint32_t flat_save(uint64_t atoms, uint64_t bonds,
+                   const uint8_t *rows, size_t rows_len,
+                   const uint64_t *numbers, size_t numbers_len,
+                   const uint8_t *prefix, size_t prefix_len,
+                   uint8_t *mark, size_t mark_len);
+
+/* 0: the mark's search is written (used and made 0); 9, 14, 15, 16, 17:
+   refused. */
+uint32_t flat_restore(uint64_t atoms, uint64_t bonds,
+                      const uint8_t *rows, size_t rows_len,
+                      const uint8_t *mark, size_t mark_len,
+                      uint64_t *numbers, size_t numbers_len,
+                      uint8_t *prefix, size_t prefix_len);
+
 #ifdef __cplusplus
 }
 #endif

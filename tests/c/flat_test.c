@@ -8,6 +8,8 @@
 
 #define ROWS 2048
 #define RECORD (4 + ROWS)
+#define NUMBERS 10
+#define PLACES 128
 #define PATTERN 0xA5
 
 static unsigned checks;
@@ -454,11 +456,318 @@ static void fields(void) {
     CHECK(writes(10000, "0000"));
 }
 
+/* A search with its used and made, and the prefix. */
+typedef struct {
+    uint64_t numbers[NUMBERS];
+    uint8_t prefix[PLACES];
+} search;
+
+/* Kind, s, t, length, next atom, trials, extensions, listed, used, made. */
+static int is(const search *given, const uint64_t numbers[NUMBERS], const char *prefix) {
+    uint8_t places[PLACES] = {0};
+    memcpy(places, prefix, strlen(prefix));
+    return memcmp(given->numbers, numbers, sizeof given->numbers) == 0 &&
+           memcmp(given->prefix, places, PLACES) == 0;
+}
+
+#define IS(given, prefix, ...) \
+    CHECK(is((given), (const uint64_t[NUMBERS]){__VA_ARGS__}, (prefix)))
+
+static int same(const search *one, const search *other) {
+    return memcmp(one, other, sizeof *one) == 0;
+}
+
+static uint32_t start_rings(search *given) {
+    return flat_start_rings(4, 5, rows, ROWS, given->numbers, NUMBERS, given->prefix, PLACES);
+}
+
+static uint32_t start_paths(search *given, uint64_t s, uint64_t t) {
+    return flat_start_paths(4, 5, rows, ROWS, s, t, given->numbers, NUMBERS, given->prefix,
+                            PLACES);
+}
+
+/* Runs with an output of exactly `len` bytes, copied into `out` of 16. */
+static uint32_t run(search *given, uint64_t budget, uint8_t out[16], size_t len) {
+    memset(out, PATTERN, 16);
+    uint8_t *exactly = exact(out, len);
+    uint32_t answer = flat_run(4, 5, rows, ROWS, given->numbers, NUMBERS, given->prefix, PLACES,
+                               budget, exactly, len);
+    if (len != 0) {
+        memcpy(out, exactly, len);
+    }
+    free(exactly);
+    return answer;
+}
+
+/* Saves into a mark of `len` bytes at the start of 700. */
+static uint32_t save(const search *given, uint8_t mark[700], size_t len) {
+    memset(mark, PATTERN, 700);
+    return flat_save(4, 5, rows, ROWS, given->numbers, NUMBERS, given->prefix, PLACES, mark, len);
+}
+
+static uint32_t restore(search *given, const char *mark, size_t len) {
+    uint8_t *exactly = exact(mark, len);
+    uint32_t answer = flat_restore(4, 5, rows, ROWS, exactly, len, given->numbers, NUMBERS,
+                                   given->prefix, PLACES);
+    free(exactly);
+    return answer;
+}
+
+/* The document's mark: kind 0, s and t 0, 4 atoms, 5 bonds, 2 atoms in p, next
+   atom 3; 5 trials, 2 extensions, 0 listed; p = 1 2. Line ends included,
+   29 + 61 + 9 = 99 bytes. */
+#define LINE_1 "   0   0   0   4   5   2   3\n"
+#define LINE_2 "                   5                   2                   0\n"
+#define LINE_3 "   1   2\n"
+static const char full_mark[] = LINE_1 LINE_2 LINE_3;
+
+/* A mark refused, and the search left alone. */
+static void mark_refused(const char *mark, size_t len, uint32_t rule, int line) {
+    search given, before;
+    memset(&given, PATTERN, sizeof given);
+    before = given;
+    check_number(restore(&given, mark, len), rule, line, "answer of restore");
+    check(same(&given, &before), line, "search unchanged");
+}
+
+#define MARK_REFUSED(mark, rule) mark_refused((mark), sizeof(mark) - 1, (rule), __LINE__)
+
+/* A search refused under rule 12 by a run and by a save, with nothing
+   written. */
+static void search_refused(search given, int line) {
+    search before = given;
+    uint8_t out[16];
+    uint8_t mark[700];
+    check_number(run(&given, 9, out, 16), 12, line, "answer of run");
+    check(same(&given, &before), line, "search unchanged");
+    check(all_are(out, 16, PATTERN), line, "output unchanged");
+    check_number(save(&given, mark, 0), 12, line, "answer of save");
+    check_number(save(&given, mark, 700), 12, line, "answer of save");
+    check(all_are(mark, 700, PATTERN), line, "mark unchanged");
+}
+
+#define SEARCH_REFUSED(change)           \
+    do {                                 \
+        search wrong = full;             \
+        wrong.change;                    \
+        search_refused(wrong, __LINE__); \
+    } while (0)
+
+/* Two atoms dropped after one trial. The bonds 1-2, 2-4, 4-3, 3-1 make the ring
+   1 2 4 3; rows 1 and 4 have bits 1 and 2, rows 2 and 3 bits 0 and 3.
+     1: -    1  open   2: 1    1  no   3: 1    2  open   4 to 6: 1 2 with 1, 2, 3
+     no   7: 1 2  4  open   8, 9: 1 2 4 with 1, 2  no   10: 1 2 4  3  listed
+    11: 1 2 4  4  no; 4 is dropped, c is 5, 2 is dropped, c is 3
+    12, 13: 1 with 3, 4  no, p becomes empty   14 to 16: 2, 3, 4  no, done */
+static void four_ring(void) {
+    static const uint8_t bits[4] = {0x06, 0x09, 0x09, 0x06};
+    search now;
+    uint8_t out[5];
+    memset(rows, 0, ROWS);
+    for (int a = 0; a < 4; a++) {
+        rows[16 * a] = bits[a];
+    }
+    EQUAL(flat_start_rings(4, 4, rows, ROWS, now.numbers, NUMBERS, now.prefix, PLACES), 0);
+    EQUAL(flat_run(4, 4, rows, ROWS, now.numbers, NUMBERS, now.prefix, PLACES, 10, out, 5), 103);
+    IS(&now, "\1\2\4", 0, 0, 0, 3, 4, 10, 3, 1, 5, 10);
+    CHECK(memcmp(out, "\4\1\2\4\3", 5) == 0);
+    EQUAL(flat_run(4, 4, rows, ROWS, now.numbers, NUMBERS, now.prefix, PLACES, 1, out, 0), 103);
+    IS(&now, "\1", 0, 0, 0, 1, 3, 11, 3, 1, 0, 1);
+    EQUAL(flat_run(4, 4, rows, ROWS, now.numbers, NUMBERS, now.prefix, PLACES, 6, out, 0), 101);
+    IS(&now, "", 0, 0, 0, 0, 5, 16, 3, 1, 0, 5);
+}
+
+/* The document's sheet has the rings 1 2 3 and 1 3 4. The trials of a fresh
+   ring search, with p and the atom tried, 4 for each p (n * (extensions + 1)
+   = 4 * 4 = 16):
+     1: -    1  open     2: 1    1  no     3: 1    2  open
+     4: 1 2  1  no       5: 1 2  2  no     6: 1 2  3  listed
+     7: 1 2  4  no, p becomes 1 and c 3
+     8: 1    3  open     9: 1 3  1  no    10: 1 3  2  no
+    11: 1 3  3  no      12: 1 3  4  listed; p becomes 1 and c 4
+    13: 1    4  no, p becomes empty and c 2
+    14: -    2  no      15: -    3  no    16: -    4  no, c is 5: done */
+static void searches(void) {
+    search fresh, now, full;
+    uint8_t out[16];
+    uint8_t mark[700];
+    document_rows(rows);
+
+    memset(&fresh, PATTERN, sizeof fresh);
+    EQUAL(start_rings(&fresh), 0);
+    IS(&fresh, "", 0, 0, 0, 0, 1, 0, 0, 0, 0, 0);
+
+    /* Budget 0 ends spent. */
+    now = fresh;
+    EQUAL(run(&now, 0, out, 3), 103);
+    CHECK(same(&now, &fresh));
+    CHECK(all_are(out, 16, PATTERN));
+    /* 3 bytes: budget 5 ends spent, before it is seen that the record of 4
+       bytes does not fit; budget 6 ends full after the same 5 trials. */
+    now = fresh;
+    EQUAL(run(&now, 5, out, 3), 103);
+    IS(&now, "\1\2", 0, 0, 0, 2, 3, 5, 2, 0, 0, 5);
+    CHECK(all_are(out, 16, PATTERN));
+    full = fresh;
+    EQUAL(run(&full, 6, out, 3), 104);
+    IS(&full, "\1\2", 0, 0, 0, 2, 3, 5, 2, 0, 0, 5);
+    CHECK(all_are(out, 16, PATTERN));
+    /* Again: full at once, no trial made. */
+    now = full;
+    EQUAL(run(&now, 6, out, 3), 104);
+    IS(&now, "\1\2", 0, 0, 0, 2, 3, 5, 2, 0, 0, 0);
+    /* 4 bytes: one record, then full before the other, after trials 6 to 11. */
+    now = full;
+    EQUAL(run(&now, 100, out, 4), 104);
+    IS(&now, "\1\3", 0, 0, 0, 2, 4, 11, 3, 1, 4, 6);
+    CHECK(memcmp(out, "\3\1\2\3", 4) == 0 && all_are(out + 4, 12, PATTERN));
+    EQUAL(run(&now, 100, out, 5), 101);
+    IS(&now, "", 0, 0, 0, 0, 5, 16, 3, 2, 4, 5);
+    CHECK(memcmp(out, "\3\1\3\4", 4) == 0 && all_are(out + 4, 12, PATTERN));
+    /* 8 bytes and budget 16: done. 15: spent, though only one trial is left. */
+    now = fresh;
+    EQUAL(run(&now, 16, out, 8), 101);
+    IS(&now, "", 0, 0, 0, 0, 5, 16, 3, 2, 8, 16);
+    CHECK(memcmp(out, "\3\1\2\3\3\1\3\4", 8) == 0 && all_are(out + 8, 8, PATTERN));
+    now = fresh;
+    EQUAL(run(&now, 15, out, 8), 103);
+    IS(&now, "", 0, 0, 0, 0, 4, 15, 3, 2, 8, 15);
+    EQUAL(run(&now, 0, out, 8), 103);
+    EQUAL(run(&now, 1, out, 0), 101);
+    /* Done is tried before spent. */
+    EQUAL(run(&now, 0, out, 0), 101);
+    IS(&now, "", 0, 0, 0, 0, 5, 16, 3, 2, 0, 0);
+
+    /* The mark of the full run: exactly 99 bytes, and 98 are too few. */
+    CHECK(sizeof full_mark - 1 == 99);
+    EQUAL(save(&full, mark, 99), 99);
+    CHECK(memcmp(mark, full_mark, 99) == 0 && all_are(mark + 99, 601, PATTERN));
+    EQUAL(save(&full, mark, 700), 99);
+    CHECK(memcmp(mark, full_mark, 99) == 0 && all_are(mark + 99, 601, PATTERN));
+    EQUAL(save(&full, mark, 98), 13);
+    EQUAL(save(&full, mark, 0), 13);
+    CHECK(all_are(mark, 700, PATTERN));
+    /* Restored, it runs on as before. */
+    memset(&now, PATTERN, sizeof now);
+    EQUAL(restore(&now, full_mark, 99), 0);
+    IS(&now, "\1\2", 0, 0, 0, 2, 3, 5, 2, 0, 0, 0);
+    EQUAL(run(&now, 11, out, 8), 101);
+    IS(&now, "", 0, 0, 0, 0, 5, 16, 3, 2, 8, 11);
+    CHECK(memcmp(out, "\3\1\2\3\3\1\3\4", 8) == 0);
+    /* The mark of a done search: no atoms in line 3. */
+    EQUAL(save(&now, mark, 91), 91);
+    CHECK(memcmp(mark,
+                 "   0   0   0   4   5   0   5\n"
+                 "                  16                   3                   2\n"
+                 "\n",
+                 91) == 0);
+
+    /* Paths 2 to 4: 2 1 4 and 2 3 4, 16 trials; 1 to 3: 1 3 only, 8 trials. */
+    EQUAL(start_paths(&now, 2, 4), 0);
+    IS(&now, "", 1, 2, 4, 0, 1, 0, 0, 0, 0, 0);
+    EQUAL(run(&now, UINT64_MAX, out, 16), 101);
+    IS(&now, "", 1, 2, 4, 0, 5, 16, 3, 2, 8, 16);
+    CHECK(memcmp(out, "\3\2\1\4\3\2\3\4", 8) == 0 && all_are(out + 8, 8, PATTERN));
+    EQUAL(start_paths(&now, 1, 3), 0);
+    EQUAL(run(&now, UINT64_MAX, out, 16), 101);
+    IS(&now, "", 1, 1, 3, 0, 5, 8, 1, 1, 3, 8);
+    CHECK(memcmp(out, "\2\1\3", 3) == 0 && all_are(out + 3, 13, PATTERN));
+
+    /* Trials at the limit: limit before spent and before full, with no trial
+       made; one below: one trial more. */
+    now = full;
+    now.numbers[5] = UINT64_C(9999999999999999999);
+    EQUAL(run(&now, 0, out, 0), 102);
+    IS(&now, "\1\2", 0, 0, 0, 2, 3, UINT64_C(9999999999999999999), 2, 0, 0, 0);
+    now = full;
+    now.numbers[5] = UINT64_C(9999999999999999998);
+    EQUAL(run(&now, 1, out, 4), 102);
+    IS(&now, "\1\2", 0, 0, 0, 2, 4, UINT64_C(9999999999999999999), 2, 1, 4, 1);
+
+    /* 10 before 11; nothing written. */
+    now = full;
+    EQUAL(start_paths(&now, 0, 4), 10);
+    EQUAL(start_paths(&now, 2, 5), 10);
+    EQUAL(start_paths(&now, 5, 5), 10);
+    EQUAL(start_paths(&now, 3, 3), 11);
+    CHECK(same(&now, &full));
+
+    /* 12: kind, s, t, length, place past the length, next atom, counts, p. */
+    SEARCH_REFUSED(numbers[0] = 2);
+    SEARCH_REFUSED(numbers[0] = 1);
+    SEARCH_REFUSED(numbers[1] = 1);
+    SEARCH_REFUSED(numbers[2] = 1);
+    SEARCH_REFUSED(numbers[3] = 1);
+    SEARCH_REFUSED(numbers[3] = 3);
+    SEARCH_REFUSED(numbers[3] = 128);
+    SEARCH_REFUSED(numbers[3] = UINT64_MAX);
+    SEARCH_REFUSED(numbers[4] = 0);
+    SEARCH_REFUSED(numbers[4] = 5);
+    SEARCH_REFUSED(numbers[4] = 259);
+    SEARCH_REFUSED(numbers[5] = UINT64_C(10000000000000000000));
+    SEARCH_REFUSED(numbers[6] = UINT64_C(10000000000000000000));
+    SEARCH_REFUSED(numbers[7] = UINT64_MAX);
+    SEARCH_REFUSED(prefix[127] = 1);
+    SEARCH_REFUSED(prefix[2] = 3);
+    SEARCH_REFUSED(prefix[1] = 4);
+    SEARCH_REFUSED(prefix[0] = 0);
+
+    /* 14: the layout. */
+    MARK_REFUSED("", 14);
+    mark_refused(full_mark, 98, 14, __LINE__);
+    MARK_REFUSED(LINE_1 LINE_2 LINE_3 "\n", 14);
+    MARK_REFUSED(LINE_1 LINE_2 "   1  02\n", 14);
+    MARK_REFUSED(LINE_1 LINE_2 "   1   2 ", 14);
+    MARK_REFUSED("   0   0   0   4   5   3   3\n" LINE_2 LINE_3, 14);
+    MARK_REFUSED("   0   0   0   4   5   1   3\n" LINE_2 LINE_3, 14);
+    MARK_REFUSED("   0   0   0   4   5 128   3\n" LINE_2 LINE_3, 14);
+    MARK_REFUSED(LINE_1 "                   5                   210000000000000000000\n" LINE_3, 14);
+    /* 15: n or m. 16: kind, s, t. 17: p or c. */
+    MARK_REFUSED("   0   0   0   5   5   2   3\n" LINE_2 LINE_3, 15);
+    MARK_REFUSED("   0   0   0   4   6   2   3\n" LINE_2 LINE_3, 15);
+    MARK_REFUSED("   2   0   0   4   5   2   3\n" LINE_2 LINE_3, 16);
+    MARK_REFUSED("   0   1   3   4   5   2   3\n" LINE_2 LINE_3, 16);
+    MARK_REFUSED("   1   1   5   4   5   2   3\n" LINE_2 LINE_3, 16);
+    MARK_REFUSED("   1   1   1   4   5   2   3\n" LINE_2 LINE_3, 16);
+    MARK_REFUSED("   0   0   0   4   5   2   0\n" LINE_2 LINE_3, 17);
+    MARK_REFUSED("   0   0   0   4   5   2   5\n" LINE_2 LINE_3, 17);
+    MARK_REFUSED(LINE_1 LINE_2 "   1   4\n", 17);
+    MARK_REFUSED(LINE_1 LINE_2 "   1 258\n", 17);
+    MARK_REFUSED("   1   2   4   4   5   2   3\n" LINE_2 LINE_3, 17);
+    /* Each before the next. */
+    MARK_REFUSED("   2   0   0   5   5   2   0\n" LINE_2 "   1  02\n", 14);
+    MARK_REFUSED("   2   0   0   5   5   2   0\n" LINE_2 LINE_3, 15);
+    MARK_REFUSED("   2   0   0   4   5   2   0\n" LINE_2 LINE_3, 16);
+
+    /* 9 before all that: the bond 1-2 has lost one of its bits. */
+    rows[0] = 0x0C;
+    now = full;
+    now.numbers[0] = 2;
+    search before = now;
+    EQUAL(start_rings(&now), 9);
+    EQUAL(start_paths(&now, 0, 0), 9);
+    EQUAL(run(&now, 9, out, 16), 9);
+    CHECK(all_are(out, 16, PATTERN));
+    EQUAL(save(&now, mark, 0), 9);
+    CHECK(all_are(mark, 700, PATTERN));
+    EQUAL(restore(&now, "", 0), 9);
+    CHECK(same(&now, &before));
+    /* And wrong lengths before 9. */
+    EQUAL(flat_start_rings(4, 5, rows, ROWS - 1, now.numbers, NUMBERS, now.prefix, PLACES), 200);
+    EQUAL(flat_start_paths(4, 5, rows, ROWS, 1, 2, now.numbers, 9, now.prefix, PLACES), 200);
+    EQUAL(flat_run(4, 5, rows, ROWS, now.numbers, NUMBERS, now.prefix, 127, 1, out, 16), 200);
+    EQUAL(flat_save(4, 5, rows, ROWS, now.numbers, 0, now.prefix, PLACES, mark, 700), 200);
+    EQUAL(flat_restore(4, 5, rows, ROWS, mark, 99, now.numbers, NUMBERS, now.prefix, 0), 200);
+    CHECK(same(&now, &before));
+}
+
 int main(void) {
     sheets();
     records();
     judge();
     fields();
+    searches();
+    four_ring();
     printf("C test: %u checks, %u failed\n", checks, failures);
     return failures == 0 ? 0 : 1;
 }

@@ -1,11 +1,12 @@
--- Buffers after a copy: a whole array filled, and a record's bytes behind its head.
+-- Buffers after a copy: a whole array filled, a whole list copied word by word, and a record's bytes behind its head.
 -- From the laws of `take`, `drop` and `++`.
-use Prim.Native.Nat.{ℕ, zero, suc, _+_, _-_, _≤_}
+use Prim.Native.Nat.{ℕ, zero, suc, _+_, _-_, _≤_, _<_}
+use native.Mathlib.Numerals.{add-one}
 use native.Mathlib.Omega.{arith}
 use mathlib.Core.Path.{_≡_, refl, ap, ap₂, sym, _∙_}
 use mathlib.Core.List.{List, [], _∷_, _++_, append-nil}
-use lib.ListN.{length, take, drop, set, length-drop, length-take, length-append, drop-of-length-le}
-use lib.Seq.{take-all, take-at, drop-at}
+use lib.ListN.{length, take, drop, getD, set, length-drop, length-take, length-append, drop-of-length-le}
+use lib.Seq.{take-all, take-at, drop-at, take-suc, take-suc-set}
 use borrow.Author.Tests.{eq-eqb, ne-eqb}
 use borrow.Rule.Slice.PartMut.{putMid, postOf}
 use Rattle.refusal.specs.declared.Refusal.{Refusal}
@@ -24,6 +25,13 @@ four-set (x ∷ y ∷ z ∷ w ∷ xs) a b c d h = refl
 -- a source as long as the target fills it
 pub filled : (src dst out : List ℕ) → length dst ≤ length src → out ≡ take (length src) src ++ drop (length src) dst → out ≡ src
 filled src dst out h e = e ∙ ap₂ (λ a b. a ++ b) (take-all (length src) src (omega arith)) (drop-of-length-le dst h) ∙ append-nil src
+
+-- one word more of a source is in the target
+pub word-copied : (src dst : List ℕ) (i : ℕ) → i < length src → i < length dst → take i dst ≡ take i src → take (i + 1) (set dst i (getD src i 0)) ≡ take (i + 1) src
+word-copied src dst i in-src in-dst e = rw (add-one, take-suc-set dst i (getD src i 0) in-dst, take-suc src i 0 in-src, e)
+
+pub all-copied : (src dst : List ℕ) (i : ℕ) → length dst ≡ length src → length src ≤ i → take i dst ≡ take i src → dst ≡ src
+all-copied src dst i same past e = sym (take-all i dst (omega arith)) ∙ e ∙ take-all i src past
 
 -- rows behind a head of four bytes
 pub behind-head : (head rest rows out part : List ℕ) → length head ≡ 4 → length rest ≡ length rows → out ≡ head ++ rest → part ≡ take (length rows) rows ++ drop (length rows) (take (length out - 4) (drop 4 out)) → putMid 4 (length out - 4) out part ≡ head ++ rows

@@ -48,13 +48,13 @@ flatBytes mol = headBytes (mol .atoms) (mol .bonds) ++ mol .rows
 unfoldable pub readCode : List ℕ → List ℕ → ℕ
 readCode sheet out = cond (eqb (length out) 2052) (answerCode (readSheet sheet .answer)) wrongLength
 
--- the record's bytes where the sheet is accepted; nothing changes otherwise
-abbrev pub writtenBy : Answer → Molecule → List ℕ → List ℕ
-writtenBy Accepted mol out = flatBytes mol
-writtenBy (Refused r) mol out = out
+-- the new list where an entry accepts; nothing changes otherwise
+abbrev pub ifAccepted : Answer → List ℕ → List ℕ → List ℕ
+ifAccepted Accepted new old = new
+ifAccepted (Refused r) new old = old
 
 unfoldable pub readOutput : List ℕ → List ℕ → List ℕ
-readOutput sheet out = cond (eqb (length out) 2052) (writtenBy (readSheet sheet .answer) (readSheet sheet .molecule) out) out
+readOutput sheet out = cond (eqb (length out) 2052) (ifAccepted (readSheet sheet .answer) (flatBytes (readSheet sheet .molecule)) out) out
 
 unfoldable pub checkCode : ℕ → ℕ → List ℕ → ℕ
 checkCode atoms bonds rows = cond (eqb (length rows) 2048) (cond (wellFormed (molecule atoms bonds rows)) 0 9) wrongLength

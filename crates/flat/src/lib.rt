@@ -4,11 +4,19 @@ ghost use Prim.Native.Nat.{_≤_};
 ghost use mathlib.Core.List.{_++_};
 ghost use lib.ListN.{length, drop};
 ghost use Rattle.fields.specs.Field.{readField, fieldText};
-ghost use Rattle.flat.specs.Codes.{verdictCode, fieldCode, headBytes, flatBytes, molecule, readCode, readOutput, checkCode, ringCode, pathCode};
+ghost use Rattle.search.specs.Entries.{startRings, startPaths, runSearch, runOutput};
+ghost use Rattle.search.specs.Mark.{saveAnswer, saveOutput, restoreMark};
+ghost use Rattle.flat.specs.Codes.{wrongLength, answerCode, verdictCode, fieldCode, headBytes, flatBytes, molecule, readCode, readOutput, checkCode, ringCode, pathCode};
+ghost use Rattle.flat.specs.Searches.{sizesKept, searchFrom, numbersOf, sized, madeNumbers, madePrefix, endedCode, ranNumbers, ranPrefix, savedCode};
 use fields::Number;
 use judge::Verdict;
 use molecule::Molecule;
 use refusal::Answer;
+use search::Ended;
+use search::Made;
+use search::Ran;
+use search::Saved;
+use search::Search;
 
 fn verdict_code(v: Verdict) -> u32
     ensures { λ r. ⌜ r ≡ verdictCode v ⌝ }
@@ -136,4 +144,221 @@ pub extern "C" fn flat_write_field(field: &mut [u8], value: u64)
     ensures { λ _. ⌜ now (field .exit) ≡ fieldText (length (now (field .entry))) value ⌝ }
 {
     fields::write_number(field, value)
+}
+
+// ---- searches
+
+// Whether the rows, the numbers and the array have their lengths.
+fn sizes_kept(rows: usize, numbers: usize, prefix: usize) -> bool
+    ensures { λ r. ⌜ r ≡ sizesKept rows numbers prefix ⌝ }
+{
+    if rows != 2048 {
+        return false;
+    }
+    if numbers != 10 {
+        return false;
+    }
+    prefix == 128
+}
+
+fn copy_words(src: &[u64], dst: &mut [u64])
+    requires { ⌜ length (now dst) ≡ length (now src) ⌝ }
+    ensures { λ _. ⌜ now (dst .exit) ≡ now (src .entry) ⌝ }
+{
+    let mut i: usize = 0;
+    while i < src.len() {
+        dst[i] = src[i];
+        i += 1;
+    }
+}
+
+fn size(x: u64) -> usize
+    ensures { λ r. ⌜ r ≡ x ⌝ }
+{
+    x as usize
+}
+
+// The search that numbers and an array name.
+fn unpack(numbers: &[u64], prefix: &[u8]) -> Search
+    requires { ⌜ (length (now numbers) ≡ 10) × (length (now prefix) ≡ 128) ⌝ }
+    ensures { λ r. ⌜ r ≡ searchFrom (now (numbers .entry)) (now (prefix .entry)) ⌝ }
+{
+    let mut local = [0u8; 128];
+    bytes::copy(prefix, &mut local);
+    Search {
+        kind: size(numbers[0]),
+        s: size(numbers[1]),
+        t: size(numbers[2]),
+        len: size(numbers[3]),
+        prefix: local,
+        next: size(numbers[4]),
+        trials: numbers[5],
+        extensions: numbers[6],
+        listed: numbers[7],
+    }
+}
+
+// Writes a search, used and made over the buffers.
+fn pack(q: Search, used: usize, made: u64, numbers: &mut [u64], prefix: &mut [u8])
+    requires { ⌜ (length (now numbers) ≡ 10) × (length (now prefix) ≡ 128) ⌝ }
+    ensures { λ _. ⌜ (now (numbers .exit) ≡ numbersOf q used made) × (now (prefix .exit) ≡ q .prefix) ⌝ }
+{
+    let local = q.prefix;
+    let all = [
+        q.kind as u64,
+        q.s as u64,
+        q.t as u64,
+        q.len as u64,
+        q.next as u64,
+        q.trials,
+        q.extensions,
+        q.listed,
+        used as u64,
+        made,
+    ];
+    copy_words(&all, numbers);
+    bytes::copy(&local, prefix);
+}
+
+// Writes a made search where it was accepted.
+fn store_made(made: Made, numbers: &mut [u64], prefix: &mut [u8]) -> u32
+    requires { ⌜ (length (now numbers) ≡ 10) × (length (now prefix) ≡ 128) ⌝ }
+    ensures { λ r. ⌜ (r ≡ answerCode (made .answer)) × (now (numbers .exit) ≡ madeNumbers made (now (numbers .entry))) × (now (prefix .exit) ≡ madePrefix made (now (prefix .entry))) ⌝ }
+{
+    let answer = made.answer;
+    let q = made.search;
+    match answer {
+        Answer::Accepted => {
+            pack(q, 0, 0, numbers, prefix);
+            0
+        }
+        Answer::Refused(r) => refusal::number(r),
+    }
+}
+
+// Writes a run's search, used and made where it stopped.
+fn store_ran(ran: Ran, numbers: &mut [u64], prefix: &mut [u8]) -> u32
+    requires { ⌜ (length (now numbers) ≡ 10) × (length (now prefix) ≡ 128) ⌝ }
+    ensures { λ r. ⌜ (r ≡ endedCode (ran .ended)) × (now (numbers .exit) ≡ ranNumbers ran (now (numbers .entry))) × (now (prefix .exit) ≡ ranPrefix ran (now (prefix .entry))) ⌝ }
+{
+    let ended = ran.ended;
+    let q = ran.search;
+    match ended {
+        Ended::Stopped(stop) => {
+            pack(q, ran.used, ran.made, numbers, prefix);
+            enumeration::stop_number(stop)
+        }
+        Ended::Refused(r) => refusal::number(r),
+    }
+}
+
+// A fresh ring search.
+#[no_mangle]
+pub extern "C" fn flat_start_rings(
+    atoms: usize,
+    bonds: usize,
+    rows: &[u8],
+    numbers: &mut [u64],
+    prefix: &mut [u8],
+) -> u32
+    ensures { λ r. ⌜ r ≡ sized (now (rows .entry)) (now (numbers .entry)) (now (prefix .entry)) (answerCode (startRings (molecule atoms bonds (now (rows .entry))) .answer)) wrongLength ⌝ }
+    ensures { λ _. ⌜ now (numbers .exit) ≡ sized (now (rows .entry)) (now (numbers .entry)) (now (prefix .entry)) (madeNumbers (startRings (molecule atoms bonds (now (rows .entry)))) (now (numbers .entry))) (now (numbers .entry)) ⌝ }
+    ensures { λ _. ⌜ now (prefix .exit) ≡ sized (now (rows .entry)) (now (numbers .entry)) (now (prefix .entry)) (madePrefix (startRings (molecule atoms bonds (now (rows .entry)))) (now (prefix .entry))) (now (prefix .entry)) ⌝ }
+{
+    if !sizes_kept(rows.len(), numbers.len(), prefix.len()) {
+        return 200;
+    }
+    let made = openness::start_rings(assemble(atoms, bonds, rows));
+    store_made(made, numbers, prefix)
+}
+
+// A fresh search for the paths from s to t.
+#[no_mangle]
+pub extern "C" fn flat_start_paths(
+    atoms: usize,
+    bonds: usize,
+    rows: &[u8],
+    s: usize,
+    t: usize,
+    numbers: &mut [u64],
+    prefix: &mut [u8],
+) -> u32
+    ensures { λ r. ⌜ r ≡ sized (now (rows .entry)) (now (numbers .entry)) (now (prefix .entry)) (answerCode (startPaths (molecule atoms bonds (now (rows .entry))) s t .answer)) wrongLength ⌝ }
+    ensures { λ _. ⌜ now (numbers .exit) ≡ sized (now (rows .entry)) (now (numbers .entry)) (now (prefix .entry)) (madeNumbers (startPaths (molecule atoms bonds (now (rows .entry))) s t) (now (numbers .entry))) (now (numbers .entry)) ⌝ }
+    ensures { λ _. ⌜ now (prefix .exit) ≡ sized (now (rows .entry)) (now (numbers .entry)) (now (prefix .entry)) (madePrefix (startPaths (molecule atoms bonds (now (rows .entry))) s t) (now (prefix .entry))) (now (prefix .entry)) ⌝ }
+{
+    if !sizes_kept(rows.len(), numbers.len(), prefix.len()) {
+        return 200;
+    }
+    let made = openness::start_paths(assemble(atoms, bonds, rows), s, t);
+    store_made(made, numbers, prefix)
+}
+
+// Runs a search; used and made are not read.
+#[no_mangle]
+pub extern "C" fn flat_run(
+    atoms: usize,
+    bonds: usize,
+    rows: &[u8],
+    numbers: &mut [u64],
+    prefix: &mut [u8],
+    budget: u64,
+    out: &mut [u8],
+) -> u32
+    ensures { λ r. ⌜ r ≡ sized (now (rows .entry)) (now (numbers .entry)) (now (prefix .entry)) (endedCode (runSearch (molecule atoms bonds (now (rows .entry))) (searchFrom (now (numbers .entry)) (now (prefix .entry))) budget (now (out .entry)) .ended)) wrongLength ⌝ }
+    ensures { λ _. ⌜ now (numbers .exit) ≡ sized (now (rows .entry)) (now (numbers .entry)) (now (prefix .entry)) (ranNumbers (runSearch (molecule atoms bonds (now (rows .entry))) (searchFrom (now (numbers .entry)) (now (prefix .entry))) budget (now (out .entry))) (now (numbers .entry))) (now (numbers .entry)) ⌝ }
+    ensures { λ _. ⌜ now (prefix .exit) ≡ sized (now (rows .entry)) (now (numbers .entry)) (now (prefix .entry)) (ranPrefix (runSearch (molecule atoms bonds (now (rows .entry))) (searchFrom (now (numbers .entry)) (now (prefix .entry))) budget (now (out .entry))) (now (prefix .entry))) (now (prefix .entry)) ⌝ }
+    ensures { λ _. ⌜ now (out .exit) ≡ sized (now (rows .entry)) (now (numbers .entry)) (now (prefix .entry)) (runOutput (molecule atoms bonds (now (rows .entry))) (searchFrom (now (numbers .entry)) (now (prefix .entry))) budget (now (out .entry))) (now (out .entry)) ⌝ }
+{
+    if !sizes_kept(rows.len(), numbers.len(), prefix.len()) {
+        return 200;
+    }
+    let q = unpack(numbers, prefix);
+    let ran = run::run(assemble(atoms, bonds, rows), q, budget, out);
+    store_ran(ran, numbers, prefix)
+}
+
+// Saves a search as a mark.
+#[no_mangle]
+pub extern "C" fn flat_save(
+    atoms: usize,
+    bonds: usize,
+    rows: &[u8],
+    numbers: &[u64],
+    prefix: &[u8],
+    mark: &mut [u8],
+) -> u32
+    ensures { λ r. ⌜ r ≡ sized (now (rows .entry)) (now (numbers .entry)) (now (prefix .entry)) (savedCode (saveAnswer (molecule atoms bonds (now (rows .entry))) (searchFrom (now (numbers .entry)) (now (prefix .entry))) (now (mark .entry)))) wrongLength ⌝ }
+    ensures { λ _. ⌜ now (mark .exit) ≡ sized (now (rows .entry)) (now (numbers .entry)) (now (prefix .entry)) (saveOutput (molecule atoms bonds (now (rows .entry))) (searchFrom (now (numbers .entry)) (now (prefix .entry))) (now (mark .entry))) (now (mark .entry)) ⌝ }
+{
+    if !sizes_kept(rows.len(), numbers.len(), prefix.len()) {
+        return 200;
+    }
+    let q = unpack(numbers, prefix);
+    let saved = marks::save(assemble(atoms, bonds, rows), q, mark);
+    match saved {
+        Saved::Written(k) => k as u32,
+        Saved::Refused(r) => refusal::number(r),
+    }
+}
+
+// Restores a search from a mark.
+#[no_mangle]
+pub extern "C" fn flat_restore(
+    atoms: usize,
+    bonds: usize,
+    rows: &[u8],
+    mark: &[u8],
+    numbers: &mut [u64],
+    prefix: &mut [u8],
+) -> u32
+    ensures { λ r. ⌜ r ≡ sized (now (rows .entry)) (now (numbers .entry)) (now (prefix .entry)) (answerCode (restoreMark (molecule atoms bonds (now (rows .entry))) (now (mark .entry)) .answer)) wrongLength ⌝ }
+    ensures { λ _. ⌜ now (numbers .exit) ≡ sized (now (rows .entry)) (now (numbers .entry)) (now (prefix .entry)) (madeNumbers (restoreMark (molecule atoms bonds (now (rows .entry))) (now (mark .entry))) (now (numbers .entry))) (now (numbers .entry)) ⌝ }
+    ensures { λ _. ⌜ now (prefix .exit) ≡ sized (now (rows .entry)) (now (numbers .entry)) (now (prefix .entry)) (madePrefix (restoreMark (molecule atoms bonds (now (rows .entry))) (now (mark .entry))) (now (prefix .entry))) (now (prefix .entry)) ⌝ }
+{
+    if !sizes_kept(rows.len(), numbers.len(), prefix.len()) {
+        return 200;
+    }
+    let made = marks::restore(assemble(atoms, bonds, rows), mark);
+    store_made(made, numbers, prefix)
 }

@@ -3,3 +3,4 @@ pub mod Bytes
 pub mod Turns
 pub mod Trials
 pub mod Answers
+pub mod Gaps

@@ -1,9 +1,10 @@
 -- What the parts of a run promise: the place of a search in its array, a trial, a record, and the run over a word table.
-use Prim.Native.Nat.{ℕ, _≤_, _<_}
+use Prim.Native.Nat.{ℕ, _+_, _≤_, _<_}
 use mathlib.Core.Path.{_≡_}
 use mathlib.Core.Bool.{Bool, true, false}
 use mathlib.Core.List.{List, _++_, reverse}
 use lib.ListN.{length, getD, take, drop}
+use lib.Dec.{eqb}
 use Rattle.enumeration.specs.Machine.{State, unwound, act}
 use Rattle.enumeration.specs.Run.{Outcome, limit, run}
 use Rattle.enumeration.specs.Trials.{Valid}
@@ -13,6 +14,8 @@ use Rattle.search.specs.declared.Search.{Search}
 use Rattle.search.specs.declared.Ended.the-variants.{Stopped}
 use Rattle.search.specs.declared.Ran.{Ran}
 use Rattle.search.specs.Place.{stateOf, kindKept}
+use Rattle.atomset.specs.Set.{has}
+use Rattle.openness.specs.declared.Plan.{Plan}
 use Rattle.openness.specs.Plan.{familyBy, Words}
 use Rattle.run.specs.declared.Spot.{Spot}
 use Rattle.run.specs.declared.Place.{Place}
@@ -68,6 +71,30 @@ pub record Unwound (n : ℕ) (before : List ℕ) (from c : ℕ) (after : List �
 pub record Acted (n : ℕ) (before : List ℕ) (at : Spot) (member extends : Bool) (after : List ℕ) (r : Spot) : Type 0 where
   pub within : Held after (r .len)
   pub state-is : stateAt after r ≡ act n member extends (stateAt before at)
+
+-- c and so many atoms after it, all below n, neither make a member nor open a beginning
+pub record Gap (found : Plan) (c n k : ℕ) : Type 0 where
+  pub within : c + k ≤ n
+  pub idle : (i : ℕ) → i < k → (has (found .members) (c + i) ≡ false) × (has (found .opens) (c + i) ≡ false)
+
+-- k trials that only raise the next atom, and that no test stops
+pub record Skips (found : Plan) (stale : Bool) (at : Spot) (n k : ℕ) : Type 0 where
+  pub fresh : stale ≡ false
+  pub long : 2 ≤ at .len
+  pub gap : Gap found (at .next) n k
+  pub trials-most : at .trials + k ≤ limit
+  pub extensions-other : eqb (at .extensions) limit ≡ false
+  pub listed-other : eqb (at .listed) limit ≡ false
+
+-- there are k such trials, within the budget that is left
+pub record Idle (found : Plan) (stale : Bool) (at : Spot) (n left k : ℕ) : Type 0 where
+  pub affordable : k ≤ left
+  pub small : k ≤ 128
+  pub runs : 0 < k → Skips found stale at n k
+
+-- the place after k such trials
+abbrev pub skip : ℕ → Spot → Spot
+skip k at = record { len = at .len; next = at .next + k; trials = at .trials + k; extensions = at .extensions; listed = at .listed }
 
 -- no new plan: the beginning is as long as it was, and has two atoms or more
 pub record Stale (before after : ℕ) (stale : Bool) : Type 0 where

@@ -18,7 +18,7 @@ ghost use Rattle.molecule.specs.Record.{wellFormed};
 ghost use Rattle.search.specs.Place.{restorable};
 ghost use Rattle.search.specs.Entries.{refusedRun, ran, runSearch, runOutput};
 ghost use Rattle.openness.specs.Plan.{familyBy, Beginning, Planned};
-ghost use Rattle.run.specs.Parts.{Standing, Counting, Acted, Unwound, Stale, spotOf, stoppedAt, Ready, outcomeBy, runOnto, answerOf};
+ghost use Rattle.run.specs.Parts.{Standing, Counting, Acted, Unwound, Stale, Gap, Idle, skip, spotOf, stoppedAt, Ready, outcomeBy, runOnto, answerOf};
 
 // The place of a search but for its beginning's atoms, and its counts.
 struct Spot {
@@ -100,6 +100,64 @@ fn is_stale(before: usize, after: usize) -> bool
         return true;
     }
     before != after
+}
+
+// How many atoms from c on, the last one left out, neither make a member nor open a beginning, by the plan.
+fn gap(found: Plan, c: usize, n: usize) -> usize
+    requires { ⌜ (1 ≤ c) × (c ≤ n) × (n ≤ 128) ⌝ }
+    ensures { λ r. ⌜ Gap found c n r ⌝ }
+{
+    let members = found.members;
+    let opens = found.opens;
+    let either = atomset::union(members, opens);
+    let ahead = atomset::range(c - 1, n);
+    let next = atomset::intersection(either, ahead);
+    if atomset::is_empty(next) {
+        return n - c;
+    }
+    atomset::lowest(next) - c
+}
+
+// How many trials from the next atom on only raise it: none without a plan for every atom, and no more than the budget and the limit leave.
+fn idle_trials(found: Plan, stale: bool, at: Spot, n: usize, left: u64) -> usize
+    requires { ⌜ (1 ≤ at .next) × (n ≤ 128) ⌝ }
+    ensures { λ r. ⌜ Idle found stale at n left r ⌝ }
+{
+    let c = at.next;
+    if stale {
+        return 0;
+    }
+    if at.len < 2 {
+        return 0;
+    }
+    if n < c {
+        return 0;
+    }
+    if at_limit(at.trials, at.extensions, at.listed) {
+        return 0;
+    }
+    let k = gap(found, c, n);
+    if left < k as u64 {
+        return 0;
+    }
+    if 9_999_999_999_999_999_871 < at.trials {
+        return 0;
+    }
+    k
+}
+
+// The place after k such trials.
+fn skipped(at: Spot, k: usize) -> Spot
+    requires { ⌜ (at .next ≤ 129) × (at .trials ≤ limit) × (k ≤ 128) ⌝ }
+    ensures { λ r. ⌜ r ≡ skip k at ⌝ }
+{
+    Spot {
+        len: at.len,
+        next: at.next + k,
+        trials: at.trials + k as u64,
+        extensions: at.extensions,
+        listed: at.listed,
+    }
 }
 
 // As long as the next atom is n + 1 and the beginning is not empty, its last atom is dropped, and the next atom is that atom + 1.
@@ -219,6 +277,9 @@ fn run_trials(table: &[u64; 256], n: usize, q: Search, budget: u64, out: &mut [u
     let mut used: usize = 0;
     let mut made: u64 = 0;
     let stop = loop {
+        let idle = idle_trials(found, stale, at, n, budget - made);
+        at = skipped(at, idle);
+        made += idle as u64;
         let len = at.len;
         let c = at.next;
         if is_done(len, c, n) {

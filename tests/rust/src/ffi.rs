@@ -29,10 +29,69 @@ mod c {
         ) -> u32;
         pub fn flat_read_field(field: *const u8, field_len: usize) -> u64;
         pub fn flat_write_field(field: *mut u8, field_len: usize, value: u64);
+        pub fn flat_start_rings(
+            atoms: u64,
+            bonds: u64,
+            rows: *const u8,
+            rows_len: usize,
+            numbers: *mut u64,
+            numbers_len: usize,
+            prefix: *mut u8,
+            prefix_len: usize,
+        ) -> u32;
+        pub fn flat_start_paths(
+            atoms: u64,
+            bonds: u64,
+            rows: *const u8,
+            rows_len: usize,
+            s: u64,
+            t: u64,
+            numbers: *mut u64,
+            numbers_len: usize,
+            prefix: *mut u8,
+            prefix_len: usize,
+        ) -> u32;
+        pub fn flat_run(
+            atoms: u64,
+            bonds: u64,
+            rows: *const u8,
+            rows_len: usize,
+            numbers: *mut u64,
+            numbers_len: usize,
+            prefix: *mut u8,
+            prefix_len: usize,
+            budget: u64,
+            out: *mut u8,
+            out_len: usize,
+        ) -> u32;
+        pub fn flat_save(
+            atoms: u64,
+            bonds: u64,
+            rows: *const u8,
+            rows_len: usize,
+            numbers: *const u64,
+            numbers_len: usize,
+            prefix: *const u8,
+            prefix_len: usize,
+            mark: *mut u8,
+            mark_len: usize,
+        ) -> u32;
+        pub fn flat_restore(
+            atoms: u64,
+            bonds: u64,
+            rows: *const u8,
+            rows_len: usize,
+            mark: *const u8,
+            mark_len: usize,
+            numbers: *mut u64,
+            numbers_len: usize,
+            prefix: *mut u8,
+            prefix_len: usize,
+        ) -> u32;
     }
 }
 
-/// The answer to rows or a record of the wrong length.
+/// The answer to rows, a record, numbers or a prefix of the wrong length.
 pub const WRONG_LENGTH: u32 = 200;
 
 /// The answer of [`read_field`] to bytes that are no number field.
@@ -95,4 +154,133 @@ pub fn write_field(field: &mut [u8], value: u64) {
     // SAFETY: the pointer comes with the length of a live slice that is
     // borrowed mutably.
     unsafe { c::flat_write_field(field.as_mut_ptr(), field.len(), value) }
+}
+
+pub fn start_rings(
+    atoms: u64,
+    bonds: u64,
+    rows: &[u8],
+    numbers: &mut [u64],
+    prefix: &mut [u8],
+) -> u32 {
+    // SAFETY: the pointers come with the lengths of live slices, and only
+    // those borrowed mutably are written.
+    unsafe {
+        c::flat_start_rings(
+            atoms,
+            bonds,
+            rows.as_ptr(),
+            rows.len(),
+            numbers.as_mut_ptr(),
+            numbers.len(),
+            prefix.as_mut_ptr(),
+            prefix.len(),
+        )
+    }
+}
+
+pub fn start_paths(
+    atoms: u64,
+    bonds: u64,
+    rows: &[u8],
+    (s, t): (u64, u64),
+    numbers: &mut [u64],
+    prefix: &mut [u8],
+) -> u32 {
+    // SAFETY: the pointers come with the lengths of live slices, and only
+    // those borrowed mutably are written.
+    unsafe {
+        c::flat_start_paths(
+            atoms,
+            bonds,
+            rows.as_ptr(),
+            rows.len(),
+            s,
+            t,
+            numbers.as_mut_ptr(),
+            numbers.len(),
+            prefix.as_mut_ptr(),
+            prefix.len(),
+        )
+    }
+}
+
+pub fn run(
+    atoms: u64,
+    bonds: u64,
+    rows: &[u8],
+    numbers: &mut [u64],
+    prefix: &mut [u8],
+    budget: u64,
+    out: &mut [u8],
+) -> u32 {
+    // SAFETY: the pointers come with the lengths of live slices, and only
+    // those borrowed mutably are written.
+    unsafe {
+        c::flat_run(
+            atoms,
+            bonds,
+            rows.as_ptr(),
+            rows.len(),
+            numbers.as_mut_ptr(),
+            numbers.len(),
+            prefix.as_mut_ptr(),
+            prefix.len(),
+            budget,
+            out.as_mut_ptr(),
+            out.len(),
+        )
+    }
+}
+
+pub fn save(
+    atoms: u64,
+    bonds: u64,
+    rows: &[u8],
+    numbers: &[u64],
+    prefix: &[u8],
+    mark: &mut [u8],
+) -> u32 {
+    // SAFETY: the pointers come with the lengths of live slices, and only
+    // the last, borrowed mutably, is written.
+    unsafe {
+        c::flat_save(
+            atoms,
+            bonds,
+            rows.as_ptr(),
+            rows.len(),
+            numbers.as_ptr(),
+            numbers.len(),
+            prefix.as_ptr(),
+            prefix.len(),
+            mark.as_mut_ptr(),
+            mark.len(),
+        )
+    }
+}
+
+pub fn restore(
+    atoms: u64,
+    bonds: u64,
+    rows: &[u8],
+    mark: &[u8],
+    numbers: &mut [u64],
+    prefix: &mut [u8],
+) -> u32 {
+    // SAFETY: the pointers come with the lengths of live slices, and only
+    // those borrowed mutably are written.
+    unsafe {
+        c::flat_restore(
+            atoms,
+            bonds,
+            rows.as_ptr(),
+            rows.len(),
+            mark.as_ptr(),
+            mark.len(),
+            numbers.as_mut_ptr(),
+            numbers.len(),
+            prefix.as_mut_ptr(),
+            prefix.len(),
+        )
+    }
 }

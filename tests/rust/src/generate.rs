@@ -112,6 +112,45 @@ pub fn cube() -> Molecule {
     }
 }
 
+/// Buckminsterfullerene, the truncated icosahedron: an atom near each end of
+/// each edge of an icosahedron. The atom of corner u on its edge to v is bonded
+/// to that of v on the same edge, and to the two of u on the edges beside.
+/// Atoms are numbered in the order of u, then v.
+pub fn buckminsterfullerene() -> Molecule {
+    // Corner 0 on top, 1 to 5 above, 6 to 10 below, 11 at the bottom.
+    let mut edges = Vec::new();
+    for i in 0..5 {
+        let next = (i + 1) % 5;
+        edges.extend([(0, 1 + i), (1 + i, 1 + next), (1 + i, 6 + i)]);
+        edges.extend([(1 + next, 6 + i), (6 + i, 6 + next), (6 + i, 11)]);
+    }
+    let joined = |u, v| edges.contains(&(u, v)) || edges.contains(&(v, u));
+    let mut ends = Vec::new();
+    for u in 0..12 {
+        ends.extend((0..12).filter(|&v| joined(u, v)).map(|v| (u, v)));
+    }
+    let near = |&(a, b): &(u64, u64)| {
+        let ((u, v), (w, x)) = (ends[a as usize - 1], ends[b as usize - 1]);
+        (u, v) == (x, w) || (u == w && joined(v, x))
+    };
+    Molecule {
+        atoms: 60,
+        bonds: pairs(60).into_iter().filter(near).collect(),
+    }
+}
+
+/// The reference molecules of the document, with their rings and extensions.
+pub fn references() -> Vec<(Molecule, u64, u64)> {
+    vec![
+        (Molecule::new(0, &[]), 0, 0),
+        (chain(3), 0, 0),
+        (ring(5), 1, 4),
+        (complete(4), 4, 5),
+        (document(), 2, 3),
+        (two_to_three(), 3, 5),
+    ]
+}
+
 /// All pairs of different atoms, the lower one first.
 fn pairs(n: u64) -> Vec<(u64, u64)> {
     (1..=n)
@@ -611,6 +650,74 @@ pub fn any_judged(rng: &mut Rng) -> Molecule {
         }
         _ => any_molecule(rng),
     }
+}
+
+/// A lawful molecule to search: mostly of up to 12 atoms, of any density, and
+/// now and then a larger one with few rings.
+pub fn any_searched(rng: &mut Rng) -> Molecule {
+    match rng.below(24) {
+        0 => {
+            let whole = rng.pick(&[cube, document, two_to_three])();
+            renamed(rng, &whole)
+        }
+        1 => {
+            let n = rng.between(3, 10);
+            complete(n)
+        }
+        // A ring with a few bonds across.
+        2 => {
+            let n = rng.between(4, 14);
+            let whole = ring(n);
+            let whole = with_bonds(rng, whole, 3);
+            renamed(rng, &whole)
+        }
+        // A tree with a few bonds more.
+        3 => {
+            let n = rng.between(13, 40);
+            let tree = random_tree(rng, n);
+            with_bonds(rng, tree, 5)
+        }
+        4..=11 => {
+            let n = rng.between(0, 7);
+            let m = rng.between(0, pair_count(n));
+            random_molecule(rng, n, m)
+        }
+        12 => {
+            let n = rng.between(8, 12);
+            let m = rng.between(0, pair_count(n));
+            random_molecule(rng, n, m)
+        }
+        _ => {
+            let n = rng.between(5, 12);
+            let m = rng.between(n - 1, pair_count(n).min(n + 5));
+            random_molecule(rng, n, m)
+        }
+    }
+}
+
+/// Each atom but the first bonded to one before it, then renamed.
+fn random_tree(rng: &mut Rng, n: u64) -> Molecule {
+    let bonds = (2..=n).map(|a| (a, rng.between(1, a - 1))).collect();
+    let tree = Molecule { atoms: n, bonds };
+    renamed(rng, &tree)
+}
+
+/// The molecule with up to `most` bonds more; it has at least two atoms.
+fn with_bonds(rng: &mut Rng, mut molecule: Molecule, most: u64) -> Molecule {
+    for _ in 0..rng.between(0, most) {
+        let (a, b) = any_ends(rng, molecule.atoms);
+        if !molecule.record().bonded(a, b) {
+            molecule.bonds.push((a, b));
+        }
+    }
+    molecule
+}
+
+/// Two different atoms of at least two.
+pub fn any_ends(rng: &mut Rng, n: u64) -> (u64, u64) {
+    let s = rng.between(1, n);
+    let t = rng.between(1, n - 1);
+    (s, if t < s { t } else { t + 1 })
 }
 
 /// A number of atoms for a ring or a chain.

@@ -1,11 +1,13 @@
 //! Tests of the library behind `include/flat.h` against a model written from
 //! the scope document alone.
 
+pub mod compare;
 pub mod ffi;
 pub mod generate;
 pub mod guard;
 pub mod model;
 pub mod rng;
+pub mod spoil;
 
 /// The divisor FLAT_SAMPLE (1 when unset), for slow runs such as under valgrind.
 pub fn sample() -> u64 {

@@ -52,6 +52,11 @@ impl Rng {
         from[self.index(from.len())]
     }
 
+    pub fn pick_mut<'a, T>(&mut self, from: &'a mut [T]) -> &'a mut T {
+        let at = self.index(from.len());
+        &mut from[at]
+    }
+
     pub fn shuffle<T>(&mut self, items: &mut [T]) {
         for i in (1..items.len()).rev() {
             items.swap(i, self.index(i + 1));

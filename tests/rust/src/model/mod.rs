@@ -3,6 +3,10 @@
 
 pub mod field;
 pub mod judge;
+pub mod list;
+pub mod lister;
+pub mod machine;
+pub mod mark;
 pub mod record;
 pub mod search;
 pub mod sheet;

@@ -1,0 +1,63 @@
+-- What the test-only boundary returns and writes of searches. A search is ten numbers (kind, s, t, length of p, next atom, trials, extensions, listed, used, made) and the 128 bytes of its array; used and made are results only.
+use Prim.Native.Nat.{ℕ}
+use mathlib.Core.Bool.{Bool, _&&_, cond}
+use mathlib.Core.List.{List, [], _∷_}
+use lib.ListN.{length, getD}
+use lib.Dec.{eqb}
+use Rattle.refusal.specs.Number.{numberOf}
+use Rattle.enumeration.specs.Run.{stopNumber}
+use Rattle.search.specs.declared.Search.{Search}
+use Rattle.search.specs.declared.Made.{Made}
+use Rattle.search.specs.declared.Ran.{Ran}
+use Rattle.search.specs.declared.Ended.{Ended}
+use Rattle.search.specs.declared.Ended.the-variants.{Stopped}
+use Rattle.search.specs.declared.Ended.the-variants as ended
+use Rattle.search.specs.declared.Saved.{Saved}
+use Rattle.search.specs.declared.Saved.the-variants.{Written}
+use Rattle.search.specs.declared.Saved.the-variants as saved
+use Rattle.flat.specs.Codes.{ifAccepted}
+
+-- the rows, the numbers and the array have their lengths
+unfoldable pub sizesKept : ℕ → ℕ → ℕ → Bool
+sizesKept rows numbers prefix = eqb rows 2048 && eqb numbers 10 && eqb prefix 128
+
+-- the search that numbers and an array name
+unfoldable pub searchFrom : List ℕ → List ℕ → Search
+searchFrom numbers prefix =
+    record { kind = getD numbers 0 0; s = getD numbers 1 0; t = getD numbers 2 0; len = getD numbers 3 0; prefix = prefix; next = getD numbers 4 0; trials = getD numbers 5 0; extensions = getD numbers 6 0; listed = getD numbers 7 0 }
+
+-- the numbers of a search, of which a run used so many bytes and made so many trials
+unfoldable pub numbersOf : Search → ℕ → ℕ → List ℕ
+numbersOf q used made =
+    q .kind ∷ q .s ∷ q .t ∷ q .len ∷ q .next ∷ q .trials ∷ q .extensions ∷ q .listed ∷ used ∷ made ∷ []
+
+-- an answer where the buffers have their lengths, and another where one of them has not
+unfoldable pub sized : {A : Type 0} → List ℕ → List ℕ → List ℕ → A → A → A
+sized rows numbers prefix answer other = cond (sizesKept (length rows) (length numbers) (length prefix)) answer other
+
+-- A made search is written over the buffers where it was accepted
+unfoldable pub madeNumbers : Made → List ℕ → List ℕ
+madeNumbers made numbers = ifAccepted (made .answer) (numbersOf (made .search) 0 0) numbers
+
+unfoldable pub madePrefix : Made → List ℕ → List ℕ
+madePrefix made prefix = ifAccepted (made .answer) (made .search .prefix) prefix
+
+abbrev pub endedCode : Ended → ℕ
+endedCode (Stopped why) = stopNumber why
+endedCode (ended.Refused r) = numberOf r
+
+-- the new list where a run stopped; nothing changes otherwise
+abbrev pub ifStopped : Ended → List ℕ → List ℕ → List ℕ
+ifStopped (Stopped why) new old = new
+ifStopped (ended.Refused r) new old = old
+
+-- A run's search, used and made are written over the buffers where it stopped
+unfoldable pub ranNumbers : Ran → List ℕ → List ℕ
+ranNumbers ran numbers = ifStopped (ran .ended) (numbersOf (ran .search) (ran .used) (ran .made)) numbers
+
+unfoldable pub ranPrefix : Ran → List ℕ → List ℕ
+ranPrefix ran prefix = ifStopped (ran .ended) (ran .search .prefix) prefix
+
+abbrev pub savedCode : Saved → ℕ
+savedCode (Written size) = size
+savedCode (saved.Refused r) = numberOf r

@@ -1,0 +1,170 @@
+//! A fast lister: the method of document 003 over sets of atoms, with one
+//! reachability search for each open beginning.
+
+use super::list::Task;
+use super::Record;
+
+/// A set of atoms; atom v is bit v - 1.
+type Set = u128;
+
+fn single(v: u8) -> Set {
+    1 << (v - 1)
+}
+
+/// The atoms of a set, from the lowest.
+fn atoms(set: Set) -> impl Iterator<Item = u8> {
+    let mut rest = set;
+    std::iter::from_fn(move || {
+        if rest == 0 {
+            return None;
+        }
+        let v = rest.trailing_zeros() as u8 + 1;
+        rest &= rest - 1;
+        Some(v)
+    })
+}
+
+/// What was listed.
+#[derive(Default)]
+pub struct Listing {
+    /// The records joined.
+    pub sheet: Vec<u8>,
+    pub extensions: u64,
+    pub listed: u64,
+}
+
+impl Listing {
+    pub fn members(&self) -> Vec<Vec<u8>> {
+        let mut members = Vec::new();
+        let mut rest = self.sheet.as_slice();
+        while let Some((&len, after)) = rest.split_first() {
+            let (member, after) = after.split_at(len.into());
+            members.push(member.to_vec());
+            rest = after;
+        }
+        members
+    }
+}
+
+struct Lister {
+    /// The neighbours of each atom; place 0 is not used.
+    bonded: Vec<Set>,
+    list: Vec<u8>,
+    listing: Listing,
+}
+
+impl Lister {
+    /// The atoms of `through` from which an atom of `ends` is reached.
+    fn reaching(&self, through: Set, ends: Set) -> Set {
+        let mut reached = 0;
+        let mut new = ends;
+        while new != 0 {
+            let near = atoms(new).fold(0, |near, v| near | self.bonded[v as usize]);
+            new = near & through & !reached;
+            reached |= new;
+        }
+        reached
+    }
+
+    /// Lists all members that begin with the list, which is open. `through`
+    /// are the atoms that may come next but not last, and `ends` those that
+    /// may come last.
+    fn extend(&mut self, through: Set, ends: Set) {
+        let x = *self.list.last().expect("an atom");
+        let near = self.bonded[x as usize];
+        let (later_through, later_ends) = (through & !near, ends & !near);
+        let good = self.reaching(later_through, later_ends) | later_ends;
+        for v in atoms(near & (through | ends)) {
+            self.list.push(v);
+            if ends & single(v) != 0 {
+                self.listing.sheet.push(self.list.len() as u8);
+                self.listing.sheet.extend_from_slice(&self.list);
+                self.listing.listed += 1;
+            } else if self.bonded[v as usize] & good != 0 {
+                self.listing.extensions += 1;
+                self.extend(later_through, later_ends);
+            }
+            self.list.pop();
+        }
+    }
+
+    /// As above for a list that may not be open; says whether it is.
+    fn begin(&mut self, list: &[u8], through: Set, ends: Set) -> bool {
+        let x = list[list.len() - 1] as usize;
+        let good = self.reaching(through, ends) | ends;
+        if self.bonded[x] & good == 0 {
+            return false;
+        }
+        self.listing.extensions += 1;
+        self.list = list.to_vec();
+        self.extend(through, ends);
+        true
+    }
+
+    fn rings(&mut self, all: Set) {
+        for s in atoms(all) {
+            let near = self.bonded[s as usize];
+            let above = all & !(single(s) | (single(s) - 1));
+            let mut open = false;
+            for a in atoms(near & above) {
+                let ends = near & above & !(single(a) | (single(a) - 1));
+                open |= self.begin(&[s, a], above & !near, ends);
+            }
+            // The beginning of s alone.
+            self.listing.extensions += u64::from(open);
+        }
+    }
+}
+
+/// All members in dictionary order, and the number of open beginnings but the
+/// empty one, of a lawful record.
+pub fn list(record: &Record, task: Task) -> Listing {
+    let mut bonded = vec![0];
+    for row in record.rows.chunks_exact(16) {
+        bonded.push(Set::from_le_bytes(row.try_into().expect("16 bytes")));
+    }
+    let mut lister = Lister {
+        bonded,
+        list: Vec::new(),
+        listing: Listing::default(),
+    };
+    let all = (1..=record.atoms as u8).fold(0, |all, v| all | single(v));
+    match task {
+        Task::Rings => lister.rings(all),
+        Task::Paths { s, t } => {
+            let through = all & !single(s) & !single(t);
+            lister.begin(&[s], through, single(t));
+        }
+    }
+    lister.listing
+}
+
+#[cfg(test)]
+mod tests {
+    use super::*;
+    use crate::{generate, sample};
+
+    /// Rings and extensions of the reference molecules.
+    #[test]
+    fn references() {
+        let counts = |molecule: &generate::Molecule, task| {
+            let listing = list(&molecule.record(), task);
+            (listing.listed, listing.extensions)
+        };
+        for (molecule, rings, extensions) in generate::references() {
+            assert_eq!(counts(&molecule, Task::Rings), (rings, extensions));
+        }
+        let paths = |s, t| counts(&generate::document(), Task::Paths { s, t });
+        assert_eq!(paths(2, 4), (2, 3));
+        assert_eq!(paths(1, 3), (1, 1));
+        let cage = generate::buckminsterfullerene();
+        assert_eq!((cage.atoms, cage.bonds.len()), (60, 90));
+        if sample() == 1 {
+            assert_eq!(counts(&cage, Task::Rings).0, 255_242);
+        }
+        for n in [10, 15, 20, 25] {
+            let rings = counts(&generate::complete(n), Task::Rings).0;
+            assert_eq!(rings, n * (n - 1) * (n - 2) / 6);
+        }
+    }
+}

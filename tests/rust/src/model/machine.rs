@@ -1,0 +1,270 @@
+//! The search, trial by trial, and its runs.
+
+use super::field::LIMIT;
+use super::list::{record_of, Lists, Task};
+use super::{mark, Record};
+
+/// Places of the beginning.
+pub const PLACES: usize = 128;
+/// Numbers that hold a search and the results of a run.
+pub const NUMBERS: usize = 10;
+
+/// A search as its parts; it need not follow the rules.
+#[derive(Clone, Debug, PartialEq, Eq)]
+pub struct Search {
+    pub kind: u64,
+    pub s: u64,
+    pub t: u64,
+    pub length: u64,
+    pub next: u64,
+    pub trials: u64,
+    pub extensions: u64,
+    pub listed: u64,
+    pub prefix: [u8; PLACES],
+}
+
+impl Search {
+    pub fn fresh(task: Task) -> Search {
+        Search::at(task, &[], 1)
+    }
+
+    /// The search with beginning `p` and next atom `c`, counts 0.
+    pub fn at(task: Task, p: &[u8], c: u64) -> Search {
+        let [kind, s, t] = task.numbers();
+        let mut search = Search {
+            kind,
+            s,
+            t,
+            length: 0,
+            next: c,
+            trials: 0,
+            extensions: 0,
+            listed: 0,
+            prefix: [0; PLACES],
+        };
+        search.put(p);
+        search
+    }
+
+    /// Sets the beginning, of at most 128 atoms.
+    pub fn put(&mut self, p: &[u8]) {
+        self.length = p.len() as u64;
+        self.prefix = [0; PLACES];
+        self.prefix[..p.len()].copy_from_slice(p);
+    }
+
+    /// The beginning; the length is at most 128.
+    pub fn beginning(&self) -> &[u8] {
+        &self.prefix[..self.length as usize]
+    }
+
+    /// The numbers in which the library holds it.
+    pub fn numbers(&self, used: u64, made: u64) -> [u64; NUMBERS] {
+        [
+            self.kind,
+            self.s,
+            self.t,
+            self.length,
+            self.next,
+            self.trials,
+            self.extensions,
+            self.listed,
+            used,
+            made,
+        ]
+    }
+
+    pub fn counts(&self) -> [u64; 3] {
+        [self.trials, self.extensions, self.listed]
+    }
+
+    pub fn is_done(&self, n: u64) -> bool {
+        self.length == 0 && self.next == n + 1
+    }
+
+    pub fn is_at_limit(&self) -> bool {
+        self.counts().contains(&LIMIT)
+    }
+
+    /// The numbers and places could be a mark's: each fits its field.
+    fn fits(&self) -> bool {
+        let small = [self.kind, self.s, self.t, self.next];
+        small.iter().all(|&number| number <= 9999)
+            && self.counts().iter().all(|&count| count <= LIMIT)
+            && self.length <= 127
+            && self.prefix[self.length as usize..].iter().all(|&v| v == 0)
+    }
+
+    /// Rule 12: some mark on this molecule gives this very search. Only its
+    /// own mark can.
+    pub fn is_restorable(&self, lists: &dyn Lists) -> bool {
+        self.fits() && mark::read(lists, &mark::write(lists.record(), self)).as_ref() == Ok(self)
+    }
+}
+
+/// The fresh ring search, or a refusal.
+pub fn start_rings(lawful: bool) -> Result<Search, u32> {
+    if !lawful {
+        return Err(9);
+    }
+    Ok(Search::fresh(Task::Rings))
+}
+
+/// The fresh path search, or a refusal.
+pub fn start_paths(record: &Record, lawful: bool, s: u64, t: u64) -> Result<Search, u32> {
+    let n = record.atoms;
+    if !lawful {
+        return Err(9);
+    }
+    if s == 0 || s > n || t == 0 || t > n {
+        return Err(10);
+    }
+    if s == t {
+        return Err(11);
+    }
+    let task = Task::of(n, 1, s, t).expect("rules 10 and 11 hold");
+    Ok(Search::fresh(task))
+}
+
+#[derive(Clone, Copy, Debug, PartialEq, Eq)]
+pub enum Stop {
+    Done = 101,
+    Limit = 102,
+    Spent = 103,
+    Full = 104,
+}
+
+/// What a run returns; the bytes used are its records.
+#[derive(Clone, Debug, PartialEq, Eq)]
+pub struct Ran {
+    pub stop: Stop,
+    pub search: Search,
+    pub records: Vec<u8>,
+    pub made: u64,
+}
+
+/// A run with an output of `room` bytes, on a lawful record, or refusal 12.
+pub fn run(lists: &dyn Lists, search: &Search, budget: u64, room: usize) -> Result<Ran, u32> {
+    let n = lists.record().atoms;
+    if !search.is_restorable(lists) {
+        return Err(12);
+    }
+    let task = Task::of(n, search.kind, search.s, search.t).expect("rule 16 holds");
+    let mut search = search.clone();
+    let mut p = search.beginning().to_vec();
+    let mut records = Vec::new();
+    let mut made = 0;
+    let stop = loop {
+        if p.is_empty() && search.next == n + 1 {
+            break Stop::Done;
+        }
+        if search.is_at_limit() {
+            break Stop::Limit;
+        }
+        if made == budget {
+            break Stop::Spent;
+        }
+        p.push(search.next as u8);
+        if lists.is_member(task, &p) {
+            let record = record_of(&p);
+            p.pop();
+            if record.len() > room - records.len() {
+                break Stop::Full;
+            }
+            records.extend(record);
+            search.listed += 1;
+            search.next += 1;
+        } else if lists.is_open(task, &p) {
+            search.extensions += 1;
+            search.next = 1;
+        } else {
+            p.pop();
+            search.next += 1;
+        }
+        search.trials += 1;
+        made += 1;
+        while search.next == n + 1 && !p.is_empty() {
+            let last = p.pop().expect("not empty");
+            search.next = u64::from(last) + 1;
+        }
+    };
+    search.put(&p);
+    Ok(Ran {
+        stop,
+        search,
+        records,
+        made,
+    })
+}
+
+/// The mark of a search in an output of `room` bytes, on a lawful record, or
+/// refusal 12 or 13.
+pub fn save(lists: &dyn Lists, search: &Search, room: usize) -> Result<Vec<u8>, u32> {
+    if !search.is_restorable(lists) {
+        return Err(12);
+    }
+    let mark = mark::write(lists.record(), search);
+    if room < mark.len() {
+        return Err(13);
+    }
+    Ok(mark)
+}
+
+#[cfg(test)]
+mod tests {
+    use super::super::list::{Listed, Reached};
+    use super::*;
+    use crate::generate;
+
+    /// The document's sheet, by hand.
+    #[test]
+    fn document_runs() {
+        let record = generate::document().record();
+        let (listed, reached) = (Listed::new(&record), Reached::new(&record));
+        for lists in [&listed as &dyn Lists, &reached] {
+            let fresh = Search::fresh(Task::Rings);
+            let go = |budget, room| run(lists, &fresh, budget, room).expect("accepted");
+            assert_eq!(go(0, 3).stop, Stop::Spent);
+            let spent = go(5, 3);
+            assert_eq!((spent.stop, spent.made), (Stop::Spent, 5));
+            let full = go(6, 3);
+            assert_eq!((full.stop, full.made), (Stop::Full, 5));
+            assert_eq!(full.search.beginning(), [1, 2]);
+            assert_eq!(full.search.next, 3);
+            assert_eq!(save(lists, &full.search, 98), Err(13));
+            assert_eq!(save(lists, &full.search, 99).expect("a mark").len(), 99);
+            let done = go(16, 8);
+            assert_eq!((done.stop, done.made), (Stop::Done, 16));
+            assert_eq!(done.records, [3, 1, 2, 3, 3, 1, 3, 4]);
+            assert_eq!(done.search.counts(), [16, 3, 2]);
+            assert_eq!(go(16, 7).stop, Stop::Full);
+            assert_eq!(go(15, 8).stop, Stop::Spent);
+        }
+    }
+
+    #[test]
+    fn rule_12_by_hand() {
+        let record = generate::document().record();
+        let lists = Listed::new(&record);
+        let good = Search::at(Task::Rings, &[1, 2], 3);
+        let accepted = |change: &dyn Fn(&mut Search)| {
+            let mut search = good.clone();
+            change(&mut search);
+            search.is_restorable(&lists)
+        };
+        assert!(accepted(&|_| {}));
+        assert!(accepted(&|search| search.trials = LIMIT));
+        assert!(!accepted(&|search| search.trials = LIMIT + 1));
+        assert!(!accepted(&|search| search.kind = 1));
+        assert!(!accepted(&|search| search.kind = 10_000));
+        assert!(!accepted(&|search| search.s = 1));
+        assert!(!accepted(&|search| search.length = 1));
+        assert!(!accepted(&|search| search.length = 128));
+        assert!(!accepted(&|search| search.length = u64::MAX));
+        assert!(!accepted(&|search| search.prefix[127] = 1));
+        assert!(!accepted(&|search| search.next = 0));
+        assert!(!accepted(&|search| search.next = 5));
+        assert!(!accepted(&|search| search.put(&[1, 4])));
+        assert!(accepted(&|search| search.put(&[1, 3])));
+    }
+}

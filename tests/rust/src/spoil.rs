@@ -1,0 +1,279 @@
+//! Records, searches and marks that came near to being right, and now and then
+//! are.
+
+use crate::generate::{self, alias, wild, NEAR_BYTES};
+use crate::model::field::{self, LIMIT};
+use crate::model::machine::{Search, PLACES};
+use crate::model::Record;
+use crate::rng::Rng;
+
+/// Numbers at the edges of lengths and atoms.
+pub const EDGES: [u64; 13] = [
+    0, 1, 126, 127, 128, 129, 255, 256, 257, 384, 999, 1024, 9999,
+];
+
+/// Counts at the limit and above it, some of which wrap to small ones.
+pub const COUNTS: [&str; 10] = [
+    "0",
+    "9999999999999999998",
+    "9999999999999999999",
+    "10000000000000000000",
+    "10000000000000000001",
+    "18446744073709551615",
+    "18446744073709551616",
+    "18446744073709551617",
+    "99999999999999999999",
+    "09999999999999999999",
+];
+
+/// Bytes of the lines of a mark before its beginning.
+const FIRST: usize = 29;
+const THIRD: usize = 90;
+
+/// One bit or one number of a record changed.
+pub fn record(rng: &mut Rng, record: &mut Record) {
+    let n = record.atoms;
+    match rng.below(6) {
+        0 => record.flip(rng.between(1, 128), rng.between(1, 128)),
+        1 if n > 0 => record.flip(rng.between(1, n), rng.between(1, n)),
+        2 => record.atoms = alias(rng, n),
+        3 => record.bonds = wild(rng, record.bonds),
+        // Still right unless the last atom has bonds or n was 128.
+        4 => record.atoms = if rng.one_in(2) { n + 1 } else { n.max(1) - 1 },
+        _ => record.bonds += 1,
+    }
+}
+
+/// A number near to a right one, or far from it.
+fn number(rng: &mut Rng, n: u64, value: u64) -> u64 {
+    match rng.below(5) {
+        0 => rng.between(0, n + 2),
+        1 => rng.pick(&[0, n + 1, 128, 129, 255, 256]),
+        2 => alias(rng, value),
+        3 => rng.pick(&[value + 1, value.wrapping_sub(1)]),
+        _ => wild(rng, value),
+    }
+}
+
+/// One part of a search changed; its length is at most 127 before.
+pub fn search(rng: &mut Rng, n: u64, search: &mut Search) {
+    let length = search.length as usize;
+    match rng.below(18) {
+        0 => search.kind = rng.pick(&[0, 1, 2, 3, 255, 256, 257, 1 << 32, (1 << 32) + 1]),
+        1 => search.kind = alias(rng, search.kind),
+        2 => search.s = number(rng, n, search.s),
+        3 => search.t = number(rng, n, search.t),
+        4 => {
+            search.kind ^= 1;
+            search.s = rng.between(0, n + 1);
+            search.t = rng.between(0, n + 1);
+        }
+        // An atom 0 more, or an atom past the length.
+        5 => search.length += 1,
+        6 => search.length = search.length.wrapping_sub(1),
+        7 => search.length = rng.pick(&[126, 127, 128, 129, 255, 256, 1 << 32, u64::MAX]),
+        8 => search.length = alias(rng, search.length),
+        9 => {
+            let past = length + rng.index(PLACES - length);
+            let place = rng.pick(&[length, past, PLACES - 1]);
+            search.prefix[place] = 1 + rng.below(255) as u8;
+        }
+        10 => search.next = number(rng, n, search.next),
+        11 => search.next = n + 1,
+        12 => {
+            let above = rng.pick(&[LIMIT + 1, LIMIT + 2, u64::MAX - 1, u64::MAX, 1 << 63]);
+            let counts = &mut [
+                &mut search.trials,
+                &mut search.extensions,
+                &mut search.listed,
+            ];
+            **rng.pick_mut(counts) = above;
+        }
+        13 if length > 0 => {
+            let at = rng.index(length);
+            search.prefix[at] = rng.between(0, n + 1) as u8;
+        }
+        14 if length > 0 => {
+            let at = rng.index(length);
+            search.prefix[at] ^= rng.pick(&[1, 2, 64, 128]);
+        }
+        15 => {
+            let mut p = search.beginning().to_vec();
+            p.push(rng.between(1, n.max(1)) as u8);
+            search.put(&p);
+        }
+        16 => {
+            let p = generate::random_list(rng, n, 127);
+            search.put(&p);
+        }
+        _ => {
+            let mut p = search.beginning().to_vec();
+            generate::change_list(rng, n, &mut p);
+            p.truncate(127);
+            search.put(&p);
+        }
+    }
+}
+
+/// Puts text into a field, right-justified.
+pub fn put(mark: &mut [u8], at: usize, columns: usize, text: &str) {
+    let text = format!("{text:>columns$}");
+    mark[at..at + columns].copy_from_slice(&text.as_bytes()[text.len() - columns..]);
+}
+
+/// The place of one of the seven fields of line 1, or of one of the three
+/// counts.
+pub fn place(which: usize) -> (usize, usize) {
+    match which {
+        0..7 => (4 * which, 4),
+        _ => (FIRST + 20 * (which - 7), 20),
+    }
+}
+
+/// The mark, of any beginning, with another length field and as many fields of
+/// `atom` more or fewer.
+pub fn lengthened(mark: &[u8], length: usize, atom: u64) -> Vec<u8> {
+    let mut changed = mark.to_vec();
+    let line_end = changed.pop().expect("a line feed");
+    changed.resize(THIRD, b' ');
+    for at in 0..length {
+        let old = mark.get(THIRD + 4 * at..THIRD + 4 * at + 4);
+        let new = field::write(4, atom);
+        changed.extend_from_slice(match old {
+            Some(old) if THIRD + 4 * at + 4 < mark.len() => old,
+            _ => &new,
+        });
+    }
+    changed.push(line_end);
+    put(&mut changed, 20, 4, &length.to_string());
+    changed
+}
+
+/// A field of the mark at random: its place and columns.
+fn any_field(rng: &mut Rng, mark: &[u8]) -> (usize, usize) {
+    let atoms = (mark.len() - THIRD) / 4;
+    if atoms > 0 && rng.one_in(2) {
+        (THIRD + 4 * rng.index(atoms), 4)
+    } else {
+        place(rng.index(10))
+    }
+}
+
+/// The kinds of marks that [`mark`] makes.
+pub const MARK_KINDS: u64 = 20;
+
+/// A mark, right before, changed in the given way.
+pub fn mark(rng: &mut Rng, n: u64, kind: u64, mark: &mut Vec<u8>) {
+    let length = (mark.len() - THIRD) / 4;
+    let at = rng.index(mark.len());
+    let (field_at, columns) = any_field(rng, mark);
+    match kind {
+        0 => mark[at] = rng.byte(),
+        1 => mark[at] = rng.pick(&NEAR_BYTES),
+        2 => mark.truncate(at),
+        3 => {
+            for _ in 0..rng.between(1, 9) {
+                mark.push(rng.pick(b"\n 10"));
+            }
+        }
+        4 => {
+            let value = rng.pick(&EDGES);
+            put(mark, 4 * rng.index(7), 4, &value.to_string());
+        }
+        5 => {
+            let value = rng.pick(&EDGES);
+            put(mark, field_at, columns, &value.to_string());
+        }
+        6 => {
+            let count = rng.pick(&COUNTS);
+            put(mark, FIRST + 20 * rng.index(3), 20, count);
+        }
+        // Zeros in front, not to the right, with a sign, with a hole, or
+        // nothing at all.
+        7 => {
+            let value = rng.below(130);
+            let text = match rng.below(6) {
+                0 => format!("{value:0columns$}"),
+                1 => format!("{value:02}"),
+                2 => format!("{value:<columns$}"),
+                3 => format!("+{value}"),
+                4 => format!("1 {}", value % 10),
+                _ => String::new(),
+            };
+            put(mark, field_at, columns, &text);
+        }
+        // Line ends of another kind.
+        8 => {
+            let ends: Vec<usize> = (0..mark.len()).filter(|&i| mark[i] == b'\n').collect();
+            let end = rng.pick(&ends);
+            match rng.below(4) {
+                0 => mark.insert(end, b'\r'),
+                1 => mark[end] = rng.pick(b"\r 0\0"),
+                2 => {
+                    mark.remove(end);
+                }
+                _ => mark.insert(end, b'\n'),
+            }
+        }
+        // Two bytes or two fields change places.
+        9 => {
+            let other = rng.index(mark.len());
+            mark.swap(at, other);
+        }
+        10 => {
+            let (one, two) = (4 * rng.index(7), 4 * rng.index(7));
+            for column in 0..4 {
+                mark.swap(one + column, two + column);
+            }
+        }
+        // More or fewer atoms, with the length telling so.
+        11 => {
+            let atom = rng.between(1, n.max(1));
+            *mark = lengthened(mark, length + 1, atom);
+        }
+        12 => *mark = lengthened(mark, length.max(1) - 1, 0),
+        13 => {
+            let length = rng.pick(&[0, 1, 126, 127, 128, 129, 255, 256, 1000]);
+            let atom = rng.between(0, n + 1);
+            *mark = lengthened(mark, length, atom);
+        }
+        // The length alone.
+        14 => {
+            let value = rng.pick(&[length + 1, length.max(1) - 1, length + 256, 127, 128]);
+            put(mark, 20, 4, &value.to_string());
+        }
+        // Atoms, next atom, kind and ends, atoms and bonds.
+        15 if length > 0 => {
+            let value = match rng.below(3) {
+                0 => rng.pick(&[0, 128, 129, 255, 256, 9999]),
+                1 => rng.between(1, n + 1),
+                _ => 256 + rng.between(1, n),
+            };
+            put(mark, THIRD + 4 * rng.index(length), 4, &value.to_string());
+        }
+        16 => {
+            let value = rng.pick(&[0, 1, n, n + 1, n + 2, 256, 257]);
+            put(mark, 24, 4, &value.to_string());
+        }
+        17 => {
+            let kind = rng.pick(&[0, 1, 1, 1, 2, 256]);
+            put(mark, 0, 4, &kind.to_string());
+            for at in [4, 8] {
+                let value = rng.between(0, n + 1);
+                put(mark, at, 4, &value.to_string());
+            }
+        }
+        18 => {
+            let value = rng.between(0, n + 3);
+            put(mark, 4 * rng.between(3, 4) as usize, 4, &value.to_string());
+        }
+        // Several rules broken at once, each in one case of two.
+        _ => {
+            for kind in [6, 16, 17, 18] {
+                if rng.one_in(2) {
+                    self::mark(rng, n, kind, mark);
+                }
+            }
+        }
+    }
+}

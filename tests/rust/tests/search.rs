@@ -1,0 +1,582 @@
+//! Searches from their start to their end, in runs, saves and restores with
+//! refused calls in between, against the model.
+
+use flat_tests::compare::{Calls, Case, On};
+use flat_tests::generate::{self, Molecule};
+use flat_tests::model::field::LIMIT;
+use flat_tests::model::list::{self, Listed, Lists, Reached, Task};
+use flat_tests::model::machine::{Search, Stop};
+use flat_tests::model::mark::{self, LONGEST_MARK};
+use flat_tests::model::{lister, Record};
+use flat_tests::rng::Rng;
+use flat_tests::{sample, sampled, spoil};
+
+/// The kinds of budgets and of outputs.
+const BUDGETS: u64 = 10;
+const ROOMS: u64 = 24;
+
+/// Up to this many atoms the model answers from the brute-force list.
+const BRUTE: u64 = 10;
+
+/// One search: its molecule, what it lists, and all of that.
+struct Subject<'a> {
+    lists: &'a dyn Lists,
+    task: Task,
+    members: Vec<Vec<u8>>,
+}
+
+impl Subject<'_> {
+    fn record(&self) -> &Record {
+        self.lists.record()
+    }
+
+    fn atoms(&self) -> u64 {
+        self.record().atoms
+    }
+}
+
+/// What a list of calls did to the search.
+struct Course {
+    /// The search as it stands.
+    search: Search,
+    /// The records of all runs joined.
+    sheet: Vec<u8>,
+    /// The trials made by all runs.
+    made: u64,
+    stop: Option<Stop>,
+}
+
+/// Budgets from none to no end, the first half of them small.
+fn any_budget(rng: &mut Rng, n: u64, kinds: u64) -> u64 {
+    match rng.below(kinds) {
+        0 => 0,
+        1 => 1,
+        2..=4 => rng.between(2, n + 3),
+        5 => rng.between(n, 4 * n + 4),
+        6 => 2 * n * n,
+        7 => rng.below(2 * n * n + 2),
+        _ => rng.pick(&[u64::MAX, LIMIT, LIMIT + 1, 1 << 32, (1 << 32) + 1, 1 << 63]),
+    }
+}
+
+/// Outputs from none to a large one, the first half of them of about one
+/// record.
+fn any_room(rng: &mut Rng, n: u64, kinds: u64) -> usize {
+    let room = match rng.below(kinds) {
+        0..=11 => rng.between(0, n + 2),
+        12..=16 => rng.between(n, 4 * n + 4),
+        17..=22 => rng.between(0, 2_000),
+        _ if rng.one_in(20) => 65_536 + rng.between(0, n),
+        _ => 5_000,
+    };
+    room as usize
+}
+
+impl Course {
+    fn new(search: Search) -> Course {
+        Course {
+            search,
+            sheet: Vec::new(),
+            made: 0,
+            stop: None,
+        }
+    }
+
+    fn run(&mut self, calls: &mut Calls, subject: &Subject, budget: u64, room: usize) {
+        let n = subject.atoms();
+        let ran = calls
+            .run(On::lawful(subject.lists), &self.search, budget, room)
+            .expect("no run of the search as it stands is refused");
+        // Enough trials and room for any record: no idle run.
+        if budget >= 2 * n * n && room as u64 > n {
+            let stuck = matches!(ran.stop, Stop::Spent | Stop::Full) && ran.records.is_empty();
+            assert!(!stuck, "a run without progress: {ran:?}");
+        }
+        self.search = ran.search;
+        self.sheet.extend(ran.records);
+        self.made += ran.made;
+        self.stop = Some(ran.stop);
+    }
+
+    /// Saves into an output too short, just long enough or longer.
+    fn save(&self, calls: &mut Calls, subject: &Subject, rng: &mut Rng) {
+        let on = On::lawful(subject.lists);
+        let len = mark::write(subject.record(), &self.search).len();
+        let room = match rng.below(6) {
+            0 => rng.index(len),
+            1 => len - 1,
+            2 => len,
+            3 => len + 1,
+            4 => LONGEST_MARK,
+            _ => len + rng.index(900),
+        };
+        let saved = calls.save(on, &self.search, room);
+        assert_eq!(saved.is_ok(), room >= len);
+    }
+
+    /// Restores the mark of the search as it stands.
+    fn restore(&mut self, calls: &mut Calls, subject: &Subject) {
+        let mark = mark::write(subject.record(), &self.search);
+        let restored = calls
+            .restore(On::lawful(subject.lists), &mark)
+            .expect("its mark is not refused");
+        assert_eq!(restored, self.search);
+        self.search = restored;
+    }
+
+    /// A call with a damaged record, search or mark. It leaves the search as
+    /// it stands, whatever the answer.
+    fn disturb(&self, calls: &mut Calls, subject: &Subject, rng: &mut Rng) {
+        let n = subject.atoms();
+        let on = On::lawful(subject.lists);
+        let (budget, room) = (any_budget(rng, n, BUDGETS), any_room(rng, n, ROOMS));
+        let mut search = self.search.clone();
+        let mut mark = mark::write(subject.record(), &search);
+        match rng.below(8) {
+            0 => {
+                let mut record = subject.record().clone();
+                spoil::record(rng, &mut record);
+                let reached = Reached::new(&record);
+                let on = if record.is_lawful() {
+                    On::lawful(&reached)
+                } else {
+                    On::unlawful(&record)
+                };
+                match rng.below(5) {
+                    0 => drop(calls.run(on, &search, budget, room)),
+                    1 => drop(calls.save(on, &search, LONGEST_MARK)),
+                    2 => drop(calls.restore(on, &mark)),
+                    3 => drop(calls.start_rings(on)),
+                    _ => drop(calls.start_paths(on, search.s, search.t)),
+                }
+            }
+            1 | 2 => {
+                spoil::search(rng, n, &mut search);
+                let _ = calls.run(on, &search, budget, room);
+            }
+            3 => {
+                spoil::search(rng, n, &mut search);
+                let room = rng.index(LONGEST_MARK + 10);
+                let _ = calls.save(on, &search, room);
+            }
+            4 => {
+                let (s, t) = (rng.between(0, n + 1), rng.between(0, n + 1));
+                let _ = calls.start_paths(on, s, t);
+            }
+            _ => {
+                let kind = rng.below(spoil::MARK_KINDS);
+                spoil::mark(rng, n, kind, &mut mark);
+                let _ = calls.restore(on, &mark);
+            }
+        }
+    }
+
+    /// Up to `most` calls of any kind.
+    fn go(&mut self, calls: &mut Calls, subject: &Subject, rng: &mut Rng, most: u64) {
+        let n = subject.atoms();
+        // Half of the lists of calls have no long runs, and half of them no
+        // large outputs.
+        let budgets = rng.pick(&[BUDGETS, BUDGETS / 2]);
+        let rooms = rng.pick(&[ROOMS, ROOMS / 2]);
+        let mut after = 2;
+        for _ in 0..most {
+            match rng.below(16) {
+                0..=8 => {
+                    let (budget, room) = (any_budget(rng, n, budgets), any_room(rng, n, rooms));
+                    self.run(calls, subject, budget, room);
+                }
+                9 | 10 => self.save(calls, subject, rng),
+                11 | 12 => self.restore(calls, subject),
+                _ => self.disturb(calls, subject, rng),
+            }
+            // A few calls after the end will do.
+            if matches!(self.stop, Some(Stop::Done | Stop::Limit)) {
+                after -= 1;
+                if after == 0 {
+                    break;
+                }
+            }
+        }
+    }
+
+    /// Runs until done or limit.
+    fn finish(&mut self, calls: &mut Calls, subject: &Subject, room: usize) {
+        assert!(room as u64 > subject.atoms(), "room for any record");
+        loop {
+            self.run(calls, subject, u64::MAX, room);
+            if matches!(self.stop, Some(Stop::Done | Stop::Limit)) {
+                break;
+            }
+        }
+    }
+}
+
+fn sheet_of<'a>(members: impl IntoIterator<Item = &'a Vec<u8>>) -> Vec<u8> {
+    members
+        .into_iter()
+        .flat_map(|member| list::record_of(member))
+        .collect()
+}
+
+/// A fresh search was taken to its end: the whole list, and the counts.
+fn assert_whole(course: &Course, subject: &Subject) {
+    let n = subject.atoms();
+    let [trials, extensions, listed] = course.search.counts();
+    assert_eq!(course.stop, Some(Stop::Done));
+    assert!(course.search.is_done(n));
+    assert_eq!(course.sheet, sheet_of(&subject.members));
+    assert_eq!(listed, subject.members.len() as u64);
+    let open = list::open_beginnings(&subject.members);
+    assert_eq!(extensions, open.len() as u64);
+    assert_eq!(trials, n * (extensions + 1));
+    assert_eq!(trials, course.made);
+}
+
+fn start(calls: &mut Calls, lists: &dyn Lists, task: Task) -> Search {
+    let on = On::lawful(lists);
+    let started = match task {
+        Task::Rings => calls.start_rings(on),
+        Task::Paths { s, t } => calls.start_paths(on, s.into(), t.into()),
+    };
+    started.expect("a lawful start")
+}
+
+/// From a fresh search to its end.
+fn schedule(calls: &mut Calls, subject: &Subject, rng: &mut Rng) {
+    let n = subject.atoms();
+    let mut course = Course::new(start(calls, subject.lists, subject.task));
+    let most = rng.between(2, 40);
+    course.go(calls, subject, rng, most);
+    let room = rng.between(n + 1, 8 * n + 8) as usize;
+    course.finish(calls, subject, room);
+    assert_whole(&course, subject);
+}
+
+/// From any open beginning and next atom, with any counts, to the end or the
+/// limit.
+fn schedule_from_a_mark(calls: &mut Calls, subject: &Subject, rng: &mut Rng) {
+    let n = subject.atoms();
+    let mut open = list::open_beginnings(&subject.members);
+    open.push(Vec::new());
+    let p = open.swap_remove(rng.index(open.len()));
+    let c = match p.len() {
+        0 => rng.between(1, n + 1),
+        _ => rng.between(1, n),
+    };
+    let mut search = Search::at(subject.task, &p, c);
+    let mut any_count = || match rng.below(6) {
+        0 => LIMIT,
+        1 => LIMIT - 1,
+        2 => LIMIT - rng.below(4 * n + 4),
+        3 => 0,
+        _ => (rng.next() >> rng.below(64)).min(LIMIT),
+    };
+    search.trials = any_count();
+    search.extensions = any_count();
+    search.listed = any_count();
+    let mut course = Course::new(search.clone());
+    course.restore(calls, subject);
+    let most = rng.between(1, 16);
+    course.go(calls, subject, rng, most);
+    let room = rng.between(n + 1, 8 * n + 8) as usize;
+    course.finish(calls, subject, room);
+    let all = sheet_of(list::following(&subject.members, &p, c));
+    if course.stop == Some(Stop::Done) {
+        assert_eq!(course.sheet, all);
+    } else {
+        assert!(course.search.is_at_limit());
+        assert!(all.starts_with(&course.sheet));
+    }
+    assert_eq!(course.search.trials - search.trials, course.made);
+}
+
+/// Four parts, so that they can run side by side.
+#[test]
+fn random_schedules_1() {
+    random_schedules("random_schedules_1", 0x5345_4152_4331);
+}
+
+#[test]
+fn random_schedules_2() {
+    random_schedules("random_schedules_2", 0x5345_4152_4332);
+}
+
+#[test]
+fn random_schedules_3() {
+    random_schedules("random_schedules_3", 0x5345_4152_4333);
+}
+
+#[test]
+fn random_schedules_4() {
+    random_schedules("random_schedules_4", 0x5345_4152_4334);
+}
+
+fn random_schedules(name: &'static str, seed: u64) {
+    let molecules = sampled(5_200);
+    let mut calls = Calls::new(seed);
+    let (mut members, mut longest) = (0, 0);
+    for case in 0..molecules {
+        let _case = Case(name, case);
+        let mut rng = Rng::of_case(seed, case);
+        let record = generate::any_searched(&mut rng).record();
+        let kept = record.clone();
+        let n = record.atoms;
+        let (listed, reached) = (Listed::new(&record), Reached::new(&record));
+        let mut tasks = vec![Task::Rings];
+        if n >= 2 {
+            let (s, t) = generate::any_ends(&mut rng, n);
+            tasks.push(Task::of(n, 1, s, t).expect("two atoms"));
+        }
+        for task in tasks {
+            let subject = if n <= BRUTE {
+                Subject {
+                    lists: &listed,
+                    task,
+                    members: listed.members(task).to_vec(),
+                }
+            } else {
+                Subject {
+                    lists: &reached,
+                    task,
+                    members: lister::list(&record, task).members(),
+                }
+            };
+            schedule(&mut calls, &subject, &mut rng);
+            if rng.one_in(4) {
+                schedule_from_a_mark(&mut calls, &subject, &mut rng);
+            }
+            members += subject.members.len() as u64;
+            longest = longest.max(subject.members.iter().map(Vec::len).max().unwrap_or(0));
+        }
+        assert_eq!(record, kept, "the record was written");
+    }
+    println!("{molecules} molecules, {members} members, the longest of {longest} atoms");
+    calls.print();
+    calls.at_least(8_000, "run", &[101, 103, 104]);
+    calls.at_least(1_500, "run", &[102]);
+    calls.at_least(200, "run", &[9]);
+    calls.at_least(1_500, "run", &[12]);
+    calls.at_least(5_000, "save", &[0]);
+    calls.at_least(1_500, "save", &[13]);
+    calls.at_least(200, "save", &[9]);
+    calls.at_least(1_000, "save", &[12]);
+    calls.at_least(10_000, "restore", &[0]);
+    calls.at_least(200, "restore", &[9]);
+    calls.at_least(500, "restore", &[14, 15, 16, 17]);
+    calls.at_least(5_000, "start_rings", &[0]);
+    calls.at_least(5_000, "start_paths", &[0]);
+    calls.at_least(150, "start_paths", &[9, 10, 11]);
+    assert!(members >= sampled(20_000));
+    assert!(sample() > 1 || longest >= 15);
+}
+
+/// Every budget and room of a fresh search, with what follows from there.
+#[test]
+fn every_budget_and_room() {
+    let mut calls = Calls::new(51);
+    for molecule in [
+        generate::document(),
+        generate::two_to_three(),
+        generate::complete(4),
+        generate::ring(5),
+        generate::chain(3),
+        Molecule::new(0, &[]),
+        Molecule::new(1, &[]),
+    ] {
+        let record = molecule.record();
+        let lists = Listed::new(&record);
+        let mut tasks = vec![Task::Rings];
+        if record.atoms >= 3 {
+            tasks.push(Task::Paths { s: 2, t: 3 });
+            tasks.push(Task::Paths { s: 3, t: 1 });
+        }
+        for task in tasks {
+            let subject = Subject {
+                lists: &lists,
+                task,
+                members: list::members(&record, task),
+            };
+            let whole = sheet_of(&subject.members).len();
+            let fresh = start(&mut calls, &lists, task);
+            for budget in (0..=record.atoms * 7 + 1).step_by(sample().min(7) as usize) {
+                for room in (0..=whole + 1).step_by(sample().min(5) as usize) {
+                    let mut course = Course::new(fresh.clone());
+                    course.run(&mut calls, &subject, budget, room);
+                    course.restore(&mut calls, &subject);
+                    course.finish(&mut calls, &subject, whole.max(6));
+                    assert_whole(&course, &subject);
+                }
+            }
+        }
+    }
+}
+
+/// A search trial by trial, with its mark at every place.
+#[test]
+fn every_place() {
+    let mut calls = Calls::new(52);
+    for molecule in [
+        generate::document(),
+        generate::two_to_three(),
+        generate::complete(5),
+        generate::ring(12),
+        generate::cube(),
+    ] {
+        let record = molecule.record();
+        let lists = Listed::new(&record);
+        for task in [Task::Rings, Task::Paths { s: 2, t: 4 }] {
+            let subject = Subject {
+                lists: &lists,
+                task,
+                members: list::members(&record, task),
+            };
+            let mut course = Course::new(start(&mut calls, &lists, task));
+            while course.stop != Some(Stop::Done) {
+                course.run(&mut calls, &subject, 1, 13);
+                let saved = calls
+                    .save(On::lawful(&lists), &course.search, LONGEST_MARK)
+                    .expect("a mark");
+                let restored = calls.restore(On::lawful(&lists), &saved);
+                assert_eq!(restored, Ok(course.search.clone()));
+            }
+            assert_whole(&course, &subject);
+        }
+    }
+}
+
+/// Whole runs of the reference molecules, with the document's counts.
+#[test]
+fn references() {
+    let mut calls = Calls::new(53);
+    let mut whole = |molecule: &Molecule, task| {
+        let record = molecule.record();
+        let reached = Reached::new(&record);
+        let subject = Subject {
+            lists: &reached,
+            task,
+            members: lister::list(&record, task).members(),
+        };
+        let mut course = Course::new(start(&mut calls, &reached, task));
+        course.finish(&mut calls, &subject, 100_000);
+        assert_whole(&course, &subject);
+        (course.search.counts(), subject.members)
+    };
+    for (molecule, rings, extensions) in generate::references() {
+        let trials = molecule.atoms * (extensions + 1);
+        let (counts, _) = whole(&molecule, Task::Rings);
+        assert_eq!(counts, [trials, extensions, rings]);
+    }
+    let (_, rings) = whole(&generate::two_to_three(), Task::Rings);
+    assert_eq!(rings, [[1, 3, 2, 4], [1, 3, 2, 5], [1, 4, 2, 5]]);
+    let (_, rings) = whole(&generate::document(), Task::Rings);
+    assert_eq!(rings, [[1, 2, 3], [1, 3, 4]]);
+    let (counts, paths) = whole(&generate::document(), Task::Paths { s: 2, t: 4 });
+    assert_eq!(paths, [[2, 1, 4], [2, 3, 4]]);
+    assert_eq!(counts, [16, 3, 2]);
+    let (counts, paths) = whole(&generate::document(), Task::Paths { s: 1, t: 3 });
+    assert_eq!(paths, [[1, 3]]);
+    assert_eq!(counts, [8, 1, 1]);
+    let (_, rings) = whole(&generate::cube(), Task::Rings);
+    let long = |len| rings.iter().filter(|ring| ring.len() == len).count();
+    assert_eq!((rings.len(), long(4), long(6)), (10, 6, 4));
+    for n in [10, 15, 20, 25] {
+        if n <= 10 || sample() == 1 {
+            let (counts, _) = whole(&generate::complete(n), Task::Rings);
+            assert_eq!(counts[2], n * (n - 1) * (n - 2) / 6);
+        }
+    }
+}
+
+/// The document's runs with three bytes and with eight.
+#[test]
+fn document_runs() {
+    let record = generate::document().record();
+    let lists = Listed::new(&record);
+    let on = On::lawful(&lists);
+    let mut calls = Calls::new(54);
+    let fresh = calls.start_rings(on).expect("lawful");
+    let mut run = |budget, room| calls.run(on, &fresh, budget, room).expect("accepted");
+    assert_eq!((run(0, 3).stop, run(0, 3).made), (Stop::Spent, 0));
+    assert_eq!((run(5, 3).stop, run(5, 3).made), (Stop::Spent, 5));
+    let full = run(6, 3);
+    assert_eq!((full.stop, full.made), (Stop::Full, 5));
+    assert_eq!(full.search.beginning(), [1, 2]);
+    assert_eq!(full.search.next, 3);
+    assert_eq!(run(u64::MAX, 3), full);
+    let done = run(16, 8);
+    assert_eq!((done.stop, done.made), (Stop::Done, 16));
+    assert_eq!(done.records, [3, 1, 2, 3, 3, 1, 3, 4]);
+    let mark = calls.save(on, &full.search, 99).expect("room enough");
+    assert_eq!(
+        mark.escape_ascii().to_string(),
+        "   0   0   0   4   5   2   3\\n                   5                   2                   0\\n   1   2\\n"
+    );
+    assert_eq!(calls.save(on, &full.search, 98), Err(13));
+    assert_eq!(calls.restore(on, &mark), Ok(full.search));
+}
+
+/// 128 atoms, rings and paths of all of them and of fewer, from start to end.
+#[test]
+fn longest() {
+    if sample() > 1 {
+        return;
+    }
+    let mut calls = Calls::new(55);
+    for (molecule, task) in [
+        (generate::ring(128), Task::Rings),
+        (generate::chain(128), Task::Paths { s: 1, t: 128 }),
+        (generate::chain(128), Task::Paths { s: 128, t: 1 }),
+        (generate::ring(128), Task::Paths { s: 1, t: 64 }),
+        (generate::chain(128), Task::Rings),
+    ] {
+        let record = molecule.record();
+        let reached = Reached::new(&record);
+        let subject = Subject {
+            lists: &reached,
+            task,
+            members: lister::list(&record, task).members(),
+        };
+        let mut course = Course::new(start(&mut calls, &reached, task));
+        while course.stop != Some(Stop::Done) {
+            course.run(&mut calls, &subject, 3_000, 128);
+            course.restore(&mut calls, &subject);
+            if course.stop == Some(Stop::Full) {
+                course.run(&mut calls, &subject, 3_000, 129);
+            }
+        }
+        assert_whole(&course, &subject);
+    }
+}
+
+/// The longest records: 129 bytes hold one, 128 do not. The longest marks:
+/// beginnings of 127 atoms, 599 bytes.
+#[test]
+fn longest_places() {
+    let mut calls = Calls::new(56);
+    let up: Vec<u8> = (1..=128).collect();
+    let down: Vec<u8> = (1..=128).rev().collect();
+    for (molecule, task, member) in [
+        (generate::ring(128), Task::Rings, &up),
+        (generate::chain(128), Task::Paths { s: 1, t: 128 }, &up),
+        (generate::chain(128), Task::Paths { s: 128, t: 1 }, &down),
+    ] {
+        let record = molecule.record();
+        let reached = Reached::new(&record);
+        let on = On::lawful(&reached);
+        let last = u64::from(member[127]);
+        for place in [last, last.max(2) - 1, 1] {
+            let mut search = Search::at(task, &member[..127], place);
+            search.trials = LIMIT - 1_000;
+            let mark = calls.save(on, &search, LONGEST_MARK).expect("a mark");
+            assert_eq!(mark.len(), LONGEST_MARK);
+            assert_eq!(calls.save(on, &search, LONGEST_MARK - 1), Err(13));
+            assert_eq!(calls.restore(on, &mark), Ok(search.clone()));
+            let full = calls.run(on, &search, 200, 128).expect("accepted");
+            assert_eq!((full.stop, full.made), (Stop::Full, last - place));
+            let listed = calls.run(on, &search, last - place + 1, 129);
+            let listed = listed.expect("accepted");
+            assert_eq!(listed.stop, Stop::Spent);
+            assert_eq!(listed.records, list::record_of(member));
+        }
+    }
+}
