@@ -1,18 +1,22 @@
 # make test: the layout, the C and Rust tests, and last the verdict of the prover over every crate.
-# make bench: reading a full bond sheet, against an independent reader in Rust.
+# make bench: ring listings through the host entry against listers in Rust; then reading a full bond sheet.
 
 .PHONY: test tests bench
 
 test: tests
 	rt ci
 
-# What the tests link is proved and built first; the verdict then starts from nothing.
+# What the tests link and run is proved and built first; the verdict then starts from nothing.
 tests:
 	rt version
 	rt fmt --check
 	rt staticlib flat
+	rt staticlib host
+	rt check ringlist
 	tests/run_tests.sh
 
 bench:
 	rt staticlib flat
+	rt staticlib host
+	cd tests/rust && CARGO_TARGET_DIR=../../target/tests/cargo cargo run --release --offline --quiet --bin bench_host
 	cd tests/rust && CARGO_TARGET_DIR=../../target/tests/cargo cargo run --release --offline --quiet --bin bench_sheet

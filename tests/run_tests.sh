@@ -1,15 +1,20 @@
 #!/usr/bin/env bash
-# Runs the C and Rust tests of target/staticlib/libflat.a, and a sample of
-# them under valgrind. Any failure is a non-zero exit.
+# Runs all tests of target/staticlib/libflat.a, target/staticlib/libhost.a and
+# target/bin/ringlist: in C, in Rust, by killing the example host, and a sample
+# under valgrind. Any failure is a non-zero exit.
 set -euo pipefail
 cd "$(dirname "$0")/.."
 root=$PWD
 
-library=$root/target/staticlib/libflat.a
-if [ ! -f "$library" ]; then
-    echo "run_tests.sh: $library is missing; build it first" >&2
-    exit 1
-fi
+flat=$root/target/staticlib/libflat.a
+host=$root/target/staticlib/libhost.a
+ringlist=$root/target/bin/ringlist
+for made in "$flat" "$host" "$ringlist"; do
+    if [ ! -f "$made" ]; then
+        echo "run_tests.sh: $made is missing; build it first" >&2
+        exit 1
+    fi
+done
 
 # need COMMAND PACKAGE: installs the package where the command is missing
 need() {
@@ -23,28 +28,57 @@ need() {
 }
 need cc gcc
 need cargo cargo
+need python3 python3
 need valgrind valgrind
 checker="valgrind --error-exitcode=9 -q"
 
 out=$root/target/tests
 mkdir -p "$out"
 export CARGO_TARGET_DIR=$out/cargo
-unset FLAT_LIB_DIR FLAT_SAMPLE
+unset FLAT_LIB_DIR FLAT_BIN_DIR FLAT_SAMPLE
 
-echo "== C test"
-cc -std=c11 -Wall -Wextra -Werror -O1 -g -I include \
-    tests/c/flat_test.c "$library" -o "$out/flat_test"
+echo "== Example sheets: the script makes the files that are committed"
+rm -rf "$out/sheets"
+mkdir "$out/sheets"
+python3 examples/make_sheets.py "$out/sheets"
+for sheet in "$out"/sheets/*.sheet examples/*.sheet; do
+    cmp "$out/sheets/${sheet##*/}" "examples/${sheet##*/}"
+done
+
+echo "== C tests"
+compile="cc -std=c11 -Wall -Wextra -Werror -O1 -g -I include"
+$compile tests/c/flat_test.c "$flat" -o "$out/flat_test"
+$compile tests/c/host_test.c "$host" -pthread -o "$out/host_test"
+$compile examples/host.c "$host" -o "$out/host"
+$compile examples/minimal.c "$host" -o "$out/minimal"
 "$out/flat_test"
+"$out/host_test"
+
+echo "== The host of twenty lines: the rings that ringlist prints, without its last line"
+for sheet in examples/*.sheet; do
+    "$out/minimal" <"$sheet" >"$out/minimal.text"
+    "$ringlist" <"$sheet" | sed '$d' | cmp - "$out/minimal.text"
+done
+if "$out/minimal" </dev/null 2>"$out/minimal.text"; then exit 1; fi
+echo "refused 1" | cmp - "$out/minimal.text"
 
 echo "== Rust tests"
 (cd tests/rust && cargo test --release --offline)
 
-echo "== C test under valgrind"
+echo "== Killing the example host"
+python3 tests/kill_test.py "$out/host" "$ringlist" examples "$out/kill"
+
+echo "== C tests and hosts under valgrind"
 $checker "$out/flat_test"
+$checker "$out/host_test" without-stack
+$checker "$out/minimal" <examples/dodecahedrane.sheet >/dev/null
+rm -f "$out/state" "$out/rings"
+$checker "$out/host" examples/cubane.sheet "$out/state" "$out/rings" 50
+$checker "$out/host" examples/cubane.sheet "$out/state" "$out/rings" 50
 
 echo "== Rust tests under valgrind, one case in 200"
-host=$(rustc -vV | sed -n 's/^host: //p')
-runner=CARGO_TARGET_$(echo "$host" | tr 'a-z-' 'A-Z_')_RUNNER
+rust=$(rustc -vV | sed -n 's/^host: //p')
+runner=CARGO_TARGET_$(echo "$rust" | tr 'a-z-' 'A-Z_')_RUNNER
 (cd tests/rust && env FLAT_SAMPLE=200 "$runner=$checker" cargo test --release --offline)
 
 echo "== All tests passed"

@@ -1,4 +1,4 @@
-//! Links the static library: from the folder FLAT_LIB_DIR names, or from
+//! Links the static libraries: from the folder FLAT_LIB_DIR names, or from
 //! target/staticlib at the root of the repository.
 
 use std::env;
@@ -11,11 +11,11 @@ fn main() {
             .join("../../target/staticlib"),
     };
     println!("cargo:rustc-link-search=native={}", folder.display());
-    println!("cargo:rustc-link-lib=static=flat");
+    for library in ["flat", "host"] {
+        println!("cargo:rustc-link-lib=static={library}");
+        let file = folder.join(format!("lib{library}.a"));
+        println!("cargo:rerun-if-changed={}", file.display());
+    }
     println!("cargo:rerun-if-env-changed=FLAT_LIB_DIR");
-    println!(
-        "cargo:rerun-if-changed={}",
-        folder.join("libflat.a").display()
-    );
     println!("cargo:rerun-if-changed=build.rs");
 }

@@ -1,7 +1,8 @@
 // Number fields (document 01, "Bond sheet" and "Marks"), of any number of columns.
 ghost use mathlib.Core.Path.{_≡_};
+ghost use Prim.Native.Nat.{_+_, _≤_};
 ghost use lib.ListN.{length, drop};
-ghost use Rattle.fields.specs.Field.{digits, readField, column, fieldText};
+ghost use Rattle.fields.specs.Field.{digits, readField, column, fieldText, fieldAt, valueAt};
 
 // What a field holds.
 pub enum Number {
@@ -87,5 +88,26 @@ pub fn write_number(out: &mut [u8], value: u64)
         i -= 1;
         out[i] = column_byte(v);
         v = v / 10;
+    }
+}
+
+// The field of so many columns at a place.
+pub fn number_at(bytes: &[u8], columns: usize, at: usize) -> Number
+    requires { ⌜ at + columns ≤ length (now bytes) ⌝ }
+    ensures { λ r. ⌜ r ≡ fieldAt columns (now (bytes .entry)) at ⌝ }
+{
+    let end = at + columns;
+    read_number(&bytes[at..end])
+}
+
+// Its value, 0 where it is no number field.
+pub fn value_at(bytes: &[u8], columns: usize, at: usize) -> u64
+    requires { ⌜ at + columns ≤ length (now bytes) ⌝ }
+    ensures { λ r. ⌜ r ≡ valueAt columns (now (bytes .entry)) at ⌝ }
+{
+    let x = number_at(bytes, columns, at);
+    match x {
+        Number::Value(v) => v,
+        Number::Bad => 0,
     }
 }

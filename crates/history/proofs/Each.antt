@@ -38,7 +38,7 @@ paths-start R s t good ends =
     let differ : eqb s t ≡ false = not-true (eqb s t) (and-right a (not (eqb s t)) ends) in
     rw (good, atoms, differ)
 
-rings-kept : (n : ℕ) → kindKept n 0 0 0 ≡ true
+pub rings-kept : (n : ℕ) → kindKept n 0 0 0 ≡ true
 unfolding kindKept
 rings-kept n = refl
 

@@ -1,5 +1,7 @@
 pub mod Entered
+pub mod Joined
 pub mod Reached
+pub mod Stands
 pub mod Demand3
-pub mod Host
+pub mod FromMark
 pub mod Each

@@ -1,23 +1,23 @@
--- What stands after any list of calls is the fresh search after as many trials as were made, and the sheet what those trials list.
--- By induction on the list: a run makes some number of trials more, every other call leaves all as it was.
+-- What stands after any list of calls is the search that they began with after as many trials as were made, and the sheet what those trials list.
+-- By induction on the list: a run makes some number of trials more, every other call leaves all as it was. The fresh search is one beginning, what a mark restores another.
 use Prim.Native.Nat.{ℕ, _+_, _≤_}
 use native.Mathlib.Omega.{arith}
 use mathlib.Core.Path.{_≡_, refl, sym, ap, _∙_, subst}
 use mathlib.Core.Logic.{_⊎_, inl, inr}
-use mathlib.Core.Bool.{Bool, true, false, _||_, cond, or-assoc}
+use mathlib.Core.Bool.{Bool, true, false, _||_, cond, or-false, or-assoc}
 use mathlib.Core.List.{List, [], _∷_}
 use lib.ListN.{length, take}
 use Rattle.graph.proofs.Below.{clash, false-of}
 use Rattle.enumeration.specs.declared.Stop.{Stop}
 use Rattle.enumeration.specs.declared.Stop.the-variants.{Done, Limit, Spent, Full}
-use Rattle.enumeration.specs.Machine.{State, fresh, isDone}
+use Rattle.enumeration.specs.Machine.{State, isDone}
 use Rattle.enumeration.specs.Run.{Outcome, run}
 use Rattle.enumeration.specs.Lawful.{Lawful}
 use Rattle.enumeration.specs.Trials.{Valid, steps, emitted, records}
 use Rattle.enumeration.specs.Ran.{Bounded, Ran}
 use Rattle.enumeration.proofs.Basics.{or-either}
 use Rattle.enumeration.proofs.Running.{records-append}
-use Rattle.enumeration.proofs.Theorems.{steps-composed, emitted-composed, steps-stay, run-outcome, run-keeps-bounded, run-done, fresh-valid, steps-valid, valid-short}
+use Rattle.enumeration.proofs.Theorems.{steps-composed, emitted-composed, steps-stay, run-outcome, run-keeps-bounded, run-done, steps-valid, valid-short}
 use Rattle.molecule.specs.declared.Molecule.{Molecule}
 use Rattle.molecule.specs.Record.{wellFormed}
 use Rattle.search.specs.declared.Search.{Search}
@@ -26,24 +26,25 @@ use Rattle.search.specs.declared.Ended.the-variants as ended
 use Rattle.search.proofs.MarkLaws.{saved-restores}
 use Rattle.search.proofs.Readings.{family-lawful}
 use Rattle.search.proofs.Views.{state-search, valid-restorable}
-use Rattle.search.specs.Place.{familyOf, stateOf, searchAt, freshSearch, kindKept, restorable}
+use Rattle.search.specs.Place.{familyOf, stateOf, searchAt, kindKept, restorable}
 use Rattle.search.specs.Entries.{accepted, runSearch, runOutput}
 use Rattle.search.specs.Mark.{markText, restoreMark}
-use Rattle.history.specs.Calls.{Call, runs, saves, restores, Standing, start, runRefused, refused, afterAccepted, after, standing, Handed, Allowed, History, isDoneStop, endedDone, saysDone, saidDone}
+use Rattle.history.specs.Calls.{Call, runs, saves, restores, Standing, runRefused, refused, afterAccepted, after, standing, Handed, Allowed, History, isDoneStop, endedDone, saysDone, saidDone}
+use Rattle.history.specs.Resumed.{from}
 use Rattle.history.proofs.Entered.{ranAt, movedBy, atoms-most, family-atoms, prefix-size, run-at, wrote-at}
 
--- the fresh search of a kind, s and t after k trials
-abbrev pub stateAt : Molecule → ℕ → ℕ → ℕ → ℕ → State
-stateAt R kind s t k = steps (familyOf R kind s t) k fresh
+-- the search of a kind, s and t, k trials after the state that it began with
+abbrev pub stateAt : Molecule → ℕ → ℕ → ℕ → State → ℕ → State
+stateAt R kind s t origin k = steps (familyOf R kind s t) k origin
 
 -- x is what stands after k trials, none of them after done; if a run said done, the search is done
-pub record Reached (R : Molecule) (kind s t : ℕ) (said : Bool) (k : ℕ) (x : Standing) : Type 0 where
-  pub search-is : x .search ≡ searchAt kind s t (stateAt R kind s t k)
-  pub sheet-is : x .sheet ≡ records (emitted (familyOf R kind s t) k fresh)
+pub record Reached (R : Molecule) (kind s t : ℕ) (origin : State) (said : Bool) (k : ℕ) (x : Standing) : Type 0 where
+  pub search-is : x .search ≡ searchAt kind s t (stateAt R kind s t origin k)
+  pub sheet-is : x .sheet ≡ records (emitted (familyOf R kind s t) k origin)
   pub made-is : x .made ≡ k
-  pub counted : stateAt R kind s t k .trials ≡ k
-  pub bounded : Bounded (stateAt R kind s t k)
-  pub finished : said ≡ true → isDone (familyOf R kind s t .atoms) (stateAt R kind s t k) ≡ true
+  pub counted : stateAt R kind s t origin k .trials ≡ origin .trials + k
+  pub bounded : Bounded (stateAt R kind s t origin k)
+  pub finished : said ≡ true → isDone (familyOf R kind s t .atoms) (stateAt R kind s t origin k) ≡ true
 
 -- a run that says done is not refused
 done-accepted : (e : Ended) → endedDone e ≡ true → runRefused e ≡ true → ⊥
@@ -60,10 +61,6 @@ cond-same : {A : Type 0} (b : Bool) (x : A) → cond b x x ≡ x
 cond-same true x = refl
 cond-same false x = refl
 
-or-false : (b : Bool) → (b || false) ≡ b
-or-false true = refl
-or-false false = refl
-
 after-refused : (x : Standing) (call : Call) → refused call ≡ true → after x call ≡ x
 unfolding after
 after-refused x call e = rw e
@@ -78,16 +75,12 @@ refused-says (runs mol q budget out) e = false-of (endedDone (runSearch mol q bu
 refused-says (saves mol q buffer) e = refl
 refused-says (restores mol mark) e = refl
 
-fresh-bounded : Bounded fresh
-unfolding fresh
-fresh-bounded = omega arith
-
-module _ (R : Molecule) (kind s t : ℕ) (good : wellFormed R ≡ true) (kept : kindKept (R .atoms) kind s t ≡ true) where
+module _ (R : Molecule) (kind s t : ℕ) (good : wellFormed R ≡ true) (kept : kindKept (R .atoms) kind s t ≡ true) (origin : State) (sound : Valid (familyOf R kind s t) origin) where
   pub lawful : Lawful (familyOf R kind s t)
   lawful = family-lawful R kind s t
 
-  pub valid-at : (k : ℕ) → Valid (familyOf R kind s t) (stateAt R kind s t k)
-  valid-at k = steps-valid (familyOf R kind s t) lawful k fresh (fresh-valid (familyOf R kind s t) lawful)
+  pub valid-at : (k : ℕ) → Valid (familyOf R kind s t) (stateAt R kind s t origin k)
+  valid-at k = steps-valid (familyOf R kind s t) lawful k origin sound
 
   short-of : (st : State) → Valid (familyOf R kind s t) st → length (st .stack) ≤ 128
   short-of st v = omega (arith, valid-short (familyOf R kind s t) lawful st v, family-atoms R kind s t, atoms-most R good)
@@ -96,13 +89,13 @@ module _ (R : Molecule) (kind s t : ℕ) (good : wellFormed R ≡ true) (kept : 
   back-of st v = state-search kind s t st
 
   -- at the start
-  pub reached-start : Reached R kind s t false 0 (start kind s t)
-  unfolding start freshSearch steps emitted records fresh
-  reached-start = record { search-is = refl; sheet-is = refl; made-is = refl; counted = refl; bounded = fresh-bounded; finished = λ e. absurd (clash false e refl) }
+  pub reached-start : Bounded origin → (x : Standing) → x ≡ from (searchAt kind s t origin) → Reached R kind s t origin false 0 x
+  unfolding from steps emitted records
+  reached-start b x e = rw e (record { search-is = refl; sheet-is = refl; made-is = refl; counted = omega arith; bounded = b; finished = λ e. absurd (clash false e refl) })
 
-  module _ (said : Bool) (k : ℕ) (x : Standing) (r : Reached R kind s t said k x) where
-    pub passes-at : restorable R (searchAt kind s t (stateAt R kind s t k)) ≡ true
-    passes-at = valid-restorable R kind s t good kept (stateAt R kind s t k) (valid-at k) (r .bounded)
+  module _ (said : Bool) (k : ℕ) (x : Standing) (r : Reached R kind s t origin said k x) where
+    pub passes-at : restorable R (searchAt kind s t (stateAt R kind s t origin k)) ≡ true
+    passes-at = valid-restorable R kind s t good kept (stateAt R kind s t origin k) (valid-at k) (r .bounded)
 
     -- the search passes rule 12, and its mark restores it
     pub reached-restorable : restorable R (x .search) ≡ true
@@ -111,22 +104,22 @@ module _ (R : Molecule) (kind s t : ℕ) (good : wellFormed R ≡ true) (kept : 
     pub reached-restores : restoreMark R (markText R (x .search)) ≡ accepted (x .search)
     reached-restores =
         saved-restores R (x .search) good reached-restorable
-        (rw (r .search-is) (prefix-size kind s t (stateAt R kind s t k) (short-of (stateAt R kind s t k) (valid-at k))))
+        (rw (r .search-is) (prefix-size kind s t (stateAt R kind s t origin k) (short-of (stateAt R kind s t origin k) (valid-at k))))
 
-    pub reached-state : stateOf (x .search) ≡ stateAt R kind s t k
-    reached-state = rw (r .search-is) (back-of (stateAt R kind s t k) (valid-at k))
+    pub reached-state : stateOf (x .search) ≡ stateAt R kind s t origin k
+    reached-state = rw (r .search-is) (back-of (stateAt R kind s t origin k) (valid-at k))
 
     -- a run of it is the run of the state
-    pub reached-runs : (budget : ℕ) (out : List ℕ) → runSearch R (x .search) budget out ≡ ranAt kind s t (run (familyOf R kind s t) budget (length out) (stateAt R kind s t k))
-    reached-runs budget out = rw (r .search-is) (run-at R good kind s t (stateAt R kind s t k) (back-of (stateAt R kind s t k) (valid-at k)) passes-at budget out)
+    pub reached-runs : (budget : ℕ) (out : List ℕ) → runSearch R (x .search) budget out ≡ ranAt kind s t (run (familyOf R kind s t) budget (length out) (stateAt R kind s t origin k))
+    reached-runs budget out = rw (r .search-is) (run-at R good kind s t (stateAt R kind s t origin k) (back-of (stateAt R kind s t origin k) (valid-at k)) passes-at budget out)
 
     reached-wrote :
         (budget : ℕ) (out : List ℕ) →
-        take (length (run (familyOf R kind s t) budget (length out) (stateAt R kind s t k) .bytes)) (runOutput R (x .search) budget out)
-        ≡ run (familyOf R kind s t) budget (length out) (stateAt R kind s t k) .bytes
-    reached-wrote budget out = rw (r .search-is) (wrote-at R good kind s t (stateAt R kind s t k) (back-of (stateAt R kind s t k) (valid-at k)) passes-at budget out)
+        take (length (run (familyOf R kind s t) budget (length out) (stateAt R kind s t origin k) .bytes)) (runOutput R (x .search) budget out)
+        ≡ run (familyOf R kind s t) budget (length out) (stateAt R kind s t origin k) .bytes
+    reached-wrote budget out = rw (r .search-is) (wrote-at R good kind s t (stateAt R kind s t origin k) (back-of (stateAt R kind s t origin k) (valid-at k)) passes-at budget out)
 
-    pub after-run : (budget : ℕ) (out : List ℕ) → after x (runs R (x .search) budget out) ≡ movedBy kind s t x (run (familyOf R kind s t) budget (length out) (stateAt R kind s t k))
+    pub after-run : (budget : ℕ) (out : List ℕ) → after x (runs R (x .search) budget out) ≡ movedBy kind s t x (run (familyOf R kind s t) budget (length out) (stateAt R kind s t origin k))
     unfolding after refused afterAccepted
     after-run budget out = rw (reached-runs budget out, reached-wrote budget out)
 
@@ -137,51 +130,51 @@ module _ (R : Molecule) (kind s t : ℕ) (good : wellFormed R ≡ true) (kept : 
 
     -- the outcome of a run is reached too
     moved-reached :
-        (budget room : ℕ) (o : Outcome) → Ran (familyOf R kind s t) budget room (stateAt R kind s t k) o → Bounded (o .state) → (o .stop ≡ Done → isDone (familyOf R kind s t .atoms) (o .state) ≡ true) →
-        Reached R kind s t (said || isDoneStop (o .stop)) (k + o .made) (movedBy kind s t x o)
+        (budget room : ℕ) (o : Outcome) → Ran (familyOf R kind s t) budget room (stateAt R kind s t origin k) o → Bounded (o .state) → (o .stop ≡ Done → isDone (familyOf R kind s t .atoms) (o .state) ≡ true) →
+        Reached R kind s t origin (said || isDoneStop (o .stop)) (k + o .made) (movedBy kind s t x o)
     moved-reached budget room o w b d = record {
       search-is = ap (searchAt kind s t) state-is;
-      sheet-is = rw (emitted-composed (familyOf R kind s t) k (o .made) fresh, records-append, r .sheet-is, w .wrote);
+      sheet-is = rw (emitted-composed (familyOf R kind s t) k (o .made) origin, records-append, r .sheet-is, w .wrote);
       made-is = omega (arith, r .made-is);
       counted = omega (arith, ap (λ (st : State). st .trials) state-is, w .counted, r .counted);
       bounded = subst Bounded state-is b;
       finished = λ e. by (or-either said (isDoneStop (o .stop)) e);
     }
       where
-        state-is : o .state ≡ stateAt R kind s t (k + o .made)
-        state-is = w .stepped ∙ sym (steps-composed (familyOf R kind s t) k (o .made) fresh)
+        state-is : o .state ≡ stateAt R kind s t origin (k + o .made)
+        state-is = w .stepped ∙ sym (steps-composed (familyOf R kind s t) k (o .made) origin)
 
-        by : (said ≡ true) ⊎ (isDoneStop (o .stop) ≡ true) → isDone (familyOf R kind s t .atoms) (stateAt R kind s t (k + o .made)) ≡ true
-        by (inl e) = rw (← state-is, w .stepped, steps-stay (familyOf R kind s t) (o .made) (stateAt R kind s t k) (r .finished e)) (r .finished e)
+        by : (said ≡ true) ⊎ (isDoneStop (o .stop) ≡ true) → isDone (familyOf R kind s t .atoms) (stateAt R kind s t origin (k + o .made)) ≡ true
+        by (inl e) = rw (← state-is, w .stepped, steps-stay (familyOf R kind s t) (o .made) (stateAt R kind s t origin k) (r .finished e)) (r .finished e)
         by (inr e) = rw (← state-is) (d (stop-done (o .stop) e))
 
     -- so is what stands after a run handed the search as it stands
-    run-reached : (budget : ℕ) (out : List ℕ) → (k′ : ℕ) × Reached R kind s t (said || saysDone (runs R (x .search) budget out)) k′ (after x (runs R (x .search) budget out))
+    run-reached : (budget : ℕ) (out : List ℕ) → (k′ : ℕ) × Reached R kind s t origin (said || saysDone (runs R (x .search) budget out)) k′ (after x (runs R (x .search) budget out))
     unfolding saysDone
     run-reached budget out = (
-      k + run (familyOf R kind s t) budget (length out) (stateAt R kind s t k) .made,
+      k + run (familyOf R kind s t) budget (length out) (stateAt R kind s t origin k) .made,
       rw (after-run budget out, reached-runs budget out)
-          (moved-reached budget (length out) (run (familyOf R kind s t) budget (length out) (stateAt R kind s t k))
-          (run-outcome (familyOf R kind s t) budget (length out) (stateAt R kind s t k))
-          (run-keeps-bounded (familyOf R kind s t) budget (length out) (stateAt R kind s t k) (r .bounded))
-          (run-done (familyOf R kind s t) budget (length out) (stateAt R kind s t k))),
+          (moved-reached budget (length out) (run (familyOf R kind s t) budget (length out) (stateAt R kind s t origin k))
+          (run-outcome (familyOf R kind s t) budget (length out) (stateAt R kind s t origin k))
+          (run-keeps-bounded (familyOf R kind s t) budget (length out) (stateAt R kind s t origin k) (r .bounded))
+          (run-done (familyOf R kind s t) budget (length out) (stateAt R kind s t origin k))),
     )
 
-    same-reached : (call : Call) → after x call ≡ x → saysDone call ≡ false → (k′ : ℕ) × Reached R kind s t (said || saysDone call) k′ (after x call)
+    same-reached : (call : Call) → after x call ≡ x → saysDone call ≡ false → (k′ : ℕ) × Reached R kind s t origin (said || saysDone call) k′ (after x call)
     same-reached call e f = (k, rw (e, f, or-false said) r)
 
-    handed-reached : (call : Call) → Handed R (x .search) call → (k′ : ℕ) × Reached R kind s t (said || saysDone call) k′ (after x call)
+    handed-reached : (call : Call) → Handed R (x .search) call → (k′ : ℕ) × Reached R kind s t origin (said || saysDone call) k′ (after x call)
     unfolding saysDone
     handed-reached (runs mol p budget out) h = rw (h .0, h .1) (run-reached budget out)
     handed-reached (saves mol p buffer) h = same-reached (saves mol p buffer) (after-save x mol p buffer) refl
     handed-reached (restores mol mark) h = rw (h .0, h .1) (same-reached (restores R (markText R (x .search))) after-restore refl)
 
     -- and what stands after any call that is allowed
-    pub allowed-reached : (call : Call) → Allowed R x call → (k′ : ℕ) × Reached R kind s t (said || saysDone call) k′ (after x call)
+    pub allowed-reached : (call : Call) → Allowed R x call → (k′ : ℕ) × Reached R kind s t origin (said || saysDone call) k′ (after x call)
     allowed-reached call (inl e) = same-reached call (after-refused x call e) (refused-says call e)
     allowed-reached call (inr h) = handed-reached call h
 
-  pub list-reached : (calls : List Call) (x : Standing) → History R x calls → (said : Bool) (k : ℕ) → Reached R kind s t said k x → (k′ : ℕ) × Reached R kind s t (said || saidDone calls) k′ (standing x calls)
+  pub list-reached : (calls : List Call) (x : Standing) → History R x calls → (said : Bool) (k : ℕ) → Reached R kind s t origin said k x → (k′ : ℕ) × Reached R kind s t origin (said || saidDone calls) k′ (standing x calls)
   unfolding standing saidDone
   list-reached [] x h said k r = (k, rw (or-false said) r)
   list-reached (call ∷ calls) x h said k r =

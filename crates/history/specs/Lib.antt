@@ -1,3 +1,3 @@
 pub mod Calls
 pub mod Demand
-pub mod Host
+pub mod Resumed

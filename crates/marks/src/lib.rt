@@ -5,7 +5,7 @@ ghost use mathlib.Core.List.{[], _∷_, map};
 ghost use Prim.Native.Nat.{_+_, _*_, _≤_, _<_};
 ghost use lib.ListN.{length, take};
 ghost use Rattle.enumeration.specs.Words.{isOpen};
-ghost use Rattle.fields.specs.Field.{fieldText, fieldAt, isValue, valueAt};
+ghost use Rattle.fields.specs.Field.{fieldText, isValue, valueAt};
 ghost use Rattle.molecule.specs.Record.{wellFormed};
 ghost use Rattle.search.specs.Place.{family, beginning, held, endsKept, kindKept, placeKept, restorable};
 ghost use Rattle.search.specs.Entries.{turnedBack};
@@ -119,33 +119,12 @@ pub fn save(m: Molecule, q: Search, out: &mut [u8]) -> Saved
 
 // ---- reading
 
-// The field of so many columns at a place.
-fn number_at(bytes: &[u8], columns: usize, at: usize) -> Number
-    requires { ⌜ at + columns ≤ length (now bytes) ⌝ }
-    ensures { λ r. ⌜ r ≡ fieldAt columns (now (bytes .entry)) at ⌝ }
-{
-    let end = at + columns;
-    fields::read_number(&bytes[at..end])
-}
-
-// Its value, 0 where it is no number field.
-fn value_at(bytes: &[u8], columns: usize, at: usize) -> u64
-    requires { ⌜ at + columns ≤ length (now bytes) ⌝ }
-    ensures { λ r. ⌜ r ≡ valueAt columns (now (bytes .entry)) at ⌝ }
-{
-    let x = number_at(bytes, columns, at);
-    match x {
-        Number::Value(v) => v,
-        Number::Bad => 0,
-    }
-}
-
 // The value of a field of 4 columns.
 fn small_at(bytes: &[u8], at: usize) -> usize
     requires { ⌜ at + 4 ≤ length (now bytes) ⌝ }
     ensures { λ r. ⌜ r ≡ valueAt 4 (now (bytes .entry)) at ⌝ }
 {
-    value_at(bytes, 4, at) as usize
+    fields::value_at(bytes, 4, at) as usize
 }
 
 fn is_value(x: Number) -> bool
@@ -165,7 +144,7 @@ fn fields_kept(bytes: &[u8], columns: usize, at: usize, k: usize) -> bool
     let mut i: usize = 0;
     let mut place = at;
     while i < k {
-        if !is_value(number_at(bytes, columns, place)) {
+        if !is_value(fields::number_at(bytes, columns, place)) {
             return false;
         }
         place += columns;
@@ -240,9 +219,9 @@ fn search_of(bytes: &[u8], prefix: [u8; 128]) -> Search
     let t = small_at(bytes, 8);
     let len = small_at(bytes, 20);
     let next = small_at(bytes, 24);
-    let trials = value_at(bytes, 20, 29);
-    let extensions = value_at(bytes, 20, 49);
-    let listed = value_at(bytes, 20, 69);
+    let trials = fields::value_at(bytes, 20, 29);
+    let extensions = fields::value_at(bytes, 20, 49);
+    let listed = fields::value_at(bytes, 20, 69);
     Search {
         kind: kind,
         s: s,

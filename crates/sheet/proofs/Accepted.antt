@@ -62,7 +62,7 @@ accepted-rules s e =
     }
 
 -- two pairs that are the same
-same-pair-cases : (x : Bond) (a b : ℕ) → samePair x (a, b) ≡ true → ((x .0 ≡ a) × (x .1 ≡ b)) ⊎ ((x .0 ≡ b) × (x .1 ≡ a))
+pub same-pair-cases : (x : Bond) (a b : ℕ) → samePair x (a, b) ≡ true → ((x .0 ≡ a) × (x .1 ≡ b)) ⊎ ((x .0 ≡ b) × (x .1 ≡ a))
 unfolding samePair
 same-pair-cases x a b e = go (either (eqb (x .0) a && eqb (x .1) b))
   where

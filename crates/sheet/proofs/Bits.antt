@@ -17,10 +17,10 @@ use Rattle.sheet.specs.Bonds.{withBit}
 half-shift : (x k : ℕ) → x / 2 ^ suc k ≡ x / 2 / 2 ^ k
 half-shift x k = ap (λ p. x / p) (pow-suc 2 k ∙ mul-comm (2 ^ k) 2) ∙ sym (div-div-eq-div-mul x 2 (2 ^ k))
 
-bit-half : (x k : ℕ) → bit x (suc k) ≡ bit (x / 2) k
+pub bit-half : (x k : ℕ) → bit x (suc k) ≡ bit (x / 2) k
 bit-half x k = ap (λ y. eqb (y % 2) 1) (half-shift x k)
 
-bit-first : (x : ℕ) → bit x 0 ≡ eqb (x % 2) 1
+pub bit-first : (x : ℕ) → bit x 0 ≡ eqb (x % 2) 1
 bit-first x = ap (λ y. eqb (y % 2) 1) (ap (λ p. x / p) (pow-zero 2) ∙ div-one x)
 
 -- a number with a bit set, by its half

@@ -3,6 +3,7 @@ pub mod Answers
 pub mod Bits
 pub mod Cells
 pub mod Complete
+pub mod EveryRecord
 pub mod Lines
 pub mod Same
 pub mod Stored

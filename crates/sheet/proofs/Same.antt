@@ -25,7 +25,7 @@ module _ (n : ℕ) (bond bond′ : ℕ → Bond) (m : ℕ) (same : (k : ℕ) →
   unfolding differs
   itself-same = none-to-itself-is bond m ∙ all-same m (differs bond) (differs bond′) (λ k h. rw (same k h)) ∙ sym (none-to-itself-is bond′ m)
 
-  twice-same : noneTwice bond m ≡ noneTwice bond′ m
+  pub twice-same : noneTwice bond m ≡ noneTwice bond′ m
   unfolding noneTwice
   twice-same =
       all-same m (λ k. allBelow k (λ j. not (samePair (bond j) (bond k)))) (λ k. allBelow k (λ j. not (samePair (bond′ j) (bond′ k))))

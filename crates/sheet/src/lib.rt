@@ -3,7 +3,6 @@ ghost use mathlib.Core.Path.{_≡_};
 ghost use mathlib.Core.Bool.{true};
 ghost use Prim.Native.Nat.{min, _+_, _*_, _≤_, _<_};
 ghost use lib.ListN.{length};
-ghost use Rattle.fields.specs.Field.{fieldAt};
 ghost use Rattle.sheet.specs.Bonds.{atomsKept, noneToItself, withCell};
 ghost use Rattle.sheet.specs.Read.{turnedBack, readBonds, readSheet};
 ghost use Rattle.sheet.specs.Parts.{storedBond, ReadsLine, ReadsLines};
@@ -30,22 +29,13 @@ struct Decoded {
     pub values: [u16; 2052],
 }
 
-// A field of 4 columns.
-fn field(s: &[u8], at: usize) -> Number
-    requires { ⌜ at + 4 ≤ length (now s) ⌝ }
-    ensures { λ r. ⌜ r ≡ fieldAt 4 (now (s .entry)) at ⌝ }
-{
-    let end = at + 4;
-    fields::read_number(&s[at..end])
-}
-
 // One line of 9 bytes.
 fn line(s: &[u8], i: usize) -> Entry
     requires { ⌜ 9 * i + 9 ≤ length (now s) ⌝ }
     ensures { λ r. ⌜ ReadsLine (now (s .entry)) i r ⌝ }
 {
     let at = 9 * i;
-    let left = field(s, at);
+    let left = fields::number_at(s, 4, at);
     let Number::Value(a) = left else {
         return Entry {
             ok: false,
@@ -53,7 +43,7 @@ fn line(s: &[u8], i: usize) -> Entry
             right: 0,
         };
     };
-    let right = field(s, at + 4);
+    let right = fields::number_at(s, 4, at + 4);
     let Number::Value(b) = right else {
         return Entry {
             ok: false,

@@ -467,7 +467,12 @@ pub const SHEET_KINDS: u64 = 16;
 
 /// A sheet of the given kind.
 pub fn any_sheet(rng: &mut Rng, kind: u64) -> Vec<u8> {
-    let mut sheet = any_molecule(rng).sheet();
+    let sheet = any_molecule(rng).sheet();
+    changed_sheet(rng, kind, sheet)
+}
+
+/// A right sheet changed in the given way, or another in its place.
+pub fn changed_sheet(rng: &mut Rng, kind: u64, mut sheet: Vec<u8>) -> Vec<u8> {
     match kind {
         0 | 1 => {}
         2 => damage_byte(rng, &mut sheet),

@@ -1,13 +1,17 @@
-//! Tests of the library behind `include/flat.h` against a model written from
-//! the scope document alone.
+//! Tests of the libraries behind `include/flat.h` and `include/ringlist.h`, and
+//! of the program `ringlist`, against a model written from the scope document
+//! alone.
 
 pub mod compare;
+pub mod examples;
 pub mod ffi;
 pub mod generate;
 pub mod guard;
+pub mod host;
 pub mod model;
 pub mod rng;
 pub mod spoil;
+pub mod stepper;
 
 /// The divisor FLAT_SAMPLE (1 when unset), for slow runs such as under valgrind.
 pub fn sample() -> u64 {

@@ -11,8 +11,8 @@ use Rattle.sheet.proofs.line.Tie as tie
 mul-at : tie.Need-mul-at
 mul-at c = search needs
 
-field-requires : tie.Need-field-requires
-field-requires c κs = search needs
+number-at-requires : tie.Need-number-at-requires
+number-at-requires c κs = search needs
 
 enum-known-left : tie.Need-enum-known-left
 enum-known-left c = search needs
@@ -21,13 +21,13 @@ enum-told : tie.Need-enum-told
 enum-told c = search needs
 
 returns : tie.Need-returns
-returns c = record { ok = sym (line-left-bad _ _ (sym (c .before .before .field .ensures) ∙ c .enum-told .given .1)); values = λ e. absurd (true≢false (sym e)) }
+returns c = record { ok = sym (line-left-bad _ _ (sym (c .before .before .number-at .ensures) ∙ c .enum-told .given .1)); values = λ e. absurd (true≢false (sym e)) }
 
-add-field : tie.Need-add-field
-add-field c = search needs
+add-number-at : tie.Need-add-number-at
+add-number-at c = search needs
 
-field-requires-2 : tie.Need-field-requires-2
-field-requires-2 c κs = search needs
+number-at-requires-2 : tie.Need-number-at-requires-2
+number-at-requires-2 c κs = search needs
 
 enum-known-right : tie.Need-enum-known-right
 enum-known-right c = search needs
@@ -36,7 +36,7 @@ enum-told-2 : tie.Need-enum-told-2
 enum-told-2 c = search needs
 
 returns-2 : tie.Need-returns-2
-returns-2 c = record { ok = sym (line-right-bad _ _ _ (sym (c .before .before .before .before .before .before .field .ensures) ∙ c .before .before .before .before .left .given .1) (sym (c .before .before .field2 .ensures) ∙ c .enum-told2 .given .1)); values = λ e. absurd (true≢false (sym e)) }
+returns-2 c = record { ok = sym (line-right-bad _ _ _ (sym (c .before .before .before .before .before .before .number-at .ensures) ∙ c .before .before .before .before .left .given .1) (sym (c .before .before .number-at2 .ensures) ∙ c .enum-told2 .given .1)); values = λ e. absurd (true≢false (sym e)) }
 
 add-if1 : tie.Need-add-if1
 add-if1 c = search needs
@@ -45,28 +45,28 @@ shared-slice-read-if1 : tie.Need-shared-slice-read-if1
 shared-slice-read-if1 c = search needs
 
 returns-3 : tie.Need-returns-3
-returns-3 c = record { ok = sym (line-end-bad (c .before .before .before .before .before .before .before .before .before .before .before .args .s .now) (c .before .before .before .before .before .before .before .before .before .before .before .args .i) _ (sym (c .before .before .before .before .before .before .before .before .before .field .ensures) ∙ c .before .before .before .before .before .before .before .left .given .1) _ (sym (c .before .before .before .before .before .field2 .ensures) ∙ c .before .before .before .right .given .1) (c .if1 .taken)); values = λ e. absurd (true≢false (sym e)) }
+returns-3 c = record { ok = sym (line-end-bad (c .before .before .before .before .before .before .before .before .before .before .before .args .s .now) (c .before .before .before .before .before .before .before .before .before .before .before .args .i) _ (sym (c .before .before .before .before .before .before .before .before .before .number-at .ensures) ∙ c .before .before .before .before .before .before .before .left .given .1) _ (sym (c .before .before .before .before .before .number-at2 .ensures) ∙ c .before .before .before .right .given .1) (c .if1 .taken)); values = λ e. absurd (true≢false (sym e)) }
 
 cast-t12 : tie.Need-cast-t12
-cast-t12 c = record { fits = field-small (c .before .before .before .before .before .before .before .before .before .before .before .args .s .now) (9 * c .before .before .before .before .before .before .before .before .before .before .before .args .i) _ (sym (c .before .before .before .before .before .before .before .before .before .field .ensures) ∙ c .before .before .before .before .before .before .before .left .given .1) }
+cast-t12 c = record { fits = field-small (c .before .before .before .before .before .before .before .before .before .before .before .args .s .now) (9 * c .before .before .before .before .before .before .before .before .before .before .before .args .i) _ (sym (c .before .before .before .before .before .before .before .before .before .number-at .ensures) ∙ c .before .before .before .before .before .before .before .left .given .1) }
 
 cast-t13 : tie.Need-cast-t13
-cast-t13 c = record { fits = field-small (c .before .before .before .before .before .before .before .before .before .before .before .args .s .now) (9 * c .before .before .before .before .before .before .before .before .before .before .before .args .i + 4) _ (sym (c .before .before .before .before .before .field2 .ensures) ∙ c .before .before .before .right .given .1) }
+cast-t13 c = record { fits = field-small (c .before .before .before .before .before .before .before .before .before .before .before .args .s .now) (9 * c .before .before .before .before .before .before .before .before .before .before .before .args .i + 4) _ (sym (c .before .before .before .before .before .number-at2 .ensures) ∙ c .before .before .before .right .given .1) }
 
 returns-4 : tie.Need-returns-4
-returns-4 c = record { ok = sym (line-good (c .before .before .before .before .before .before .before .before .before .before .before .args .s .now) (c .before .before .before .before .before .before .before .before .before .before .before .args .i) _ (sym (c .before .before .before .before .before .before .before .before .before .field .ensures) ∙ c .before .before .before .before .before .before .before .left .given .1) _ (sym (c .before .before .before .before .before .field2 .ensures) ∙ c .before .before .before .right .given .1) (c .if1 .left)); values = λ e. line-values (c .before .before .before .before .before .before .before .before .before .before .before .args .s .now) (c .before .before .before .before .before .before .before .before .before .before .before .args .i) _ (sym (c .before .before .before .before .before .before .before .before .before .field .ensures) ∙ c .before .before .before .before .before .before .before .left .given .1) _ (sym (c .before .before .before .before .before .field2 .ensures) ∙ c .before .before .before .right .given .1) }
+returns-4 c = record { ok = sym (line-good (c .before .before .before .before .before .before .before .before .before .before .before .args .s .now) (c .before .before .before .before .before .before .before .before .before .before .before .args .i) _ (sym (c .before .before .before .before .before .before .before .before .before .number-at .ensures) ∙ c .before .before .before .before .before .before .before .left .given .1) _ (sym (c .before .before .before .before .before .number-at2 .ensures) ∙ c .before .before .before .right .given .1) (c .if1 .left)); values = λ e. line-values (c .before .before .before .before .before .before .before .before .before .before .before .args .s .now) (c .before .before .before .before .before .before .before .before .before .before .before .args .i) _ (sym (c .before .before .before .before .before .before .before .before .before .number-at .ensures) ∙ c .before .before .before .before .before .before .before .left .given .1) _ (sym (c .before .before .before .before .before .number-at2 .ensures) ∙ c .before .before .before .right .given .1) }
 
 pub line-spec : {M : Type 1} → statement M
 line-spec =
     tie.close
     (tie.spec
     mul-at
-    field-requires
+    number-at-requires
     enum-known-left
     enum-told
     returns
-    add-field
-    field-requires-2
+    add-number-at
+    number-at-requires-2
     enum-known-right
     enum-told-2
     returns-2

@@ -2,6 +2,7 @@
 //! nothing with the library.
 
 pub mod field;
+pub mod host;
 pub mod judge;
 pub mod list;
 pub mod lister;

@@ -1,9 +1,8 @@
--- A field of 4 columns at a place.
--- The part that is lent has the four bytes of the definition.
+-- A field at a place: the part that is lent has the bytes of the definition.
 use native.Mathlib.Nat.{add-sub-cancel-left}
 use borrow.Author.Needs.{needs}
-use Rattle.sheet.proofs.field.Statement.{statement}
-use Rattle.sheet.proofs.field.Tie as tie
+use Rattle.fields.proofs.number_at.Statement.{statement}
+use Rattle.fields.proofs.number_at.Tie as tie
 
 add-end : tie.Need-add-end
 add-end c = search needs
@@ -21,10 +20,10 @@ read-number-requires : tie.Need-read-number-requires
 read-number-requires c κs = search needs
 
 returns : tie.Need-returns
-returns c = rw (add-sub-cancel-left (c .before .before .before .args .at) 4) at (c .read-number .ensures)
+returns c = rw (add-sub-cancel-left (c .before .before .before .args .at) (c .before .before .before .args .columns)) at (c .read-number .ensures)
 
-pub field-spec : {M : Type 1} → statement M
-field-spec =
+pub number-at-spec : {M : Type 1} → statement M
+number-at-spec =
     tie.close
     (tie.spec
     add-end

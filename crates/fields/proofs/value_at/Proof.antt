@@ -1,8 +1,9 @@
+-- The value of a field at a place, 0 where it is no number field.
 use mathlib.Core.Path.{ap, sym, _∙_}
 use Rattle.fields.specs.Field.{valueOf}
 use borrow.Author.Needs.{needs}
-use Rattle.marks.proofs.value_at.Statement.{statement}
-use Rattle.marks.proofs.value_at.Tie as tie
+use Rattle.fields.proofs.value_at.Statement.{statement}
+use Rattle.fields.proofs.value_at.Tie as tie
 
 number-at-requires : tie.Need-number-at-requires
 number-at-requires c κs = search needs

@@ -1,0 +1,102 @@
+-- What the entry returns and leaves, by each way through it.
+-- From the definitions, at the tests that were made on the way.
+use Prim.Native.Nat.{ℕ, _+_, _*_, _^_, _≤_, _<_}
+use native.Mathlib.Omega.{arith}
+use mathlib.Core.Path.{_≡_, ap, sym, _∙_}
+use mathlib.Core.List.{List}
+use lib.ListN.{length, take, drop, length-drop}
+use lib.Seq.{length-take-le}
+use borrow.Author.Tests.{eq-eqb, ne-eqb, le-leb, lt-leb}
+use Rattle.fields.specs.declared.Number.{Number}
+use Rattle.fields.specs.declared.Number.the-variants.{Value, Bad}
+use Rattle.fields.proofs.Laws.{read-fits}
+use Rattle.refusal.specs.declared.Refusal.{Refusal}
+use Rattle.refusal.specs.declared.Refusal.the-variants as refusal
+use Rattle.refusal.specs.declared.Answer.the-variants.{Accepted, Refused}
+use Rattle.molecule.specs.declared.Molecule.{Molecule}
+use Rattle.sheet.specs.declared.Sheet.{Sheet}
+use Rattle.sheet.specs.Read.{readSheet}
+use Rattle.search.specs.declared.Search.{Search}
+use Rattle.search.specs.declared.Made.{Made}
+use Rattle.search.specs.declared.Ran.{Ran}
+use Rattle.search.specs.Entries.{startRings, runSearch, runOutput}
+use Rattle.search.specs.Mark.{fieldAt, valueAt, saveOutput, restoreMark}
+use Rattle.host.specs.Resume.{Resumed, turnedBack, endedNumber, searchFor, runAndSave, resume, markSize, listedIn}
+
+module _ (mol : Molecule) (mark : List ℕ) where
+  pub search-fresh : length mark ≡ 0 → startRings mol ≡ searchFor mol mark
+  unfolding searchFor
+  search-fresh e = rw (eq-eqb (length mark) 0 e)
+
+  pub search-restored : (length mark ≡ 0 → ⊥) → restoreMark mol mark ≡ searchFor mol mark
+  unfolding searchFor
+  search-restored h = rw (ne-eqb (length mark) 0 h)
+
+-- what is returned and left, part by part
+abbrev pub Leaves : ℕ → List ℕ → List ℕ → Resumed → Type 0
+Leaves number rings next x = (number ≡ x .number) × ((rings ≡ x .rings) × (next ≡ x .nextMark))
+
+pub leaves : {x y : Resumed} → x ≡ y → (number : ℕ) (rings next : List ℕ) → Leaves number rings next x → Leaves number rings next y
+leaves e number rings next h = (h .0 ∙ ap (λ (z : Resumed). z .number) e, (h .1 .0 ∙ ap (λ (z : Resumed). z .rings) e, h .1 .1 ∙ ap (λ (z : Resumed). z .nextMark) e))
+
+-- the run and the save, from what the two entries promise
+pub ran-and-saved : (mol : Molecule) (q : Search) (budget : ℕ) (rings next : List ℕ) (ran : Ran) (number : ℕ) (out saved : List ℕ) → ran ≡ runSearch mol q budget rings → out ≡ runOutput mol q budget rings → saved ≡ saveOutput mol (ran .search) next → number ≡ endedNumber (ran .ended) → Leaves number out saved (runAndSave mol q budget rings next)
+unfolding runAndSave
+ran-and-saved mol q budget rings next ran number out saved r o s n =
+    (n ∙ ap (λ (x : Ran). endedNumber (x .ended)) r, (o, s ∙ ap (λ (x : Ran). saveOutput mol (x .search) next) r))
+
+module _ (sheet mark : List ℕ) (budget : ℕ) (rings next : List ℕ) (read : Sheet) (is-read : read ≡ readSheet sheet) where
+  pub sheet-refused : (r : Refusal) → read .answer ≡ Refused r → turnedBack r rings next ≡ resume sheet mark budget rings next
+  unfolding resume
+  sheet-refused r e = rw (← is-read, e)
+
+  module _ (taken : read .answer ≡ Accepted) (made : Made) (is-made : made ≡ searchFor (read .molecule) mark) where
+    pub mark-refused : (r : Refusal) → made .answer ≡ Refused r → turnedBack r rings next ≡ resume sheet mark budget rings next
+    unfolding resume
+    mark-refused r e = rw (← is-read, taken, ← is-made, e)
+
+    module _ (restored : made .answer ≡ Accepted) where
+      pub room-refused : length next < 599 → turnedBack refusal.MarkRoom rings next ≡ resume sheet mark budget rings next
+      unfolding resume
+      room-refused h = rw (← is-read, taken, ← is-made, restored, lt-leb 599 (length next) h)
+
+      pub resumed : 599 ≤ length next → runAndSave (read .molecule) (made .search) budget rings next ≡ resume sheet mark budget rings next
+      unfolding resume
+      resumed h = rw (← is-read, taken, ← is-made, restored, le-leb 599 (length next) h)
+
+-- ---- what a host reads off a mark
+
+module _ (bytes : List ℕ) where
+  pub size-short : length bytes < 91 → 0 ≡ markSize bytes
+  unfolding markSize
+  size-short h = rw (lt-leb 91 (length bytes) h)
+
+  pub listed-short : length bytes < 91 → 0 ≡ listedIn bytes
+  unfolding listedIn
+  listed-short h = rw (lt-leb 91 (length bytes) h)
+
+  module _ (room : 91 ≤ length bytes) where
+    pub listed-read : valueAt 20 bytes 69 ≡ listedIn bytes
+    unfolding listedIn
+    listed-read = rw (le-leb 91 (length bytes) room)
+
+    module _ (x : Number) (is : x ≡ fieldAt 4 bytes 20) where
+      pub size-bad : x ≡ Bad → 0 ≡ markSize bytes
+      unfolding markSize
+      size-bad e = rw (le-leb 91 (length bytes) room, sym is ∙ e)
+
+      module _ (k : ℕ) (read : x ≡ Value k) where
+        -- a field of 4 columns
+        pub size-fits : k < 10000
+        size-fits = go (read-fits (take 4 (drop 20 bytes)) k (sym is ∙ read) .0)
+          where
+            go : k < 10 ^ length (take 4 (drop 20 bytes)) → k < 10000
+            go h = rw (length-take-le 4 (drop 20 bytes) (rw length-drop (omega arith))) at h
+
+        pub size-past : length bytes < 91 + 4 * k → 0 ≡ markSize bytes
+        unfolding markSize
+        size-past h = rw (le-leb 91 (length bytes) room, sym is ∙ read, lt-leb (91 + 4 * k) (length bytes) h)
+
+        pub size-read : 91 + 4 * k ≤ length bytes → 91 + 4 * k ≡ markSize bytes
+        unfolding markSize
+        size-read h = rw (le-leb 91 (length bytes) room, sym is ∙ read, le-leb (91 + 4 * k) (length bytes) h)

@@ -1,0 +1,5 @@
+pub mod Answers
+pub mod Sizes
+pub mod Laws
+pub mod OneCall
+pub mod History

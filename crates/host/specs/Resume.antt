@@ -1,0 +1,66 @@
+-- The entry for the C host (document 01, "Judge, host entry and `ringlist`"): what it returns and leaves in its two outputs.
+use Prim.Native.Nat.{ℕ, _+_, _*_}
+use mathlib.Core.Bool.{_&&_, cond}
+use mathlib.Core.List.{List}
+use lib.ListN.{length}
+use lib.Dec.{leb, eqb}
+use Rattle.enumeration.specs.Run.{stopNumber}
+use Rattle.refusal.specs.declared.Refusal.{Refusal}
+use Rattle.refusal.specs.declared.Refusal.the-variants as refusal
+use Rattle.refusal.specs.declared.Answer.{Answer}
+use Rattle.refusal.specs.declared.Answer.the-variants as answer
+use Rattle.refusal.specs.Number.{numberOf}
+use Rattle.molecule.specs.declared.Molecule.{Molecule}
+use Rattle.sheet.specs.Read.{readSheet}
+use Rattle.search.specs.declared.Search.{Search}
+use Rattle.search.specs.declared.Made.{Made}
+use Rattle.search.specs.declared.Ended.{Ended}
+use Rattle.search.specs.declared.Ended.the-variants as ended
+use Rattle.search.specs.Entries.{startRings, runSearch, runOutput}
+use Rattle.search.specs.Mark.{fieldAt, isValue, valueAt, markLength, saveOutput, restoreMark}
+
+-- What the entry returns, and its two outputs after it
+pub record Resumed : Type 0 where
+  pub number : ℕ
+  pub rings : List ℕ
+  pub nextMark : List ℕ
+
+-- A refusal returns its number and changes neither output
+abbrev pub turnedBack : Refusal → List ℕ → List ℕ → Resumed
+turnedBack r rings next = record { number = numberOf r; rings = rings; nextMark = next }
+
+abbrev pub unlessRefused : Answer → List ℕ → List ℕ → Resumed → Resumed
+unlessRefused answer.Accepted rings next goes = goes
+unlessRefused (answer.Refused r) rings next goes = turnedBack r rings next
+
+abbrev pub endedNumber : Ended → ℕ
+endedNumber (ended.Stopped why) = stopNumber why
+endedNumber (ended.Refused r) = numberOf r
+
+-- The search to run: no mark bytes mean a fresh ring search
+unfoldable pub searchFor : Molecule → List ℕ → Made
+searchFor mol mark = cond (eqb (length mark) 0) (startRings mol) (restoreMark mol mark)
+
+-- Runs the search and saves what it returns
+unfoldable pub runAndSave : Molecule → Search → ℕ → List ℕ → List ℕ → Resumed
+runAndSave mol q budget rings next =
+    let ran = runSearch mol q budget rings in
+    record { number = endedNumber (ran .ended); rings = runOutput mol q budget rings; nextMark = saveOutput mol (ran .search) next }
+
+-- The entry: it reads the sheet (rules 1 to 8), restores the mark (14 to 17), asks 599 bytes for the next mark (13), runs and saves
+unfoldable pub resume : List ℕ → List ℕ → ℕ → List ℕ → List ℕ → Resumed
+resume sheet mark budget rings next =
+    let mol = readSheet sheet .molecule in
+    let made = searchFor mol mark in
+    unlessRefused (readSheet sheet .answer) rings next
+    (unlessRefused (made .answer) rings next
+    (cond (leb 599 (length next)) (runAndSave mol (made .search) budget rings next) (turnedBack refusal.MarkRoom rings next)))
+
+-- The bytes of the mark at the start of a buffer, by the length of p in its sixth field; 0 where the buffer holds no mark of that length
+unfoldable pub markSize : List ℕ → ℕ
+markSize bytes =
+    cond (leb 91 (length bytes) && isValue (fieldAt 4 bytes 20) && leb (91 + 4 * markLength bytes) (length bytes)) (91 + 4 * markLength bytes) 0
+
+-- The listed count of a mark; 0 where there is none, as in no bytes
+unfoldable pub listedIn : List ℕ → ℕ
+listedIn bytes = cond (leb 91 (length bytes)) (valueAt 20 bytes 69) 0

@@ -1,0 +1,108 @@
+// The entry for the C host, declared in include/ringlist.h.
+ghost use mathlib.Core.Path.{_≡_};
+ghost use Rattle.host.specs.Resume.{endedNumber, searchFor, runAndSave, resume, markSize, listedIn};
+use fields::Number;
+use molecule::Molecule;
+use refusal::Answer;
+use refusal::Refusal;
+use search::Ended;
+use search::Made;
+use search::Search;
+
+// The number of a stop or of a refusal.
+fn ended_number(e: Ended) -> u32
+    ensures { λ r. ⌜ r ≡ endedNumber e ⌝ }
+{
+    match e {
+        Ended::Stopped(why) => enumeration::stop_number(why),
+        Ended::Refused(r) => refusal::number(r),
+    }
+}
+
+// The search that a mark names; no bytes mean a fresh ring search.
+fn search_for(m: Molecule, mark: &[u8]) -> Made
+    ensures { λ r. ⌜ r ≡ searchFor m (now (mark .entry)) ⌝ }
+{
+    if mark.len() == 0 {
+        return openness::start_rings(m);
+    }
+    marks::restore(m, mark)
+}
+
+// Runs a search and saves the one that the run returns.
+fn run_and_save(m: Molecule, q: Search, budget: u64, rings: &mut [u8], next_mark: &mut [u8]) -> u32
+    ensures { λ r. ⌜ r ≡ runAndSave m q budget (now (rings .entry)) (now («next_mark» .entry)) .number ⌝ }
+    ensures { λ _. ⌜ now (rings .exit) ≡ runAndSave m q budget (now (rings .entry)) (now («next_mark» .entry)) .rings ⌝ }
+    ensures { λ _. ⌜ now («next_mark» .exit) ≡ runAndSave m q budget (now (rings .entry)) (now («next_mark» .entry)) .nextMark ⌝ }
+{
+    let ran = run::run(m, q, budget, rings);
+    let search = ran.search;
+    let ended = ran.ended;
+    marks::save(m, search, next_mark);
+    ended_number(ended)
+}
+
+// Reads a sheet, restores a mark, runs within a budget and saves: rules 1 to 8, 14 to 17, 13.
+#[no_mangle]
+pub extern "C" fn ringlist_resume(
+    sheet: &[u8],
+    mark: &[u8],
+    budget: u64,
+    rings: &mut [u8],
+    next_mark: &mut [u8],
+) -> u32
+    ensures { λ r. ⌜ r ≡ resume (now (sheet .entry)) (now (mark .entry)) budget (now (rings .entry)) (now («next_mark» .entry)) .number ⌝ }
+    ensures { λ _. ⌜ now (rings .exit) ≡ resume (now (sheet .entry)) (now (mark .entry)) budget (now (rings .entry)) (now («next_mark» .entry)) .rings ⌝ }
+    ensures { λ _. ⌜ now («next_mark» .exit) ≡ resume (now (sheet .entry)) (now (mark .entry)) budget (now (rings .entry)) (now («next_mark» .entry)) .nextMark ⌝ }
+{
+    let read = sheet::read_sheet(sheet);
+    let read_answer = read.answer;
+    let m = read.molecule;
+    match read_answer {
+        Answer::Refused(r) => refusal::number(r),
+        Answer::Accepted => {
+            let made = search_for(m, mark);
+            let made_answer = made.answer;
+            let q = made.search;
+            match made_answer {
+                Answer::Refused(r) => refusal::number(r),
+                Answer::Accepted => {
+                    if next_mark.len() < 599 {
+                        return refusal::number(Refusal::MarkRoom);
+                    }
+                    run_and_save(m, q, budget, rings, next_mark)
+                }
+            }
+        }
+    }
+}
+
+// The bytes of the mark at the start of a buffer, by the length of p that it names; 0 where the buffer holds no such mark.
+#[no_mangle]
+pub extern "C" fn ringlist_mark_length(mark: &[u8]) -> usize
+    ensures { λ r. ⌜ r ≡ markSize (now (mark .entry)) ⌝ }
+{
+    if mark.len() < 91 {
+        return 0;
+    }
+    let field = fields::number_at(mark, 4, 20);
+    let Number::Value(k) = field else {
+        return 0;
+    };
+    let size = 91 + 4 * (k as usize);
+    if mark.len() < size {
+        return 0;
+    }
+    size
+}
+
+// The listed count of the mark at the start of a buffer; 0 where there is none.
+#[no_mangle]
+pub extern "C" fn ringlist_listed(mark: &[u8]) -> u64
+    ensures { λ r. ⌜ r ≡ listedIn (now (mark .entry)) ⌝ }
+{
+    if mark.len() < 91 {
+        return 0;
+    }
+    fields::value_at(mark, 20, 69)
+}

@@ -1,0 +1,121 @@
+-- `report::ring_lines` meets its contract. The invariant is `Printing`; the measure is the bytes of the records still ahead.
+use Prim.Native.Nat.{_-_, _*_, _≤_}
+use native.Mathlib.Omega.{arith}
+use lib.ListN.{length}
+use Rattle.report.specs.Lines.{ringLines}
+use Rattle.report.proofs.Texts.{prints-none}
+use Rattle.report.proofs.Records.{Printing, printing-starts, printing-cut, printing-goes-on, printing-ends, none-ahead}
+use Rattle.report.proofs.ring_lines.Statement.{statement}
+use Rattle.report.proofs.ring_lines.Tie as tie
+
+abbrev Inv-loop : tie.InvT-loop
+Inv-loop records text₀ used₀ i₀ text used i = Printing records text₀ text used i
+
+abbrev μ-loop : tie.MeasureT-loop
+μ-loop records text₀ used₀ i₀ text used i = length records - i
+
+room : (c : tie.Else1 Inv-loop μ-loop) → 4 * length (c .before .before .before .args .records .now) ≤ length (c .before .before .before .args .text .now)
+room c = omega arith
+
+returns : tie.Need-returns Inv-loop μ-loop
+returns c = prints-none (4 * length (c .before .before .before .args .records .now)) (ringLines (c .before .before .before .args .records .now)) (c .before .before .before .args .text .now) (omega arith)
+
+loop-holds : tie.Need-loop-holds Inv-loop μ-loop
+loop-holds c = printing-starts (c .before .before .before .args .records .now) (c .before .before .before .args .text .now) (room c)
+
+add-first : tie.Need-add-first Inv-loop μ-loop
+add-first c = omega arith
+
+shared-slice-read-as-length : tie.Need-shared-slice-read-as-length Inv-loop μ-loop
+shared-slice-read-as-length c = omega arith
+
+as-length-requires : tie.Need-as-length-requires Inv-loop μ-loop
+as-length-requires c κs = tt
+
+sub-if2 : tie.Need-sub-if2 Inv-loop μ-loop
+sub-if2 c = omega arith
+
+same-length : tie.Need-same-length Inv-loop μ-loop
+same-length c = c .before .before .before .before .loop .inv .size
+
+returns-2 : tie.Need-returns-2 Inv-loop μ-loop
+returns-2 c =
+    let start = c .before .before .before .before .before .before .before .before in
+    let loop = c .before .before .before .before .loop in
+    printing-ends (start .args .records .now) (start .args .text .now) (room (c .before .before .before .before .before)) (loop .text) (loop .used) (loop .i) (loop .inv)
+    (printing-cut (start .args .records .now) (start .args .text .now) (room (c .before .before .before .before .before)) (loop .text) (loop .used) (loop .i) (c .before .as-length .result) (loop .inv) (c .before .before .before .loop-test .taken) (c .before .as-length .ensures) (c .if2 .taken))
+
+add-next : tie.Need-add-next Inv-loop μ-loop
+add-next c = omega arith
+
+sub-ring-line : tie.Need-sub-ring-line Inv-loop μ-loop
+sub-ring-line c = omega arith
+
+part-ring-line-start : tie.Need-part-ring-line-start Inv-loop μ-loop
+part-ring-line-start c = omega arith
+
+part-ring-line-end : tie.Need-part-ring-line-end Inv-loop μ-loop
+part-ring-line-end c = omega arith
+
+sub-ring-line-2 : tie.Need-sub-ring-line-2 Inv-loop μ-loop
+sub-ring-line-2 c = omega arith
+
+part-ring-line-start-2 : tie.Need-part-ring-line-start-2 Inv-loop μ-loop
+part-ring-line-start-2 c = omega arith
+
+part-ring-line-end-2 : tie.Need-part-ring-line-end-2 Inv-loop μ-loop
+part-ring-line-end-2 c = omega arith
+
+ring-line-requires : tie.Need-ring-line-requires Inv-loop μ-loop
+ring-line-requires c κs = tt
+
+loop-again : tie.Need-loop-again Inv-loop μ-loop
+loop-again c =
+    let start = c .before .before .before .before .before .before .before .before .before .before .before .before .before in
+    let loop = c .before .before .before .before .before .before .before .before .before .loop in
+    printing-goes-on (start .args .records .now) (start .args .text .now) (room (c .before .before .before .before .before .before .before .before .before .before)) (loop .text) (loop .used) (loop .i) (c .before .before .before .before .before .before .as-length .result) (loop .inv) (c .before .before .before .before .before .before .before .before .loop-test .taken) (c .before .before .before .before .before .before .as-length .ensures) (c .before .before .before .before .before .if2 .left)
+    (c .before .before .ring-line .last .1 .0) (c .before .before .ring-line .result) (c .before .before .ring-line .ensures .0) (c .before .before .ring-line .ensures .1)
+
+add-used : tie.Need-add-used Inv-loop μ-loop
+add-used c = omega (arith, loop-again c .short, loop-again c .within, room (c .before .before .before .before .before .before .before .before .before .before))
+
+loop-less : tie.Need-loop-less Inv-loop μ-loop
+loop-less c = omega arith
+
+same-length-2 : tie.Need-same-length-2 Inv-loop μ-loop
+same-length-2 c = c .before .loop .inv .size
+
+returns-3 : tie.Need-returns-3 Inv-loop μ-loop
+returns-3 c =
+    let start = c .before .before .before .before .before in
+    let loop = c .before .loop in
+    printing-ends (start .args .records .now) (start .args .text .now) (room (c .before .before)) (loop .text) (loop .used) (loop .i) (loop .inv)
+    (none-ahead (start .args .records .now) (start .args .text .now) (room (c .before .before)) (loop .i) (c .loop-test .left))
+
+pub ring-lines-spec : {M : Type 1} → statement M
+ring-lines-spec =
+    tie.close
+    (tie.spec
+    Inv-loop
+    μ-loop
+    returns
+    loop-holds
+    add-first
+    shared-slice-read-as-length
+    as-length-requires
+    sub-if2
+    same-length
+    returns-2
+    add-next
+    sub-ring-line
+    part-ring-line-start
+    part-ring-line-end
+    sub-ring-line-2
+    part-ring-line-start-2
+    part-ring-line-end-2
+    ring-line-requires
+    add-used
+    loop-less
+    loop-again
+    same-length-2
+    returns-3)

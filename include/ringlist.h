@@ -1,0 +1,109 @@
+/* include/ringlist.h: lists the chordless rings of a molecule in slices.
+
+   Link with libhost.a. Each call reads a bond sheet, takes up the search where
+   a mark left it, makes at most `budget` trials, and writes the rings that it
+   found and the mark to go on from. examples/minimal.c is a whole host in
+   twenty lines; examples/host.c keeps its mark in a file and goes on after
+   being killed. */
+#ifndef RINGLIST_H
+#define RINGLIST_H
+
+#include <stddef.h>
+#include <stdint.h>
+
+#ifdef __cplusplus
+extern "C" {
+#endif
+
+/* One call of a listing.
+
+   sheet      the bond sheet, sheet_len bytes: a line of atoms n and bonds m,
+              then m lines of two atoms; two fields of 4 columns and a line
+              feed each, 9 bytes.
+   mark       the mark that the call before wrote, mark_len bytes exactly;
+              mark_len 0 starts a fresh ring search. A mark belongs to the
+              sheet that it was made with.
+   budget     the most trials that this call makes. It may be 0.
+   rings      the ring output, rings_len bytes.
+   next_mark  the mark output, next_mark_len bytes, at least 599, the length of
+              the longest mark.
+
+   Taken on trust, and nothing else: the four stretches are real memory of the
+   lengths given, readable and, the two outputs, writable for as long as the
+   call lasts; and neither output overlaps any other of the four. The sheet and
+   the mark may overlap each other. Of a stretch of length 0 nothing is read or
+   written, and its pointer may be any, also null. All else is checked: any
+   bytes, lengths and budget are answered as said here.
+
+   Rings. Each ring is a record: its number of atoms in one byte, 3 to 128, then
+   its atoms in order, one byte each, 1 to n. Records stand one after the other
+   from the start of the output. The bytes past them keep their values.
+   Their number is
+
+       ringlist_listed(next_mark, next_mark_len) - ringlist_listed(mark, mark_len)
+
+   Next mark. It stands at the start of the output, 91 + 4 * (atoms in the
+   present beginning) bytes, that is ringlist_mark_length(next_mark,
+   next_mark_len); the bytes past it keep their values. It is text of three
+   lines; line 2 holds trials, extensions and rings listed so far, 20 columns
+   each.
+
+   Returned when the call was accepted:
+     101  done: all rings have been listed.
+     102  limit: a count stands at 9,999,999,999,999,999,999.
+     103  spent: the budget is used up.
+     104  full: the next ring needs more bytes than are left.
+   After 103 and 104 call again with the next mark. A call with a budget of at
+   least 2 * n * n and an output of at least n + 1 bytes (129 always will do)
+   lists at least one ring, or ends done or at the limit. A call after 101 or
+   102 returns the same again, with no rings and the same mark.
+
+   Returned when it was refused, by the first rule that is broken in the order
+   1 to 8, 14 to 17, 13. A refused call writes to neither output.
+       1  the sheet is shorter than 9 bytes or not a multiple of 9
+       2  a sheet field or line end has the wrong bytes
+       3  n is above 128
+       4  m is above 1,024
+       5  the sheet is not 9 * (m + 1) bytes
+       6  a bond names atom 0 or an atom above n
+       7  a bond joins an atom to itself
+       8  two bonds join the same two atoms, in either order
+      14  the mark's bytes do not follow the layout
+      15  the mark's n or m differs from the sheet's
+      16  the mark's kind is not 0 or 1, or its s and t are not 0 and 0 for
+          rings, or not two different atoms for paths
+      17  the mark's beginning is not open, or its next atom is 0 or above n
+          (n + 1 is allowed with no beginning: the mark of a search that is
+          done)
+      13  the mark output is shorter than 599 bytes
+   No other number comes back.
+
+   A mark of kind 1 lists the chordless paths from s to t in the same way, as
+   records of 2 atoms or more.
+
+   The functions have no state of their own: they may be called at once from
+   several threads, with outputs that do not overlap. They call nothing but
+   memcpy and memset, take no memory from the heap, and use less than 32
+   kilobytes of stack. */
+uint32_t ringlist_resume(const uint8_t *sheet, size_t sheet_len,
+                         const uint8_t *mark, size_t mark_len,
+                         uint64_t budget,
+                         uint8_t *rings, size_t rings_len,
+                         uint8_t *next_mark, size_t next_mark_len);
+
+/* The bytes of the mark at the start of a buffer: 91 + 4 * the number in
+   columns 21 to 24 of its first line. 0 where the buffer has fewer bytes than
+   that, or fewer than 91, or those columns hold no number. The rest of the mark
+   is not looked at. */
+size_t ringlist_mark_length(const uint8_t *mark, size_t mark_len);
+
+/* The listed count of a mark, in columns 41 to 60 of its second line. 0 where
+   the buffer has fewer than 91 bytes, as no mark has, or those columns hold no
+   number up to 9,999,999,999,999,999,999. */
+uint64_t ringlist_listed(const uint8_t *mark, size_t mark_len);
+
+#ifdef __cplusplus
+}
+#endif
+
+#endif

@@ -1,0 +1,431 @@
+/* Hand-worked cases for the host entry, include/ringlist.h. */
+#define _POSIX_C_SOURCE 200809L
+#include "ringlist.h"
+
+#include <inttypes.h>
+#include <pthread.h>
+#include <stdio.h>
+#include <stdlib.h>
+#include <string.h>
+
+#define PATTERN 0xA5
+#define MARGIN 64
+#define MARK 599
+#define STACK (256 * 1024)
+
+static unsigned checks;
+static unsigned failures;
+
+static void check(int holds, int line, const char *what) {
+    checks++;
+    if (!holds) {
+        failures++;
+        printf("host_test.c:%d: failed: %s\n", line, what);
+    }
+}
+
+static void check_number(uint64_t got, uint64_t expected, int line, const char *what) {
+    check(got == expected, line, what);
+    if (got != expected) {
+        printf("    got %" PRIu64 ", expected %" PRIu64 "\n", got, expected);
+    }
+}
+
+#define CHECK(holds) check((holds), __LINE__, #holds)
+#define EQUAL(got, expected) check_number((got), (expected), __LINE__, #got)
+
+static int all_are(const uint8_t *bytes, size_t len, uint8_t value) {
+    for (size_t i = 0; i < len; i++) {
+        if (bytes[i] != value) {
+            return 0;
+        }
+    }
+    return 1;
+}
+
+static uint8_t *some(size_t len) {
+    uint8_t *bytes = malloc(len + 1);
+    if (bytes == NULL) {
+        abort();
+    }
+    return bytes;
+}
+
+/* Inputs are handed over in memory of exactly their length, so that valgrind
+   sees a read past the end. */
+static uint8_t *exact(const void *bytes, size_t len) {
+    uint8_t *copy = malloc(len);
+    if (copy == NULL && len != 0) {
+        abort();
+    }
+    if (len != 0) {
+        memcpy(copy, bytes, len);
+    }
+    return copy;
+}
+
+/* A call and what it wrote: both outputs with margins around them. */
+typedef struct {
+    uint32_t answer;
+    uint8_t *rings, *next;
+    size_t rings_len, next_len;
+} called;
+
+static called call(const void *sheet, size_t sheet_len, const void *mark, size_t mark_len,
+                   uint64_t budget, size_t rings_len, size_t next_len) {
+    called made = {0, some(rings_len + 2 * MARGIN), some(next_len + 2 * MARGIN), rings_len,
+                   next_len};
+    uint8_t *given_sheet = exact(sheet, sheet_len), *given_mark = exact(mark, mark_len);
+    memset(made.rings, PATTERN, rings_len + 2 * MARGIN);
+    memset(made.next, PATTERN, next_len + 2 * MARGIN);
+    made.answer = ringlist_resume(given_sheet, sheet_len, given_mark, mark_len, budget,
+                                  made.rings + MARGIN, rings_len, made.next + MARGIN, next_len);
+    check(sheet_len == 0 || memcmp(given_sheet, sheet, sheet_len) == 0, __LINE__, "sheet kept");
+    check(mark_len == 0 || memcmp(given_mark, mark, mark_len) == 0, __LINE__, "mark kept");
+    free(given_sheet);
+    free(given_mark);
+    return made;
+}
+
+/* The buffer begins with `expected`, and nothing else was written. */
+static int begins(const uint8_t *buffer, size_t len, const void *expected, size_t expected_len) {
+    return expected_len <= len && all_are(buffer, MARGIN, PATTERN) &&
+           (expected_len == 0 || memcmp(buffer + MARGIN, expected, expected_len) == 0) &&
+           all_are(buffer + MARGIN + expected_len, len - expected_len + MARGIN, PATTERN);
+}
+
+/* Checks a call and all that it wrote. */
+static void wrote(called made, uint32_t answer, const void *rings, size_t rings_len,
+                  const void *mark, size_t mark_len, int line) {
+    check_number(made.answer, answer, line, "answer");
+    check(begins(made.rings, made.rings_len, rings, rings_len), line, "rings");
+    check(begins(made.next, made.next_len, mark, mark_len), line, "next mark");
+    free(made.rings);
+    free(made.next);
+}
+
+/* The sheet of the document: 4 atoms, 5 bonds. */
+static const char document[] =
+    "   4   5\n"
+    "   1   2\n"
+    "   2   3\n"
+    "   3   4\n"
+    "   1   4\n"
+    "   1   3\n";
+
+#define SHEET document, sizeof document - 1
+
+/* The document's mark of 99 bytes: kind 0, s and t 0, 4 atoms, 5 bonds, 2 atoms
+   in p, next atom 3; 5 trials, 2 extensions, 0 listed; p = 1 2. */
+#define LINE_1 "   0   0   0   4   5   2   3\n"
+#define LINE_2 "                   5                   2                   0\n"
+#define LINE_3 "   1   2\n"
+static const char full_mark[] = LINE_1 LINE_2 LINE_3;
+
+/* The search on that sheet, trial by trial. The rings are 1 2 3 and 1 3 4.
+     1: -    1  open     p = 1
+     2: 1    1  no
+     3: 1    2  open     p = 1 2
+     4: 1 2  1  no
+     5: 1 2  2  no
+     6: 1 2  3  listed
+     7: 1 2  4  no       2 is dropped, the next atom is 3
+     8: 1    3  open     p = 1 3
+     9: 1 3  1  no
+    10: 1 3  2  no       2 is below the second atom
+    11: 1 3  3  no
+    12: 1 3  4  listed   3 is dropped, the next atom is 4
+    13: 1    4  no       1 is dropped, the next atom is 2
+    14: -    2  no       15: -  3  no      16: -  4  no, done
+   The state after each number of trials: p, next atom, extensions, listed. */
+static const struct {
+    const char *p;
+    int length, next, extensions, listed;
+} after[17] = {
+    {"", 0, 1, 0, 0},         {"   1", 1, 1, 1, 0},     {"   1", 1, 2, 1, 0},
+    {"   1   2", 2, 1, 2, 0}, {"   1   2", 2, 2, 2, 0}, {"   1   2", 2, 3, 2, 0},
+    {"   1   2", 2, 4, 2, 1}, {"   1", 1, 3, 2, 1},     {"   1   3", 2, 1, 3, 1},
+    {"   1   3", 2, 2, 3, 1}, {"   1   3", 2, 3, 3, 1}, {"   1   3", 2, 4, 3, 1},
+    {"   1", 1, 4, 3, 2},     {"", 0, 2, 3, 2},         {"", 0, 3, 3, 2},
+    {"", 0, 4, 3, 2},         {"", 0, 5, 3, 2},
+};
+static const char records[] = "\3\1\2\3\3\1\3\4";
+
+/* The mark after a number of trials; returns its bytes. */
+static size_t mark_after(int trials, char mark[128]) {
+    return (size_t)sprintf(mark, "   0   0   0   4   5%4d%4d\n%20d%20d%20d\n%s\n",
+                           after[trials].length, after[trials].next, trials,
+                           after[trials].extensions, after[trials].listed, after[trials].p);
+}
+
+static void document_by_budget(void) {
+    char mark[128], start[128];
+    /* From any number of trials to any later one. */
+    for (int from = 0; from <= 16; from++) {
+        size_t start_len = mark_after(from, start);
+        EQUAL(ringlist_mark_length((const uint8_t *)start, start_len), start_len);
+        EQUAL(ringlist_listed((const uint8_t *)start, start_len), (uint64_t)after[from].listed);
+        for (int to = from; to <= 17; to++) {
+            int last = to < 16 ? to : 16;
+            size_t mark_len = mark_after(last, mark);
+            const char *listed = records + 4 * after[from].listed;
+            size_t used = 4 * (size_t)(after[last].listed - after[from].listed);
+            uint32_t answer = to < 16 ? 103 : 101;
+            uint64_t budget = (uint64_t)(to - from);
+            wrote(call(SHEET, start, start_len, budget, 8, MARK), answer, listed, used, mark,
+                  mark_len, __LINE__);
+            if (from == 0) {
+                wrote(call(SHEET, NULL, 0, budget, 8, MARK), answer, listed, used, mark, mark_len,
+                      __LINE__);
+            }
+        }
+    }
+    /* Done stays done, whatever the budget and the output. */
+    size_t mark_len = mark_after(16, mark);
+    wrote(call(SHEET, mark, mark_len, 0, 0, MARK), 101, "", 0, mark, mark_len, __LINE__);
+    wrote(call(SHEET, mark, mark_len, UINT64_MAX, 99, 700), 101, "", 0, mark, mark_len, __LINE__);
+}
+
+static void document_by_output(void) {
+    char mark[128];
+    const size_t full_len = sizeof full_mark - 1;
+    /* Three bytes: budget 5 ends spent, budget 6 ends full after 5 trials, with
+       p = 1 2, next atom 3 and a mark of 99 bytes. */
+    EQUAL(full_len, 99);
+    EQUAL(mark_after(5, mark), 99);
+    CHECK(memcmp(mark, full_mark, 99) == 0);
+    wrote(call(SHEET, NULL, 0, 5, 3, MARK), 103, "", 0, full_mark, full_len, __LINE__);
+    wrote(call(SHEET, NULL, 0, 6, 3, MARK), 104, "", 0, full_mark, full_len, __LINE__);
+    wrote(call(SHEET, NULL, 0, UINT64_MAX, 0, MARK), 104, "", 0, full_mark, full_len, __LINE__);
+    /* Again from there: still full, then listed. The ring is not skipped. */
+    wrote(call(SHEET, full_mark, full_len, 9, 3, MARK), 104, "", 0, full_mark, full_len, __LINE__);
+    size_t mark_len = mark_after(6, mark);
+    wrote(call(SHEET, full_mark, full_len, 1, 4, MARK), 103, "\3\1\2\3", 4, mark, mark_len,
+          __LINE__);
+    /* Seven bytes hold one record: full after 11 trials. */
+    mark_len = mark_after(11, mark);
+    wrote(call(SHEET, NULL, 0, 16, 7, MARK), 104, "\3\1\2\3", 4, mark, mark_len, __LINE__);
+    /* Budget 0 ends spent, and budget 16 with 8 bytes ends done. */
+    mark_len = mark_after(0, mark);
+    wrote(call(SHEET, NULL, 0, 0, 3, MARK), 103, "", 0, mark, mark_len, __LINE__);
+    mark_len = mark_after(16, mark);
+    wrote(call(SHEET, NULL, 0, 16, 8, MARK), 101, records, 8, mark, mark_len, __LINE__);
+    wrote(call(SHEET, NULL, 0, 16, 30, 700), 101, records, 8, mark, mark_len, __LINE__);
+}
+
+/* A call refused, with neither output written. */
+#define REFUSED(sheet, mark, room, rule)                                                          \
+    wrote(call(sheet, sizeof(sheet) - 1, mark, sizeof(mark) - 1, 16, 20, room), rule, "", 0, "", 0, \
+          __LINE__)
+
+static void refusals(void) {
+    /* The sheet, in the order of the rules; each also breaks the next ones. */
+    REFUSED("", "", MARK, 1);
+    REFUSED("   0   0", "", MARK, 1);
+    REFUSED("   4   1\nx  1   2\n ", "", MARK, 1);
+    REFUSED(" 1291025\n   x   2\n", "", MARK, 2);
+    REFUSED("   4   1\n   1   2\r", "", MARK, 2);
+    REFUSED("  04   1\n   1   2\n", "", MARK, 2);
+    REFUSED(" 1291025\n   0   0\n", "", MARK, 3);
+    REFUSED(" 1281025\n   0   0\n", "", MARK, 4);
+    REFUSED("   4   2\n   0   0\n", "", MARK, 5);
+    REFUSED("   4   0\n   1   2\n", "", MARK, 5);
+    REFUSED("   4   3\n   1   1\n   1   1\n   1   5\n", "", MARK, 6);
+    REFUSED("   4   2\n   1   2\n   0   2\n", "", MARK, 6);
+    REFUSED("   4   3\n   1   2\n   2   1\n   3   3\n", "", MARK, 7);
+    REFUSED("   4   3\n   1   2\n   3   4\n   2   1\n", "", MARK, 8);
+
+    /* The mark. */
+    REFUSED(document, "x", MARK, 14);
+    REFUSED(document, LINE_1 LINE_2 "   1   2", MARK, 14);
+    REFUSED(document, LINE_1 LINE_2 LINE_3 "\n", MARK, 14);
+    REFUSED(document, LINE_1 LINE_2 "   1  02\n", MARK, 14);
+    REFUSED(document, "   2   0   0   9   5   2   0\n" LINE_2 "   1\n", MARK, 14);
+    REFUSED(document, "   2   0   0   5   5   2   0\n" LINE_2 LINE_3, MARK, 15);
+    REFUSED(document, "   0   0   0   4   4   2   3\n" LINE_2 LINE_3, MARK, 15);
+    REFUSED(document, "   2   0   0   4   5   2   0\n" LINE_2 LINE_3, MARK, 16);
+    REFUSED(document, "   0   1   0   4   5   2   3\n" LINE_2 LINE_3, MARK, 16);
+    REFUSED(document, "   1   1   1   4   5   1   1\n" LINE_2 "   1\n", MARK, 16);
+    REFUSED(document, "   1   1   5   4   5   1   1\n" LINE_2 "   1\n", MARK, 16);
+    REFUSED(document, "   0   0   0   4   5   2   3\n" LINE_2 "   1   4\n", MARK, 17);
+    REFUSED(document, "   0   0   0   4   5   2   3\n" LINE_2 "   2   3\n", MARK, 17);
+    REFUSED(document, "   0   0   0   4   5   2   0\n" LINE_2 LINE_3, MARK, 17);
+    REFUSED(document, "   0   0   0   4   5   2   5\n" LINE_2 LINE_3, MARK, 17);
+
+    /* The room for the next mark, though this one would be of 91 bytes. */
+    REFUSED(document, "", 0, 13);
+    REFUSED(document, "", 598, 13);
+    REFUSED(document, LINE_1 LINE_2 LINE_3, 99, 13);
+
+    /* All of them: the sheet comes first, then the mark, then the room. */
+    REFUSED("   4   2\n   1   2\n   2   1\n", "x", 0, 8);
+    REFUSED("", "x", 0, 1);
+    REFUSED("   4   2\n   1   2\n   2   1\n", LINE_1 LINE_2 LINE_3, 0, 8);
+    REFUSED("   4   2\n   1   2\n   2   1\n", "", 598, 8);
+    REFUSED(document, "x", 0, 14);
+    REFUSED(document, "   0   0   0   4   5   2   5\n" LINE_2 LINE_3, 598, 17);
+}
+
+/* A stretch of length 0 is not touched, whatever its pointer. */
+static void zero_lengths(void) {
+    uint8_t *nowhere[2] = {NULL, (uint8_t *)1};
+    uint8_t next[MARK];
+    for (int i = 0; i < 2; i++) {
+        uint8_t *any = nowhere[i];
+        EQUAL(ringlist_resume(any, 0, any, 0, 5, any, 0, any, 0), 1);
+        EQUAL(ringlist_resume((const uint8_t *)SHEET, any, 0, 5, any, 0, any, 0), 13);
+        EQUAL(ringlist_resume((const uint8_t *)SHEET, any, 0, 5, any, 0, next, MARK), 103);
+        CHECK(memcmp(next, full_mark, 99) == 0);
+        EQUAL(ringlist_mark_length(any, 0), 0);
+        EQUAL(ringlist_listed(any, 0), 0);
+    }
+    /* No atoms: done at once, after no trial. */
+    EQUAL(ringlist_resume((const uint8_t *)"   0   0\n", 9, NULL, 0, 0, NULL, 0, next, MARK), 101);
+    EQUAL(ringlist_mark_length(next, MARK), 91);
+    CHECK(memcmp(next, "   0   0   0   0   0   0   1\n", 29) == 0);
+}
+
+/* The sheet and the mark may overlap: here the last line of the mark ends with
+   the first line of the sheet. Bonds 1-2, 2-7, 7-6, 6-3, 3-1 make the ring
+   1 2 7 6 3, and 4-5 is the sixth bond; p = 1 2 7 6 and the next atom is 3. */
+static void overlap(void) {
+    static const char both[] =
+        "   0   0   0   7   6   4   3\n"
+        "                   0                   0                   0\n"
+        "   1   2   7   6\n"
+        "   1   2\n   2   7\n   6   7\n   3   6\n   1   3\n   4   5\n";
+    const uint8_t *bytes = (const uint8_t *)both;
+    uint8_t rings[6], next[MARK];
+    EQUAL(ringlist_resume(bytes + 98, 63, bytes, 107, 1, rings, 6, next, MARK), 103);
+    CHECK(memcmp(rings, "\5\1\2\7\6\3", 6) == 0);
+    EQUAL(ringlist_listed(next, MARK), 1);
+    /* One stretch as both: no mark is a sheet. */
+    EQUAL(ringlist_resume(bytes, 107, bytes, 107, 1, rings, 6, next, MARK), 1);
+    EQUAL(ringlist_resume((const uint8_t *)SHEET, (const uint8_t *)SHEET, 1, rings, 6, next, MARK),
+          14);
+}
+
+/* A mark of kind 1: the paths from 2 to 4 are 2 1 4 and 2 3 4. */
+static void paths(void) {
+    static const char start[] =
+        "   1   2   4   4   5   0   1\n"
+        "                   0                   0                   0\n\n";
+    static const char end[] =
+        "   1   2   4   4   5   0   5\n"
+        "                  16                   3                   2\n\n";
+    wrote(call(SHEET, start, 91, 99, 8, MARK), 101, "\3\2\1\4\3\2\3\4", 8, end, 91, __LINE__);
+}
+
+/* Counts are taken as they are; at the limit a run stops before its first
+   trial, but done comes before the limit, and the limit before spent. */
+static void limit(void) {
+    static const char at[] =
+        "   0   0   0   4   5   0   1\n"
+        "                   0                   0 9999999999999999999\n\n";
+    static const char done[] =
+        "   0   0   0   4   5   0   5\n"
+        "                   0                   0 9999999999999999999\n\n";
+    static const char before[] =
+        "   0   0   0   4   5   2   3\n"
+        "                   5                   2 9999999999999999998\n   1   2\n";
+    static const char after_it[] =
+        "   0   0   0   4   5   2   4\n"
+        "                   6                   2 9999999999999999999\n   1   2\n";
+    static const char above[] =
+        "   0   0   0   4   5   0   1\n"
+        "                   0                   010000000000000000000\n\n";
+    wrote(call(SHEET, at, 91, 0, 8, MARK), 102, "", 0, at, 91, __LINE__);
+    wrote(call(SHEET, done, 91, 0, 8, MARK), 101, "", 0, done, 91, __LINE__);
+    wrote(call(SHEET, before, 99, 9, 8, MARK), 102, "\3\1\2\3", 4, after_it, 99, __LINE__);
+    REFUSED(document, above, MARK, 14);
+    EQUAL(ringlist_listed((const uint8_t *)at, 91), UINT64_C(9999999999999999999));
+    EQUAL(ringlist_listed((const uint8_t *)above, 91), 0);
+}
+
+/* The two readers of a mark. */
+static void mark_readers(void) {
+    uint8_t mark[700];
+    memset(mark, PATTERN, sizeof mark);
+    memcpy(mark, full_mark, 99);
+    EQUAL(ringlist_mark_length(mark, 700), 99);
+    EQUAL(ringlist_mark_length(mark, 99), 99);
+    EQUAL(ringlist_mark_length(mark, 98), 0);
+    EQUAL(ringlist_mark_length(mark, 90), 0);
+    EQUAL(ringlist_listed(mark, 700), 0);
+    memcpy(mark + 69, "                  42", 20);
+    EQUAL(ringlist_listed(mark, 91), 42);
+    EQUAL(ringlist_listed(mark, 90), 0);
+    memcpy(mark + 69, "                 042", 20);
+    EQUAL(ringlist_listed(mark, 700), 0);
+    memcpy(mark + 20, " 127", 4);
+    EQUAL(ringlist_mark_length(mark, 700), 599);
+    EQUAL(ringlist_mark_length(mark, 599), 599);
+    EQUAL(ringlist_mark_length(mark, 598), 0);
+    memcpy(mark + 20, "   x", 4);
+    EQUAL(ringlist_mark_length(mark, 700), 0);
+    memcpy(mark + 20, "   0", 4);
+    EQUAL(ringlist_mark_length(mark, 91), 91);
+}
+
+static void *resume_in_thread(void *calls) {
+    uint8_t rings[8], next[MARK];
+    return calls != NULL &&
+                   ringlist_resume((const uint8_t *)SHEET, (const uint8_t *)full_mark, 99, 11,
+                                   rings, 8, next, MARK) == 101
+               ? calls
+               : NULL;
+}
+
+/* Bytes that a thread uses of a stack of its own. */
+static size_t stack_used(void *calls) {
+    uint8_t *stack = aligned_alloc(4096, STACK);
+    pthread_attr_t attributes;
+    pthread_t thread;
+    void *result;
+    size_t kept = 0;
+    if (stack == NULL) {
+        abort();
+    }
+    memset(stack, PATTERN, STACK);
+    if (pthread_attr_init(&attributes) != 0 ||
+        pthread_attr_setstack(&attributes, stack, STACK) != 0 ||
+        pthread_create(&thread, &attributes, resume_in_thread, calls) != 0 ||
+        pthread_join(thread, &result) != 0) {
+        abort();
+    }
+    CHECK(result == calls);
+    while (kept < STACK && stack[kept] == PATTERN) {
+        kept++;
+    }
+    pthread_attr_destroy(&attributes);
+    free(stack);
+    return STACK - kept;
+}
+
+/* A call uses less than the 32 kilobytes of stack that the header says. */
+static void stack(void) {
+    int yes = 1;
+    size_t without = stack_used(NULL);
+    size_t with = stack_used(&yes);
+    printf("host_test.c: %zu bytes of stack\n", with - without);
+    CHECK(with - without < 32 * 1024);
+}
+
+/* With a word after its name it does not measure the stack, which valgrind would
+   take for reads of dead memory. */
+int main(int words, char **word) {
+    (void)word;
+    document_by_budget();
+    document_by_output();
+    refusals();
+    zero_lengths();
+    overlap();
+    paths();
+    limit();
+    mark_readers();
+    if (words == 1) {
+        stack();
+    }
+    printf("host_test.c: %u checks, %u failed\n", checks, failures);
+    return failures != 0;
+}

@@ -1,0 +1,5 @@
+//! Prints examples/COUNTS.md.
+
+fn main() {
+    print!("{}", flat_tests::examples::table());
+}

@@ -1,0 +1,202 @@
+//! The host entry: declarations as in `include/ringlist.h`, safe wrappers, and
+//! calls compared with the model.
+
+use std::collections::BTreeMap;
+
+use crate::guard::Guarded;
+use crate::model::host::{self, Resumed};
+use crate::model::list::Lists;
+use crate::rng::Rng;
+use crate::sample;
+
+mod c {
+    extern "C" {
+        pub fn ringlist_resume(
+            sheet: *const u8,
+            sheet_len: usize,
+            mark: *const u8,
+            mark_len: usize,
+            budget: u64,
+            rings: *mut u8,
+            rings_len: usize,
+            next_mark: *mut u8,
+            next_mark_len: usize,
+        ) -> u32;
+        pub fn ringlist_mark_length(mark: *const u8, mark_len: usize) -> usize;
+        pub fn ringlist_listed(mark: *const u8, mark_len: usize) -> u64;
+    }
+}
+
+pub fn resume(
+    sheet: &[u8],
+    mark: &[u8],
+    budget: u64,
+    rings: &mut [u8],
+    next_mark: &mut [u8],
+) -> u32 {
+    // SAFETY: the pointers come with the lengths of live slices, and only
+    // those borrowed mutably are written.
+    unsafe {
+        c::ringlist_resume(
+            sheet.as_ptr(),
+            sheet.len(),
+            mark.as_ptr(),
+            mark.len(),
+            budget,
+            rings.as_mut_ptr(),
+            rings.len(),
+            next_mark.as_mut_ptr(),
+            next_mark.len(),
+        )
+    }
+}
+
+pub fn mark_length(mark: &[u8]) -> usize {
+    // SAFETY: the pointer comes with the length of a live slice, only read.
+    unsafe { c::ringlist_mark_length(mark.as_ptr(), mark.len()) }
+}
+
+pub fn listed(mark: &[u8]) -> u64 {
+    // SAFETY: the pointer comes with the length of a live slice, only read.
+    unsafe { c::ringlist_listed(mark.as_ptr(), mark.len()) }
+}
+
+/// Compares calls of the entry, and counts its answers.
+pub struct Entry {
+    seeds: Rng,
+    answers: BTreeMap<u32, u64>,
+}
+
+impl Entry {
+    pub fn new(seed: u64) -> Entry {
+        Entry {
+            seeds: Rng::new(seed),
+            answers: BTreeMap::new(),
+        }
+    }
+
+    pub fn calls(&self) -> u64 {
+        self.answers.values().sum()
+    }
+
+    pub fn print(&self) {
+        println!("{} calls; answers {:?}", self.calls(), self.answers);
+    }
+
+    /// Each answer was given often enough. Of a sample a quarter of its share
+    /// will do, as small numbers of cases vary.
+    pub fn at_least(&self, count: u64, answers: &[u32]) {
+        let count = match sample() {
+            1 => count,
+            divisor => count / (4 * divisor),
+        };
+        for answer in answers {
+            let given = self.answers.get(answer).copied().unwrap_or(0);
+            assert!(given >= count, "{answer} only {given} times");
+        }
+    }
+
+    /// One call: the answer, every byte of both outputs with the margins around
+    /// them, and the two inputs, which stay as they are. `read` is what the
+    /// model reads in the sheet.
+    pub fn resume(
+        &mut self,
+        (sheet, read): (&[u8], Result<&dyn Lists, u32>),
+        mark: &[u8],
+        budget: u64,
+        (room, mark_room): (usize, usize),
+    ) -> Result<Resumed, u32> {
+        // Copies of exactly their length, so that valgrind sees a read past
+        // the end.
+        let (given_sheet, given_mark): (Box<[u8]>, Box<[u8]>) = (sheet.into(), mark.into());
+        let seed = self.seeds.next();
+        let mut rings = Guarded::new(room, seed);
+        let mut next = Guarded::new(mark_room, seed.rotate_left(32));
+        let answer = resume(
+            &given_sheet,
+            &given_mark,
+            budget,
+            rings.buffer(),
+            next.buffer(),
+        );
+        let expected = host::resume(read, mark, budget, room, mark_room);
+        let (code, parts) = match &expected {
+            Ok(resumed) => (
+                resumed.stop as u32,
+                [rings.begins(&resumed.records), next.begins(&resumed.mark)],
+            ),
+            Err(rule) => (*rule, [rings.is_untouched(), next.is_untouched()]),
+        };
+        let call = || {
+            format!(
+                "budget {budget}, {room} and {mark_room} bytes\nsheet {}\nmark {}\nexpected {expected:?}",
+                sheet.escape_ascii(),
+                mark.escape_ascii()
+            )
+        };
+        assert_eq!(answer, code, "answer; {}", call());
+        assert!(parts[0], "rings ({answer}); {}", call());
+        assert!(parts[1], "next mark ({answer}); {}", call());
+        assert!(*given_sheet == *sheet, "the sheet was written; {}", call());
+        assert!(*given_mark == *mark, "the mark was written; {}", call());
+        if let Ok(resumed) = &expected {
+            assert_eq!(mark_length(next.buffer()), resumed.mark.len());
+            assert_eq!(listed(next.buffer()), resumed.search.listed);
+        }
+        *self.answers.entry(answer).or_default() += 1;
+        expected
+    }
+}
+
+/// A whole listing through the entry.
+pub struct Whole {
+    /// The records of all calls joined.
+    pub sheet: Vec<u8>,
+    pub calls: u64,
+    /// 101 or 102.
+    pub stop: u32,
+    /// The last mark.
+    pub mark: Vec<u8>,
+}
+
+impl Whole {
+    /// Trials, extensions, listed, from the last mark.
+    pub fn counts(&self) -> [u64; 3] {
+        [29, 49, 69].map(|at| {
+            let text = std::str::from_utf8(&self.mark[at..at + 20]).expect("a mark is text");
+            text.trim_start().parse().expect("a count")
+        })
+    }
+}
+
+/// Calls the entry again and again, from `mark`, each time with the mark that
+/// the call before wrote, until done or limit. `next` gives the budget and the
+/// bytes for rings of each call. Bytes past the records and the mark, which are
+/// filled anew before every call, keep their values.
+pub fn list(sheet: &[u8], mark: &[u8], mut next: impl FnMut() -> (u64, usize)) -> Whole {
+    let mut whole = Whole {
+        sheet: Vec::new(),
+        calls: 0,
+        stop: 0,
+        mark: mark.to_vec(),
+    };
+    while whole.stop != 101 && whole.stop != 102 {
+        let (budget, room) = next();
+        let fill = (whole.calls % 251) as u8;
+        let mut rings = vec![fill; room];
+        let mut saved = [!fill; 640];
+        whole.stop = resume(sheet, &whole.mark, budget, &mut rings, &mut saved);
+        assert!(whole.stop > 100, "refused {}", whole.stop);
+        let mut used = 0;
+        for _ in listed(&whole.mark)..listed(&saved) {
+            used += 1 + usize::from(rings[used]);
+        }
+        let len = mark_length(&saved);
+        assert!(rings[used..].iter().all(|&byte| byte == fill));
+        assert!(saved[len..].iter().all(|&byte| byte == !fill));
+        whole.sheet.extend_from_slice(&rings[..used]);
+        whole.mark = saved[..len].to_vec();
+        whole.calls += 1;
+    }
+    whole
+}

@@ -1,0 +1,121 @@
+//! The host entry: a sheet is read, a mark restored, the search run and saved.
+
+use super::field;
+use super::list::{Lists, Task};
+use super::machine::{self, Search, Stop};
+use super::mark::{self, LONGEST_MARK};
+
+/// Bytes of the shortest mark.
+const SHORTEST_MARK: usize = 91;
+
+/// What an accepted call returns and writes: the records at the start of the
+/// ring output, the mark at the start of the mark output.
+#[derive(Clone, Debug, PartialEq, Eq)]
+pub struct Resumed {
+    pub stop: Stop,
+    pub records: Vec<u8>,
+    pub mark: Vec<u8>,
+    pub search: Search,
+}
+
+/// The entry, on a sheet that reads as `read` says, with `room` bytes for rings
+/// and `mark_room` bytes for the next mark.
+pub fn resume(
+    read: Result<&dyn Lists, u32>,
+    mark: &[u8],
+    budget: u64,
+    room: usize,
+    mark_room: usize,
+) -> Result<Resumed, u32> {
+    let lists = read?;
+    let search = match mark {
+        [] => Search::fresh(Task::Rings),
+        _ => mark::read(lists, mark)?,
+    };
+    if mark_room < LONGEST_MARK {
+        return Err(13);
+    }
+    let ran = machine::run(lists, &search, budget, room).expect("a search of a mark");
+    Ok(Resumed {
+        stop: ran.stop,
+        records: ran.records,
+        mark: machine::save(lists, &ran.search, mark_room).expect("a search and room"),
+        search: ran.search,
+    })
+}
+
+/// The bytes of the mark at the start of a buffer, or 0.
+pub fn mark_length(bytes: &[u8]) -> usize {
+    if bytes.len() < SHORTEST_MARK {
+        return 0;
+    }
+    match field::read(&bytes[20..24]) {
+        Some(atoms) if SHORTEST_MARK + 4 * atoms as usize <= bytes.len() => {
+            SHORTEST_MARK + 4 * atoms as usize
+        }
+        _ => 0,
+    }
+}
+
+/// The listed count of a mark, or 0.
+pub fn listed(bytes: &[u8]) -> u64 {
+    if bytes.len() < SHORTEST_MARK {
+        return 0;
+    }
+    field::read(&bytes[69..89]).unwrap_or(0)
+}
+
+/// The lines that `ringlist` prints for joined records.
+pub fn ring_lines(mut records: &[u8]) -> Vec<u8> {
+    let mut text = Vec::new();
+    while let Some((&len, rest)) = records.split_first() {
+        let (ring, rest) = rest.split_at(len.into());
+        for &v in ring {
+            text.extend(field::write(4, v.into()));
+        }
+        text.push(b'\n');
+        records = rest;
+    }
+    text
+}
+
+/// The last line that `ringlist` prints.
+pub fn count_line(listed: u64, extensions: u64, trials: u64) -> Vec<u8> {
+    format!("{listed:>20}{extensions:>20}{trials:>20}\n").into_bytes()
+}
+
+/// The line that `ringlist` prints for a refusal.
+pub fn refusal_line(number: u32) -> Vec<u8> {
+    format!("refused{number:>4}\n").into_bytes()
+}
+
+#[cfg(test)]
+mod tests {
+    use super::super::list::Listed;
+    use super::*;
+    use crate::generate;
+
+    #[test]
+    fn document_by_hand() {
+        let record = generate::document().record();
+        let lists = Listed::new(&record);
+        let go = |mark: &[u8], budget, room, mark_room| {
+            resume(Ok(&lists), mark, budget, room, mark_room)
+        };
+        let full = go(&[], 6, 3, 599).expect("accepted");
+        assert_eq!((full.stop, full.mark.len()), (Stop::Full, 99));
+        assert_eq!(mark_length(&full.mark), 99);
+        assert_eq!(mark_length(&full.mark[..98]), 0);
+        assert_eq!(listed(&full.mark), 0);
+        let done = go(&full.mark, 11, 8, 599).expect("accepted");
+        assert_eq!(done.stop, Stop::Done);
+        assert_eq!((done.mark.len(), listed(&done.mark)), (91, 2));
+        assert_eq!(ring_lines(&done.records), b"   1   2   3\n   1   3   4\n");
+        assert_eq!(go(&full.mark, 1, 0, 598), Err(13));
+        assert_eq!(go(b"x", 1, 0, 0), Err(14));
+        assert_eq!(resume(Err(3), b"x", 1, 0, 0), Err(3));
+        assert_eq!(refusal_line(17), b"refused  17\n");
+        let line = b"                   2                   3                  16\n";
+        assert_eq!(count_line(2, 3, 16), line);
+    }
+}

@@ -1,0 +1,463 @@
+//! The host entry against the model: random and damaged sheets, marks, budgets
+//! and buffer lengths, call by call, byte for byte.
+
+use flat_tests::compare::Case;
+use flat_tests::generate::{self, Molecule};
+use flat_tests::host::{self, Entry};
+use flat_tests::model::field::LIMIT;
+use flat_tests::model::list::{self, Listed, Lists, Reached, Task};
+use flat_tests::model::machine::Search;
+use flat_tests::model::mark::{self, LONGEST_MARK};
+use flat_tests::model::{self, lister, Record};
+use flat_tests::rng::Rng;
+use flat_tests::{sampled, spoil};
+
+/// Up to this many atoms the model answers from the brute-force list.
+const BRUTE: u64 = 10;
+
+/// Calls on one molecule.
+const CALLS: u64 = 12;
+
+/// A molecule with its sheet, and open beginnings to make marks of.
+struct Subject<'a> {
+    lists: &'a dyn Lists,
+    sheet: Vec<u8>,
+    places: Vec<(Task, Vec<u8>)>,
+}
+
+impl Subject<'_> {
+    fn atoms(&self) -> u64 {
+        self.lists.record().atoms
+    }
+
+    /// The mark of any open beginning and next atom, with any counts.
+    fn mark(&self, rng: &mut Rng) -> Vec<u8> {
+        let n = self.atoms();
+        let (task, p) = &self.places[rng.index(self.places.len())];
+        let c = match p.len() {
+            0 => rng.between(1, n + 1),
+            _ => rng.between(1, n),
+        };
+        let mut search = Search::at(*task, p, c);
+        let mut any_count = || match rng.below(12) {
+            0 => LIMIT,
+            1 => LIMIT - 1,
+            2 => LIMIT - rng.below(4 * n + 4),
+            3..=5 => 0,
+            _ => (rng.next() >> rng.below(64)).min(LIMIT),
+        };
+        search.trials = any_count();
+        search.extensions = any_count();
+        search.listed = any_count();
+        mark::write(self.lists.record(), &search)
+    }
+}
+
+/// The empty beginning and up to 40 others, of rings and of paths.
+fn places(rng: &mut Rng, record: &Record) -> Vec<(Task, Vec<u8>)> {
+    let n = record.atoms;
+    let mut tasks = vec![Task::Rings];
+    if n >= 2 {
+        let (s, t) = generate::any_ends(rng, n);
+        tasks.push(Task::of(n, 1, s, t).expect("two atoms"));
+    }
+    let mut places = Vec::new();
+    for task in tasks {
+        // A large molecule may have too many members to list.
+        let members = if n <= BRUTE {
+            list::members(record, task)
+        } else if record.bonds <= n + 6 {
+            lister::list(record, task).members()
+        } else {
+            Vec::new()
+        };
+        let mut open = list::open_beginnings(&members);
+        rng.shuffle(&mut open);
+        open.truncate(40);
+        open.push(Vec::new());
+        places.extend(open.into_iter().map(|p| (task, p)));
+    }
+    places
+}
+
+fn any_budget(rng: &mut Rng, n: u64) -> u64 {
+    match rng.below(10) {
+        0 => 0,
+        1 => 1,
+        2..=4 => rng.between(2, n + 3),
+        5 => rng.between(n, 4 * n + 4),
+        6 => 2 * n * n,
+        7 => rng.below(2 * n * n + 2),
+        _ => rng.pick(&[u64::MAX, LIMIT, LIMIT + 1, 1 << 32, (1 << 32) + 1, 1 << 63]),
+    }
+}
+
+fn any_room(rng: &mut Rng, n: u64) -> usize {
+    let room = match rng.below(16) {
+        0..=1 => 0,
+        2..=9 => rng.between(0, n + 2),
+        10..=11 => rng.between(n, 4 * n + 4),
+        12..=14 => rng.between(0, 1_000),
+        _ if rng.one_in(40) => 65_536 + rng.between(0, n),
+        _ => 3_000,
+    };
+    room as usize
+}
+
+/// Bytes for the next mark: mostly enough.
+fn any_mark_room(rng: &mut Rng) -> usize {
+    match rng.below(16) {
+        0 => 0,
+        1..=2 => LONGEST_MARK - 1,
+        3..=4 => LONGEST_MARK + 1,
+        5 => rng.index(LONGEST_MARK),
+        6 => rng.pick(&[1, 90, 91, 92, 99, 599 - 508, 598, 600, 4_096]),
+        _ => LONGEST_MARK,
+    }
+}
+
+/// Bytes that no save wrote: noise, a piece of a mark, or a sheet.
+fn no_mark(rng: &mut Rng, subject: &Subject) -> Vec<u8> {
+    let mut bytes = match rng.below(4) {
+        0 => {
+            let len = rng.index(700);
+            (0..len).map(|_| rng.byte()).collect()
+        }
+        1 => {
+            let len = rng.index(700);
+            (0..len).map(|_| rng.pick(b"    01234\n")).collect()
+        }
+        2 => subject.sheet.clone(),
+        _ => vec![rng.pick(b" 0\n\0"); rng.pick(&[1, 28, 29, 90, 91, 92, 95, 599, 603])],
+    };
+    if rng.one_in(3) {
+        bytes.truncate(rng.index(bytes.len() + 1));
+    }
+    bytes
+}
+
+/// Calls on one molecule, each with the parts of the call drawn anew: the sheet
+/// as it is or changed, no mark, the mark of the last accepted call, of another
+/// place, of another molecule, damaged, or none at all.
+fn calls_on(entry: &mut Entry, subject: &Subject, other: &[u8], rng: &mut Rng) {
+    let n = subject.atoms();
+    let mut last = Vec::new();
+    for _ in 0..CALLS {
+        let mut mark = match rng.below(16) {
+            0..=1 => Vec::new(),
+            2..=6 => last.clone(),
+            7..=13 => subject.mark(rng),
+            14 => other.to_vec(),
+            _ => no_mark(rng, subject),
+        };
+        if mark.len() >= 91 && rng.one_in(3) && mark.last() == Some(&b'\n') {
+            let kind = rng.below(spoil::MARK_KINDS);
+            spoil::mark(rng, n, kind, &mut mark);
+        }
+        let (budget, room) = (any_budget(rng, n), any_room(rng, n));
+        let rooms = (room, any_mark_room(rng));
+        if rng.below(8) < 5 {
+            let call = (subject.sheet.as_slice(), Ok(subject.lists));
+            if let Ok(resumed) = entry.resume(call, &mark, budget, rooms) {
+                last = resumed.mark;
+            }
+            continue;
+        }
+        let kind = rng.between(2, generate::SHEET_KINDS - 1);
+        let sheet = generate::changed_sheet(rng, kind, subject.sheet.clone());
+        let read = model::sheet::read(&sheet);
+        match &read {
+            // A changed sheet may read as another molecule, also a large one.
+            Ok(record) => {
+                let budget = budget.min(20);
+                let reached = Reached::new(record);
+                let _ = entry.resume((&sheet, Ok(&reached)), &mark, budget, rooms);
+            }
+            Err(rule) => {
+                let _ = entry.resume((&sheet, Err(*rule)), &mark, budget, rooms);
+            }
+        }
+    }
+}
+
+/// A molecule to call on: seldom one of any size, with few trials then.
+fn any_subject(rng: &mut Rng) -> Molecule {
+    match rng.below(40) {
+        0 => generate::any_judged(rng),
+        1 => generate::any_molecule(rng),
+        _ => generate::any_searched(rng),
+    }
+}
+
+/// Four parts, so that they can run side by side.
+#[test]
+fn random_calls_1() {
+    random_calls("random_calls_1", 0x48_4F53_5431);
+}
+
+#[test]
+fn random_calls_2() {
+    random_calls("random_calls_2", 0x48_4F53_5432);
+}
+
+#[test]
+fn random_calls_3() {
+    random_calls("random_calls_3", 0x48_4F53_5433);
+}
+
+#[test]
+fn random_calls_4() {
+    random_calls("random_calls_4", 0x48_4F53_5434);
+}
+
+fn random_calls(name: &'static str, seed: u64) {
+    let molecules = sampled(7_000);
+    let mut entry = Entry::new(seed);
+    let mut other = Vec::new();
+    for case in 0..molecules {
+        let _case = Case(name, case);
+        let mut rng = Rng::of_case(seed, case);
+        let molecule = any_subject(&mut rng);
+        let record = molecule.record();
+        let (listed, reached) = (Listed::new(&record), Reached::new(&record));
+        let subject = Subject {
+            lists: if record.atoms <= BRUTE {
+                &listed
+            } else {
+                &reached
+            },
+            sheet: molecule.sheet(),
+            places: places(&mut rng, &record),
+        };
+        calls_on(&mut entry, &subject, &other, &mut rng);
+        other = subject.mark(&mut rng);
+    }
+    entry.print();
+    assert_eq!(entry.calls(), molecules * CALLS);
+    entry.at_least(2_000, &[101, 103, 104]);
+    entry.at_least(1_000, &[102, 13, 14, 15]);
+    entry.at_least(300, &[16, 17]);
+    entry.at_least(500, &[1, 2, 3, 4, 5, 6, 7, 8]);
+}
+
+/// Rules broken together: the sheet's come first, then the mark's, then the
+/// room for the next mark. Each set of them is tried with the others kept.
+#[test]
+fn order_of_rules() {
+    let mut entry = Entry::new(81);
+    let record = generate::document().record();
+    let lists = Listed::new(&record);
+    let right = generate::document().sheet();
+    // For each rule a sheet that breaks it, and the rules above it that can be
+    // broken too.
+    let line = |text: &str| text.as_bytes().to_vec();
+    let many = "   1   2\n".repeat(1025);
+    let sheets = [
+        (1, line("   4   5\n   1   2\n  ")),
+        (1, line(" 129   5\nx  1   1\n  ")),
+        (2, line(" 1299999\n   1   x\n")),
+        (3, line(" 1299999\n   1   1\n")),
+        (4, line("   41025\n   0   0\n")),
+        (4, line(&format!("   41025\n{many}"))),
+        (5, line("   4   2\n   0   0\n")),
+        (6, line("   4   3\n   1   1\n   1   1\n   0   2\n")),
+        (7, line("   4   3\n   1   2\n   1   2\n   2   2\n")),
+        (8, line("   4   3\n   1   2\n   3   4\n   2   1\n")),
+    ];
+    let mark = |line1: &str, line3: &str| {
+        let counts = "                   5                   2                   0";
+        line(&format!("{line1}\n{counts}\n{line3}\n"))
+    };
+    let marks = [
+        (None, Vec::new()),
+        (None, mark("   0   0   0   4   5   2   3", "   1   2")),
+        (None, mark("   1   2   4   4   5   1   1", "   2")),
+        (Some(14), line("x")),
+        (Some(14), line("\n")),
+        (Some(14), mark("   2   0   0   5   5   1   0", "   0   9")),
+        (Some(14), mark("   0   0   0   4   5  -2   3", "   1   2")),
+        (Some(15), mark("   2   0   0   5   5   2   0", "   9   9")),
+        (Some(15), mark("   0   0   0   4   4   2   3", "   1   2")),
+        (Some(16), mark("   2   0   0   4   5   2   0", "   9   9")),
+        (Some(16), mark("   0   0   1   4   5   2   3", "   1   2")),
+        (Some(16), mark("   1   0   0   4   5   2   3", "   1   2")),
+        (Some(16), mark("   1   3   3   4   5   1   1", "   3")),
+        (Some(16), mark("   1   5   3   4   5   1   1", "   5")),
+        (Some(17), mark("   0   0   0   4   5   2   3", "   9   9")),
+        (Some(17), mark("   0   0   0   4   5   2   3", "   1   4")),
+        (Some(17), mark("   0   0   0   4   5   2   0", "   1   2")),
+        (Some(17), mark("   0   0   0   4   5   2   5", "   1   2")),
+        (Some(17), mark("   0   0   0   4   5   0   6", "")),
+        (None, mark("   0   0   0   4   5   0   5", "")),
+    ];
+    for (of_mark, mark) in &marks {
+        for mark_room in [0, 91, 598, 599] {
+            for (of_sheet, sheet) in &sheets {
+                let call = (sheet.as_slice(), Err(*of_sheet));
+                assert_eq!(model::sheet::read(sheet), Err(*of_sheet));
+                let answer = entry.resume(call, mark, 9, (20, mark_room));
+                assert_eq!(answer.err(), Some(*of_sheet));
+            }
+            let call = (right.as_slice(), Ok(&lists as &dyn Lists));
+            let answer = entry.resume(call, mark, 9, (20, mark_room)).err();
+            let of_room = (mark_room < 599).then_some(13);
+            assert_eq!(answer, of_mark.or(of_room), "{}", mark.escape_ascii());
+        }
+    }
+}
+
+/// Every single byte of a mark changed to every other byte, and every length.
+#[test]
+fn every_byte_of_a_mark() {
+    let mut entry = Entry::new(82);
+    let molecule = generate::document();
+    let (record, sheet) = (molecule.record(), molecule.sheet());
+    let lists = Listed::new(&record);
+    let call = (sheet.as_slice(), Ok(&lists as &dyn Lists));
+    let mut search = Search::at(Task::Rings, &[1, 2], 3);
+    [search.trials, search.extensions, search.listed] = [5, 2, 0];
+    let mark = mark::write(&record, &search);
+    for at in 0..mark.len() {
+        let step = flat_tests::sample().min(17) as usize;
+        for byte in (at % step..256).step_by(step) {
+            let mut changed = mark.clone();
+            changed[at] = byte as u8;
+            let _ = entry.resume(call, &changed, 4, (9, 599));
+        }
+        let _ = entry.resume(call, &mark[..at], 4, (9, 599));
+        let _ = entry.resume(call, &mark[at..], 4, (9, 599));
+    }
+    entry.print();
+}
+
+/// Every budget and every room of fresh searches, with every short mark output
+/// turned back.
+#[test]
+fn every_budget_and_room() {
+    let mut entry = Entry::new(83);
+    for molecule in [
+        generate::document(),
+        generate::two_to_three(),
+        generate::complete(4),
+        generate::ring(5),
+        generate::chain(3),
+        Molecule::new(0, &[]),
+        Molecule::new(1, &[]),
+    ] {
+        let (record, sheet) = (molecule.record(), molecule.sheet());
+        let lists = Listed::new(&record);
+        let call = (sheet.as_slice(), Ok(&lists as &dyn Lists));
+        let whole = lister::list(&record, Task::Rings).sheet.len();
+        let steps = flat_tests::sample().min(7) as usize;
+        for budget in (0..=record.atoms * 7 + 1).step_by(steps) {
+            for room in (0..=whole + 1).step_by(steps) {
+                let first = entry.resume(call, &[], budget, (room, 599));
+                let first = first.expect("accepted");
+                let rest = entry.resume(call, &first.mark, u64::MAX, (whole, 599));
+                let rest = rest.expect("accepted");
+                assert_eq!(rest.stop as u32, 101);
+                let joined = [first.records, rest.records].concat();
+                assert_eq!(joined, lister::list(&record, Task::Rings).sheet);
+            }
+        }
+        for mark_room in (0..599).step_by(steps) {
+            let answer = entry.resume(call, &[], 1, (whole, mark_room));
+            assert_eq!(answer.err(), Some(13));
+        }
+    }
+}
+
+/// The longest ring and the longest mark: 128 atoms in one ring. A mark of 127
+/// atoms is 599 bytes, a record of 128 atoms 129.
+#[test]
+fn longest() {
+    let mut entry = Entry::new(84);
+    let molecule = generate::ring(128);
+    let (record, sheet) = (molecule.record(), molecule.sheet());
+    let lists = Reached::new(&record);
+    let call = (sheet.as_slice(), Ok(&lists as &dyn Lists));
+    let ring: Vec<u8> = (1..=128).collect();
+    let search = Search::at(Task::Rings, &ring[..127], 128);
+    let mark = mark::write(&record, &search);
+    assert_eq!(mark.len(), LONGEST_MARK);
+    for (room, stop) in [(0, 104), (128, 104), (129, 103), (130, 103), (300, 103)] {
+        for mark_room in [598, 599, 600] {
+            match entry.resume(call, &mark, 1, (room, mark_room)) {
+                Ok(resumed) => {
+                    assert_eq!((resumed.stop as u32, mark_room >= 599), (stop, true));
+                    if stop == 104 {
+                        assert_eq!(resumed.mark, mark);
+                    }
+                }
+                Err(rule) => assert_eq!((rule, mark_room), (13, 598)),
+            }
+        }
+    }
+    // No mark is longer: 128 atoms break the layout.
+    let longer = spoil::lengthened(&mark, 128, 128);
+    assert_eq!(entry.resume(call, &longer, 1, (300, 700)), Err(14));
+    // A full sheet, the longest accepted: 9 × 1,025 bytes.
+    let molecule = generate::random_molecule(&mut Rng::new(5), 128, 1024);
+    let (record, sheet) = (molecule.record(), molecule.sheet());
+    let lists = Reached::new(&record);
+    assert_eq!(sheet.len(), 9_225);
+    let call = (sheet.as_slice(), Ok(&lists as &dyn Lists));
+    entry.resume(call, &[], 10, (500, 599)).expect("accepted");
+}
+
+/// The two readers of a mark, on marks, damaged marks and noise.
+#[test]
+fn mark_readers() {
+    let (mut lengths, mut counts) = (0, 0);
+    let mut compare = |bytes: &[u8]| {
+        let given: Box<[u8]> = bytes.into();
+        let length = host::mark_length(&given);
+        let text = || bytes.escape_ascii().to_string();
+        assert_eq!(length, model::host::mark_length(bytes), "{}", text());
+        let count = host::listed(&given);
+        assert_eq!(count, model::host::listed(bytes), "{}", text());
+        lengths += u64::from(length > 0);
+        counts += u64::from(count > 0);
+    };
+    compare(&[]);
+    let cases = sampled(200_000);
+    for case in 0..cases {
+        let mut rng = Rng::of_case(0x48_4F53_5435, case);
+        let n = rng.between(1, 128);
+        let p = generate::random_list(&mut rng, n, 127);
+        let mut search = Search::at(Task::Rings, &p, rng.between(0, n + 1));
+        search.listed = (rng.next() >> rng.below(64)).min(LIMIT);
+        let mut record = Record::new(n);
+        record.bonds = rng.below(1_025);
+        let mut bytes = mark::write(&record, &search);
+        match rng.below(8) {
+            // The length alone, also above 127 and above what is there.
+            0 => {
+                let length = rng.pick(&spoil::EDGES);
+                spoil::put(&mut bytes, 20, 4, &length.to_string());
+            }
+            // Room for such a length.
+            1 => {
+                let length = rng.pick(&[127, 128, 129, 200, 256, 1_000]);
+                spoil::put(&mut bytes, 20, 4, &length.to_string());
+                let right = 91 + 4 * length;
+                bytes.resize(right + rng.index(3) - 1, b' ');
+            }
+            2 => {
+                let count = rng.pick(&spoil::COUNTS);
+                spoil::put(&mut bytes, 69, 20, count);
+            }
+            3 => bytes.resize(rng.pick(&[599, 600, 700, 4_096]), rng.byte()),
+            4 => bytes.truncate(rng.pick(&[0, 1, 20, 24, 88, 89, 90, 91, 92, 95])),
+            5 => bytes = (0..rng.index(200)).map(|_| rng.pick(b"   019\n")).collect(),
+            _ => {
+                let kind = rng.below(spoil::MARK_KINDS);
+                spoil::mark(&mut rng, n, kind, &mut bytes);
+            }
+        }
+        compare(&bytes);
+    }
+    println!("{cases} buffers, {lengths} with a length, {counts} with a count");
+    assert!(lengths > cases / 4 && lengths < cases * 7 / 8);
+    assert!(counts > cases / 4 && counts < cases * 19 / 20);
+}

@@ -1,0 +1,288 @@
+//! Whole listings through the host entry, by repeated calls that each take the
+//! mark that the one before wrote: random molecules, the reference molecules
+//! and the examples, against the Rust lister.
+
+use flat_tests::compare::Case;
+use flat_tests::generate::{self, Molecule};
+use flat_tests::host::{self, Whole};
+use flat_tests::model::field::LIMIT;
+use flat_tests::model::list::{self, Task};
+use flat_tests::model::machine::Search;
+use flat_tests::model::{lister, mark, sheet, Record};
+use flat_tests::rng::Rng;
+use flat_tests::{examples, sample, sampled};
+
+/// The mark of a fresh search; of a fresh ring search that or no bytes.
+fn fresh_mark(record: &Record, task: Task) -> Vec<u8> {
+    mark::write(record, &Search::fresh(task))
+}
+
+/// A whole listing is the lister's, with its counts.
+fn assert_whole(record: &Record, task: Task, whole: &Whole) {
+    let expected = lister::list(record, task);
+    assert_eq!(whole.stop, 101);
+    assert!(whole.sheet == expected.sheet, "{task:?} of {record:?}");
+    let trials = record.atoms * (expected.extensions + 1);
+    let counts = [trials, expected.extensions, expected.listed];
+    assert_eq!(whole.counts(), counts, "{task:?} of {record:?}");
+}
+
+/// In one call from no mark, with just the room that is needed.
+fn in_one_call(molecule: &Molecule) -> Whole {
+    let room = lister::list(&molecule.record(), Task::Rings).sheet.len();
+    let whole = host::list(&molecule.sheet(), &[], || (u64::MAX, room));
+    assert_eq!(whole.calls, 1);
+    assert_whole(&molecule.record(), Task::Rings, &whole);
+    whole
+}
+
+/// Budgets and rooms of one listing: of about one size, so that it ends soon,
+/// and some that are of no use.
+fn any_pace(rng: &mut Rng, n: u64, trials: u64) -> impl FnMut() -> (u64, usize) + '_ {
+    let most = rng.pick(&[1, n, 4 * n, 2 * n * n, trials]).max(trials / 60);
+    let widest = rng.pick(&[n + 1, n + 1, 3 * n + 3, 40 * n + 40, 5_000]);
+    move || {
+        if rng.one_in(12) {
+            return rng.pick(&[(0, 0), (0, 5_000), (1, 0), (u64::MAX, 2), (u64::MAX, 0)]);
+        }
+        let budget = match rng.below(16) {
+            0 => u64::MAX,
+            1 => LIMIT,
+            _ => rng.between(1, most.max(1)),
+        };
+        // From time to time enough for any record, so that it goes on.
+        let room = match rng.below(3) {
+            0 => rng.between(0, widest),
+            _ => rng.between(n + 1, widest),
+        };
+        (budget, room as usize)
+    }
+}
+
+#[test]
+fn random_listings_1() {
+    random_listings("random_listings_1", 0x4C_4953_5441);
+}
+
+#[test]
+fn random_listings_2() {
+    random_listings("random_listings_2", 0x4C_4953_5442);
+}
+
+fn random_listings(name: &'static str, seed: u64) {
+    let molecules = sampled(4_000);
+    let (mut calls, mut rings) = (0, 0);
+    for case in 0..molecules {
+        let _case = Case(name, case);
+        let mut rng = Rng::of_case(seed, case);
+        // Sparse ones are listed soon whatever their size.
+        let molecule = if rng.one_in(12) {
+            let n = rng.between(13, 60);
+            let m = rng.between(n, n + n / 5);
+            generate::random_molecule(&mut rng, n, m)
+        } else {
+            generate::any_searched(&mut rng)
+        };
+        let (record, sheet) = (molecule.record(), molecule.sheet());
+        let n = record.atoms;
+        let mut tasks = vec![Task::Rings];
+        if n >= 2 {
+            let (s, t) = generate::any_ends(&mut rng, n);
+            tasks.push(Task::of(n, 1, s, t).expect("two atoms"));
+        }
+        for task in tasks {
+            let trials = n * (lister::list(&record, task).extensions + 1);
+            let start = match task {
+                Task::Rings if rng.one_in(2) => Vec::new(),
+                _ => fresh_mark(&record, task),
+            };
+            let whole = host::list(&sheet, &start, any_pace(&mut rng, n, trials));
+            assert_whole(&record, task, &whole);
+            calls += whole.calls;
+            rings += whole.counts()[2];
+        }
+    }
+    println!("{molecules} molecules, {rings} members, {calls} calls");
+    assert!(sample() > 1 || (calls >= 40_000 && rings >= 20_000));
+}
+
+/// From a mark of any place: exactly the members that follow it.
+#[test]
+fn listings_from_any_place() {
+    for case in 0..sampled(3_000) {
+        let _case = Case("listings_from_any_place", case);
+        let mut rng = Rng::of_case(0x4C_4953_5443, case);
+        let molecule = generate::any_searched(&mut rng);
+        let (record, sheet) = (molecule.record(), molecule.sheet());
+        let n = record.atoms;
+        let task = match rng.below(2) {
+            1 if n >= 2 => {
+                let (s, t) = generate::any_ends(&mut rng, n);
+                Task::of(n, 1, s, t).expect("two atoms")
+            }
+            _ => Task::Rings,
+        };
+        let listing = lister::list(&record, task);
+        let members = listing.members();
+        let mut open = list::open_beginnings(&members);
+        open.push(Vec::new());
+        let p = open.swap_remove(rng.index(open.len()));
+        let c = match p.len() {
+            0 => rng.between(1, n + 1),
+            _ => rng.between(1, n),
+        };
+        let mut search = Search::at(task, &p, c);
+        search.listed = rng.next() >> rng.between(1, 63);
+        let start = mark::write(&record, &search);
+        let trials = n * (listing.extensions + 1);
+        let whole = host::list(&sheet, &start, any_pace(&mut rng, n, trials));
+        let follow: Vec<u8> = list::following(&members, &p, c)
+            .flat_map(|member| list::record_of(member))
+            .collect();
+        assert_eq!(whole.stop, 101);
+        assert!(whole.sheet == follow, "{p:?} {c} {task:?} of {record:?}");
+    }
+}
+
+/// The reference molecules of the document, starred and not.
+#[test]
+fn references() {
+    for (molecule, rings, extensions) in generate::references() {
+        let trials = molecule.atoms * (extensions + 1);
+        let whole = in_one_call(&molecule);
+        assert_eq!(whole.counts(), [trials, extensions, rings]);
+    }
+    let rings = |molecule: &Molecule| list_of(&in_one_call(molecule).sheet);
+    assert_eq!(rings(&generate::document()), [[1, 2, 3], [1, 3, 4]]);
+    let three = [[1, 3, 2, 4], [1, 3, 2, 5], [1, 4, 2, 5]];
+    assert_eq!(rings(&generate::two_to_three()), three);
+    let cube = rings(&generate::cube());
+    let long = |len| cube.iter().filter(|ring| ring.len() == len).count();
+    assert_eq!((cube.len(), long(4), long(6)), (10, 6, 4));
+    let hexagons = list_of(&in_one_call(&from_example("cubane")).sheet);
+    assert_eq!(hexagons.iter().filter(|ring| ring.len() == 6).count(), 4);
+    for n in [10, 15, 20, 25] {
+        let whole = in_one_call(&generate::complete(n));
+        assert_eq!(whole.counts()[2], n * (n - 1) * (n - 2) / 6);
+        assert!(list_of(&whole.sheet).iter().all(|ring| ring.len() == 3));
+    }
+    let document = generate::document();
+    let record = document.record();
+    for (s, t, members, counts) in [
+        (2, 4, vec![vec![2, 1, 4], vec![2, 3, 4]], [16, 3, 2]),
+        (1, 3, vec![vec![1, 3]], [8, 1, 1]),
+    ] {
+        let task = Task::Paths { s, t };
+        let start = fresh_mark(&record, task);
+        let whole = host::list(&document.sheet(), &start, || (u64::MAX, 20));
+        assert_whole(&record, task, &whole);
+        assert_eq!(list_of(&whole.sheet), members);
+        assert_eq!(whole.counts(), counts);
+    }
+}
+
+/// The members of joined records.
+fn list_of(mut records: &[u8]) -> Vec<Vec<u8>> {
+    let mut members = Vec::new();
+    while let Some((&len, rest)) = records.split_first() {
+        let (member, rest) = rest.split_at(len.into());
+        members.push(member.to_vec());
+        records = rest;
+    }
+    members
+}
+
+/// The bonds of an example sheet, as its script numbers them.
+fn from_example(name: &str) -> Molecule {
+    let record = examples::record(name);
+    let n = record.atoms;
+    let bonds = (1..=n)
+        .flat_map(|a| (a + 1..=n).map(move |b| (a, b)))
+        .filter(|&(a, b)| record.bonded(a, b))
+        .collect();
+    Molecule { atoms: n, bonds }
+}
+
+/// The example sheets have the rings and counts of their table.
+#[test]
+fn example_sheets() {
+    if sample() > 1 {
+        return;
+    }
+    let committed = std::fs::read_to_string(examples::folder().join("COUNTS.md"));
+    assert_eq!(committed.expect("examples/COUNTS.md"), examples::table());
+    for name in examples::NAMES {
+        let bytes = examples::bytes(name);
+        let record = sheet::read(&bytes).expect("a bond sheet");
+        assert_eq!(from_example(name).sheet(), bytes, "bonds sorted");
+        let whole = host::list(&bytes, &[], || (1_000_000, 65_536));
+        assert_whole(&record, Task::Rings, &whole);
+    }
+    // Rings that are known by other means.
+    let rings = |name| lister::list(&examples::record(name), Task::Rings).listed;
+    assert_eq!(rings("prismane"), 2 + 3);
+    assert_eq!(rings("cubane"), 6 + 4);
+    assert_eq!(rings("adamantane"), 4 + 3);
+    assert_eq!(rings("gonane"), 4);
+    assert_eq!(rings("acene30"), 30);
+    let cage = generate::buckminsterfullerene().record();
+    assert_eq!(
+        rings("buckminsterfullerene"),
+        lister::list(&cage, Task::Rings).listed
+    );
+}
+
+/// Several listings side by side, in threads of little stack: the entry keeps
+/// nothing between calls.
+#[test]
+fn side_by_side() {
+    let names = ["cubane", "adamantane", "gonane", "dodecahedrane"];
+    std::thread::scope(|scope| {
+        for (number, name) in names.iter().cycle().take(8).enumerate() {
+            let thread = std::thread::Builder::new().stack_size(128 * 1024);
+            let list = move || {
+                let (bytes, record) = (examples::bytes(name), examples::record(name));
+                let mut rng = Rng::new(number as u64);
+                let whole = host::list(&bytes, &[], || (rng.between(1, 300), 64));
+                assert_whole(&record, Task::Rings, &whole);
+            };
+            thread.spawn_scoped(scope, list).expect("a thread");
+        }
+    });
+}
+
+/// A count at the limit: the run stops there, and so does every later one.
+#[test]
+fn limit() {
+    let molecule = generate::cube();
+    let (record, sheet) = (molecule.record(), molecule.sheet());
+    let left = |search: &mut Search, which: usize, left: u64| {
+        let counts = [
+            &mut search.trials,
+            &mut search.extensions,
+            &mut search.listed,
+        ];
+        *counts.into_iter().nth(which).expect("three counts") = LIMIT - left;
+    };
+    let all = list_of(&in_one_call(&molecule).sheet);
+    for which in 0..3 {
+        for more in 0..=6 {
+            let mut search = Search::fresh(Task::Rings);
+            left(&mut search, which, more);
+            let start = mark::write(&record, &search);
+            let whole = host::list(&sheet, &start, || (3, 20));
+            assert_eq!(whole.stop, 102);
+            assert_eq!(whole.counts()[which], LIMIT);
+            let members = list_of(&whole.sheet);
+            assert!(all.starts_with(&members));
+            if which == 2 {
+                assert_eq!(members.len() as u64, more);
+            }
+            let mut again = whole.mark.clone();
+            again.resize(599, 0);
+            let kept = again.clone();
+            let stop = host::resume(&sheet, &whole.mark, 9, &mut [], &mut again);
+            assert_eq!((stop, again == kept), (102, true));
+        }
+    }
+}
