@@ -35,7 +35,7 @@ use Rattle.history.specs.Calls.{Call, runs, Standing, start, refused, afterAcce
 use Rattle.history.specs.Demand.{Progress, Demand}
 use Rattle.history.proofs.Entered.{atoms-most, family-atoms}
 use Rattle.history.proofs.Each.{rings-demand3}
-use Rattle.history.proofs.Host.{history-joined}
+use Rattle.history.proofs.Joined.{history-joined}
 use Rattle.report.specs.Lines.{ringLines, linesOf, printed, printedOn}
 use Rattle.report.proofs.Records.{lines-of-records}
 use Rattle.report.proofs.Texts.{printed-whole, printed-within}
