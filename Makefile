@@ -1,7 +1,12 @@
+# make example: builds ringlist and lists the rings of cubane.
 # make test: the layout, the C and Rust tests, and last the verdict of the prover over every crate.
 # make bench: ring listings through the host entry against listers in Rust; then reading a full bond sheet.
 
-.PHONY: test tests bench
+.PHONY: example test tests bench
+
+example:
+	rt check ringlist
+	target/bin/ringlist <examples/cubane.sheet
 
 test: tests
 	rt ci
