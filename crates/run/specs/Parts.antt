@@ -19,7 +19,6 @@ use Rattle.openness.specs.declared.Plan.{Plan}
 use Rattle.openness.specs.Plan.{familyBy, Words}
 use Rattle.run.specs.declared.Spot.{Spot}
 use Rattle.run.specs.declared.Place.{Place}
-use Rattle.run.specs.declared.Advanced.{Advanced}
 
 -- the stack of the beginning that the first `len` places of an array hold
 abbrev pub stackOf : List ℕ → ℕ → List ℕ
@@ -116,7 +115,3 @@ outcomeBy n table q budget out = run (familyBy n table (q .kind) (q .s) (q .t)) 
 -- an output after an outcome: its bytes, and then what was there
 abbrev pub runOnto : Outcome → List ℕ → List ℕ
 runOnto o out = o .bytes ++ drop (length (o .bytes)) out
-
--- a run's answer without its search
-abbrev pub answerOf : Ran → Advanced
-answerOf r = record { ended = r .ended; used = r .used; made = r .made }

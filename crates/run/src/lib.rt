@@ -18,7 +18,7 @@ ghost use Rattle.molecule.specs.Record.{wellFormed};
 ghost use Rattle.search.specs.Place.{restorable};
 ghost use Rattle.search.specs.Entries.{refusedRun, ran, runSearch, runOutput};
 ghost use Rattle.openness.specs.Plan.{familyBy, Beginning, Planned};
-ghost use Rattle.run.specs.Parts.{Standing, Counting, Acted, Unwound, Stale, Gap, Idle, skip, spotOf, stoppedAt, Ready, outcomeBy, runOnto, answerOf};
+ghost use Rattle.run.specs.Parts.{Standing, Counting, Acted, Unwound, Stale, Gap, Idle, skip, spotOf, stoppedAt, Ready, outcomeBy, runOnto};
 
 // The place of a search but for its beginning's atoms, and its counts.
 struct Spot {
@@ -334,26 +334,4 @@ pub fn run(m: Molecule, q: Search, budget: u64, out: &mut [u8]) -> Ran
     let rows = m.rows;
     let table = atomset::words_of(&rows);
     run_trials(&table, m.atoms, q, budget, out)
-}
-
-// What a run in place returns; the search is stored where it stood.
-pub struct Advanced {
-    pub ended: Ended,
-    pub used: usize,
-    pub made: u64,
-}
-
-// Runs a search where it stands: the search that the run returns is stored back.
-pub fn advance(q: &mut Search, m: Molecule, budget: u64, out: &mut [u8]) -> Advanced
-    ensures { λ r. ⌜ (now (q .exit) ≡ runSearch m (now (q .entry)) budget (now (out .entry)) .search) × (r ≡ answerOf (runSearch m (now (q .entry)) budget (now (out .entry)))) × (now (out .exit) ≡ runOutput m (now (q .entry)) budget (now (out .entry))) ⌝ }
-{
-    let old = *q;
-    let new = run(m, old, budget, out);
-    let search = new.search;
-    *q = search;
-    Advanced {
-        ended: new.ended,
-        used: new.used,
-        made: new.made,
-    }
 }

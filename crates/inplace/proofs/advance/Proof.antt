@@ -1,4 +1,4 @@
--- `run::advance` meets its contract: a walk of its MIR, by hand. The borrow is opened, the search is copied out, `run` is called with the copy, and the borrow is closed at the search that `run` returned.
+-- `inplace::advance` meets its contract: a walk of its MIR, by hand. The borrow is opened, the search is copied out, `run` is called with the copy, and the borrow is closed at the search that `run` returned.
 -- The result is made of the other three fields. Assumes nothing.
 use mathlib.Core.Path.{_≡_, refl, ap}
 use Prim.Native.Nat.{ℕ, _<_, _^_}
@@ -50,18 +50,18 @@ use Rattle.search.proofs.Search as T
 use Rattle.search.proofs.Search.Laws as T′
 use Rattle.search.proofs.Ran as U
 use Rattle.search.proofs.Ran.Laws as U′
-use Rattle.run.specs.declared.Advanced.{Advanced}
-use Rattle.run.specs.Parts.{answerOf}
-use Rattle.run.proofs.Advanced as R
-use Rattle.run.proofs.Advanced.Laws as R′
+use Rattle.inplace.specs.declared.Advanced.{Advanced}
+use Rattle.inplace.specs.Answer.{answerOf}
+use Rattle.inplace.proofs.Advanced as R
+use Rattle.inplace.proofs.Advanced.Laws as R′
 use Rattle.run.proofs.run as called
 use Rattle.run.proofs.run.Symbol as run-def
 use Rattle.run.proofs.run.Symbol.{name as #run·run}
 use Rattle.run.proofs.run.Met as run-thm
-use Rattle.run.proofs.advance.Key.{name as #run·advance}
-use Rattle.run.proofs.advance as adv
-use Rattle.run.proofs.advance.Statement as stated
-use Rattle.run.proofs.advance.Code as code
+use Rattle.inplace.proofs.advance.Key.{name as #inplace·advance}
+use Rattle.inplace.proofs.advance as adv
+use Rattle.inplace.proofs.advance.Statement as stated
+use Rattle.inplace.proofs.advance.Code as code
 
 abbrev Arg : Type 0
 Arg = RefT Search × (Molecule × (ℕ × (RefT (List ℕ) × Unit {0})))
@@ -175,6 +175,6 @@ pub advance-spec : {M : Type 1} → stated.statement M
 unfolding code.routine tablesOf
 advance-spec 𝓤 H 𝓜 𝓖 𝓡 =
     entered 𝓤 H (tripleOf 𝓤 H (𝓖 .A) adv.signature (adv.spec 𝓤 H (𝓖 .A) (𝓜 .mem) (𝓡 .run)))
-    (tables 𝓤 H 𝓜 𝓡 code.env .C) (tables 𝓤 H 𝓜 𝓡 code.env .Λ) #run·advance code.function (code.unfolded 𝓤 H 𝓜 𝓡)
+    (tables 𝓤 H 𝓜 𝓡 code.env .C) (tables 𝓤 H 𝓜 𝓡 code.env .Λ) #inplace·advance code.function (code.unfolded 𝓤 H 𝓜 𝓡)
     (advance-meets 𝓤 H (𝓖 .A) (givenOf 𝓤 H 𝓜 𝓖) (𝓜 .mem) (𝓡 .run) (tablesOf 𝓤 H 𝓜 (tables 𝓤 H 𝓜 𝓡 code.env))
     (cited 𝓤 H (Run 𝓤 H (𝓖 .A) (𝓜 .mem) (𝓡 .run)) 𝓜 𝓡 code.env #run·run run-def.routine code.calls-run·run (run-thm.met 𝓤 H 𝓜 𝓖 𝓡)))
