@@ -16,8 +16,8 @@ use Rattle.molecule.specs.Record.{wellFormed}
 use Rattle.search.specs.Place.{familyOf, stateOf, freshSearch, kindKept}
 use Rattle.search.proofs.Readings.{family-lawful}
 use Rattle.history.specs.Calls.{Call, Standing, start, standing, History, saidDone}
-use Rattle.history.specs.Demand.{OneList, Whole, Demand}
-use Rattle.history.specs.Resumed.{from, GoesOn}
+use Rattle.history.specs.Demand.{OneList, Whole, GoesOn, Demand}
+use Rattle.history.specs.Resumed.{from}
 use Rattle.history.proofs.Entered.{family-atoms}
 use Rattle.history.proofs.Reached.{Reached, stateAt, reached-start, list-reached}
 use Rattle.history.proofs.Stands.{Parts, parts-of, search-stands, trials-stand, done-state, said-stands, goes-on}
@@ -88,11 +88,7 @@ module _ (R : Molecule) (kind s t : ℕ) (good : wellFormed R ≡ true) (kept : 
         trials-sum = trials-made (saidDone calls) k x r;
         done-whole = whole (saidDone calls) k x r;
         said-done = said-stands R kind s t good kept fresh fresh-sound (saidDone calls) k x r;
-        run-accepted = on .run-accepted;
-        restore-accepted = on .restore-accepted;
-        save-answers = on .save-answers;
-        save-writes = on .save-writes;
-        progress = on .progress;
+        goes-on = on;
       }
 
   -- Demand 3, over every list of calls

@@ -48,6 +48,23 @@ pub record Whole (n : ℕ) (F : Family) (x : Standing) : Type 0 where
 abbrev pub Progress : Search → Ran → Type 0
 Progress q r = (q .listed < r .search .listed) ⊎ (r .ended ≡ Stopped Done) ⊎ ((r .ended ≡ Stopped Limit) × (atLimit (stateOf (r .search)) ≡ true))
 
+-- Calls handed the record and the search as it stands
+pub record GoesOn (R : Molecule) (x : Standing) : Type 0 where
+  -- no run is refused, nor is a restore of the mark of that search: it returns that search;
+  -- a save of it is refused only where the buffer is shorter than the mark, and otherwise writes the mark
+  pub run-accepted : (budget : ℕ) (out : List ℕ) → (why : Stop) × (runSearch R (x .search) budget out .ended ≡ Stopped why)
+  pub restore-accepted : restoreMark R (markText R (x .search)) ≡ accepted (x .search)
+  pub save-answers :
+      (buffer : List ℕ) →
+      saveAnswer R (x .search) buffer ≡ cond (leb (length (markText R (x .search))) (length buffer)) (Written (length (markText R (x .search)))) (Refused refusal.MarkRoom)
+  pub save-writes :
+      (buffer : List ℕ) → length (markText R (x .search)) ≤ length buffer →
+      saveOutput R (x .search) buffer ≡ markText R (x .search) ++ drop (length (markText R (x .search))) buffer
+  -- within 2 × n × n trials and n + 1 bytes a run lists a member or says done, unless a count stands at its limit
+  pub progress :
+      (budget : ℕ) (out : List ℕ) → 2 * R .atoms * R .atoms ≤ budget → R .atoms + 1 ≤ length out →
+      Progress (x .search) (runSearch R (x .search) budget out)
+
 -- What demand 3 says of what stands, x, after the calls on the record R that began with the fresh search of a kind, s and t
 pub record Demand (R : Molecule) (kind s t : ℕ) (calls : List Call) (x : Standing) : Type 0 where
   -- the search is the fresh one after as many trials as were made, still of that kind, s and t
@@ -64,17 +81,4 @@ pub record Demand (R : Molecule) (kind s t : ℕ) (calls : List Call) (x : Stand
   -- a search that is done, and so one after a run that said done, has listed the whole list
   pub done-whole : isDone (R .atoms) (stateOf (x .search)) ≡ true → Whole (R .atoms) (familyOf R kind s t) x
   pub said-done : saidDone calls ≡ true → isDone (R .atoms) (stateOf (x .search)) ≡ true
-  -- no run handed the record and the search as it stands is refused, nor is a restore handed the record and the mark of that search: it returns that search;
-  -- a save of it is refused only where the buffer is shorter than the mark, and otherwise writes the mark
-  pub run-accepted : (budget : ℕ) (out : List ℕ) → (why : Stop) × (runSearch R (x .search) budget out .ended ≡ Stopped why)
-  pub restore-accepted : restoreMark R (markText R (x .search)) ≡ accepted (x .search)
-  pub save-answers :
-      (buffer : List ℕ) →
-      saveAnswer R (x .search) buffer ≡ cond (leb (length (markText R (x .search))) (length buffer)) (Written (length (markText R (x .search)))) (Refused refusal.MarkRoom)
-  pub save-writes :
-      (buffer : List ℕ) → length (markText R (x .search)) ≤ length buffer →
-      saveOutput R (x .search) buffer ≡ markText R (x .search) ++ drop (length (markText R (x .search))) buffer
-  -- within 2 × n × n trials and n + 1 bytes a run lists a member or says done, unless a count stands at its limit
-  pub progress :
-      (budget : ℕ) (out : List ℕ) → 2 * R .atoms * R .atoms ≤ budget → R .atoms + 1 ≤ length out →
-      Progress (x .search) (runSearch R (x .search) budget out)
+  pub goes-on : GoesOn R x

@@ -1,27 +1,20 @@
 -- Calls from an accepted mark (document 01, "Marks"): what holds of the search, the ring sheet and the trials after any list of them.
 -- The counts of the mark are taken as they are.
-use Prim.Native.Nat.{ℕ, _+_, _-_, _*_, _≤_}
+use Prim.Native.Nat.{ℕ, _+_, _-_, _≤_}
 use mathlib.Core.Path.{_≡_}
 use mathlib.Core.Logic.{_↔_, _⊎_}
-use mathlib.Core.Bool.{true, cond}
+use mathlib.Core.Bool.{true}
 use mathlib.Core.List.{List, [], _∷_, _++_, List·Memᴰ}
-use lib.ListN.{length, take, drop}
-use lib.Dec.{leb}
-use Rattle.enumeration.specs.declared.Stop.{Stop}
+use lib.ListN.{length, take}
 use Rattle.enumeration.specs.Words.{earlier, keep, members}
 use Rattle.enumeration.specs.Machine.{isDone}
 use Rattle.enumeration.specs.Listing.{Ascending, NoRepeats, follows, openWords}
 use Rattle.enumeration.specs.Trials.{steps, records}
-use Rattle.refusal.specs.declared.Refusal.the-variants as refusal
 use Rattle.molecule.specs.declared.Molecule.{Molecule}
 use Rattle.search.specs.declared.Search.{Search}
-use Rattle.search.specs.declared.Ended.the-variants.{Stopped}
-use Rattle.search.specs.declared.Saved.the-variants.{Written, Refused}
 use Rattle.search.specs.Place.{family, beginning, stateOf, searchAt}
-use Rattle.search.specs.Entries.{accepted, runSearch}
-use Rattle.search.specs.Mark.{markText, saveAnswer, saveOutput, restoreMark}
 use Rattle.history.specs.Calls.{Call, Standing, saidDone}
-use Rattle.history.specs.Demand.{Progress}
+use Rattle.history.specs.Demand.{GoesOn}
 
 -- At first: the search that the mark restored, an empty sheet, no trial made
 unfoldable pub from : Search → Standing
@@ -48,23 +41,6 @@ pub record WholeRest (R : Molecule) (q : Search) (x : Standing) : Type 0 where
   -- listed has risen by their number, extensions by that of the non-empty proper beginnings of members that follow
   pub whole-listed : x .search .listed ≡ q .listed + length (followers R q)
   pub whole-extensions : x .search .extensions ≡ q .extensions + length (keep (follows (beginning q) (q .next)) (openWords (family R q)))
-
--- Calls handed the record and the search as it stands
-pub record GoesOn (R : Molecule) (x : Standing) : Type 0 where
-  -- no run is refused, nor is a restore of its mark: that returns the search;
-  -- a save is refused only where the buffer is shorter than the mark, and otherwise writes the mark
-  pub run-accepted : (budget : ℕ) (out : List ℕ) → (why : Stop) × (runSearch R (x .search) budget out .ended ≡ Stopped why)
-  pub restore-accepted : restoreMark R (markText R (x .search)) ≡ accepted (x .search)
-  pub save-answers :
-      (buffer : List ℕ) →
-      saveAnswer R (x .search) buffer ≡ cond (leb (length (markText R (x .search))) (length buffer)) (Written (length (markText R (x .search)))) (Refused refusal.MarkRoom)
-  pub save-writes :
-      (buffer : List ℕ) → length (markText R (x .search)) ≤ length buffer →
-      saveOutput R (x .search) buffer ≡ markText R (x .search) ++ drop (length (markText R (x .search))) buffer
-  -- within 2 × n × n trials and n + 1 bytes a run lists a member or says done, unless a count stands at its limit
-  pub progress :
-      (budget : ℕ) (out : List ℕ) → 2 * R .atoms * R .atoms ≤ budget → R .atoms + 1 ≤ length out →
-      Progress (x .search) (runSearch R (x .search) budget out)
 
 -- What holds of what stands, x, after the calls on the record R that began with the search q of a mark
 pub record FromMark (R : Molecule) (q : Search) (calls : List Call) (x : Standing) : Type 0 where

@@ -31,7 +31,7 @@ use Rattle.search.proofs.Restores.{restored-facts}
 use Rattle.search.proofs.MarkLaws.{mark-length}
 use Rattle.history.specs.Calls.{Call, runs, saves, restores, Standing, after, standing, History, isDoneStop, saysDone}
 use Rattle.history.specs.Demand.{Progress}
-use Rattle.history.specs.Resumed.{GoesOn}
+use Rattle.history.specs.Demand.{GoesOn}
 use Rattle.history.proofs.Entered.{movedBy}
 use Rattle.history.proofs.Reached.{Reached, stateAt, reached-state, reached-runs, after-run, after-save, after-restore, allowed-reached}
 use Rattle.history.proofs.Joined.{standing-joined, history-joined}

@@ -132,7 +132,7 @@ module _ (m : Molecule) (good : wellFormed m ≡ true) where
 
   -- no run of it is refused
   run-stops : (q : Search) → Stands m q → (out : List ℕ) → (why : Stop) × (runSearch m q budget out .ended ≡ Stopped why)
-  run-stops q s out = rw (s .2) (demand q s .run-accepted budget out)
+  run-stops q s out = rw (s .2) (demand q s .goes-on .run-accepted budget out)
 
   run-stands : (q : Search) → Stands m q → (out : List ℕ) → Stands m (runSearch m q budget out .search)
   run-stands q s out =
@@ -165,7 +165,7 @@ module _ (m : Molecule) (good : wellFormed m ≡ true) where
 
   -- a run that is not the last lists a ring
   run-lists : (q : Search) → Stands m q → (out : List ℕ) → 129 ≤ length out → isLast (runSearch m q budget out .ended) ≡ false → q .listed < runSearch m q budget out .search .listed
-  run-lists q s out room e = by (rw (← s .2) at (demand q s .progress budget out (omega (arith, atoms-most m good, squares)) (omega (arith, atoms-most m good))))
+  run-lists q s out room e = by (rw (← s .2) at (demand q s .goes-on .progress budget out (omega (arith, atoms-most m good, squares)) (omega (arith, atoms-most m good))))
     where
       squares : 2 * m .atoms * m .atoms ≤ 2 * 128 * 128
       squares = mul-le-mul (mul-le-mul {n₁ = 2} {n₂ = 2} (omega arith) (atoms-most m good)) (atoms-most m good)
