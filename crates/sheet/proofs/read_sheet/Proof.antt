@@ -1,10 +1,14 @@
 -- The whole reader, rules 1 to 8 in their order.
 -- Each return by the rule that was broken first; the stored numbers are the sheet's.
-use Prim.Native.Nat.{suc, _*_}
+use Prim.Native.Nat.{ℕ, suc, _*_, _/_, _%_, _≤_}
 use mathlib.Core.Path.{_≡_, refl, ap₂, sym, _∙_}
+use mathlib.Core.Bool.{true}
+use mathlib.Core.List.{List}
 use lib.ListN.{length}
+use Rattle.graph.specs.Every.{allBelow}
 use borrow.Author.Tests.{not-true, not-false}
-use Rattle.sheet.specs.Read.{atomsOf, bondsOf, bondOf, readBonds}
+use Rattle.sheet.specs.Read.{lineKept, lineOf, atomsOf, bondsOf, bondOf, readBonds}
+use Rattle.sheet.specs.Parts.{Decodes}
 use Rattle.sheet.proofs.Same.{stored-atoms, stored-bonds, stored-read, size-same}
 use Rattle.sheet.proofs.Answers.{sheet-short, sheet-ragged, sheet-bytes, sheet-atoms, sheet-bonds, sheet-size, sheet-read}
 use borrow.Author.Needs.{needs}
@@ -47,32 +51,42 @@ wide-requires-2 c κs = search needs
 refused-requires-4 : tie.Need-refused-requires-4
 refused-requires-4 c κs = search needs
 
+-- What is known once n and m are read: rules 1 and 2 are kept, and the numbers are the sheet's
+record Known (s values : List ℕ) (n m : ℕ) : Type 0 where
+  pub long : 9 ≤ length s
+  pub whole : length s % 9 ≡ 0
+  pub lines : allBelow (length s / 9) (lineKept s) ≡ true
+  pub decodes : Decodes values (lineOf s) (length s / 9)
+  pub atoms : n ≡ atomsOf s
+  pub bonds : m ≡ bondsOf s
+
+known : (c : tie.After-wide2) → Known (c .before .before .before .before .before .before .before .before .before .args .s .now) (c .before .before .before .before .before .decode .result .values) (c .before .wide .result) (c .wide2 .result)
+known c =
+    let s = c .before .before .before .before .before .before .before .before .before .args .s .now in
+    let long = c .before .before .before .before .before .before .before .if1 .left in
+    let ok = not-false _ (c .before .before .before .if3 .left) in
+    let decodes = c .before .before .before .before .before .decode .ensures .values ok in
+    record {
+      long = long;
+      whole = c .before .before .before .before .before .before .if2 .left;
+      lines = sym (c .before .before .before .before .before .decode .ensures .ok) ∙ ok;
+      decodes = decodes;
+      atoms = c .before .wide .ensures ∙ stored-atoms s _ decodes long;
+      bonds = c .wide2 .ensures ∙ stored-bonds s _ decodes long;
+    }
+
 returns-4 : tie.Need-returns-4
 returns-4 c =
-    let s = c .before .before .before .before .before .before .before .before .before .before .before .args .s .now in
-    let long = c .before .before .before .before .before .before .before .before .before .if1 .left in
-    let whole = c .before .before .before .before .before .before .before .before .if2 .left in
-    let ok = not-false _ (c .before .before .before .before .before .if3 .left) in
-    let lines = sym (c .before .before .before .before .before .before .before .decode .ensures .ok) ∙ ok in
-    let decodes = c .before .before .before .before .before .before .before .decode .ensures .values ok in
-    let n : c .before .before .before .wide .result ≡ atomsOf s = c .before .before .before .wide .ensures ∙ stored-atoms s _ decodes long in
-    c .refused4 .ensures ∙ sym (sheet-atoms s long whole lines (rw n at (c .before .if4 .taken)))
+    let k = known (c .before .before) in
+    c .refused4 .ensures ∙ sym (sheet-atoms (c .before .before .before .before .before .before .before .before .before .before .before .args .s .now) (k .long) (k .whole) (k .lines) (rw (k .atoms) at (c .before .if4 .taken)))
 
 refused-requires-5 : tie.Need-refused-requires-5
 refused-requires-5 c κs = search needs
 
 returns-5 : tie.Need-returns-5
 returns-5 c =
-    let s = c .before .before .before .before .before .before .before .before .before .before .before .before .args .s .now in
-    let long = c .before .before .before .before .before .before .before .before .before .before .if1 .left in
-    let whole = c .before .before .before .before .before .before .before .before .before .if2 .left in
-    let ok = not-false _ (c .before .before .before .before .before .before .if3 .left) in
-    let lines = sym (c .before .before .before .before .before .before .before .before .decode .ensures .ok) ∙ ok in
-    let decodes = c .before .before .before .before .before .before .before .before .decode .ensures .values ok in
-    let n : c .before .before .before .before .wide .result ≡ atomsOf s = c .before .before .before .before .wide .ensures ∙ stored-atoms s _ decodes long in
-    let m : c .before .before .before .wide2 .result ≡ bondsOf s = c .before .before .before .wide2 .ensures ∙ stored-bonds s _ decodes long in
-    let few = rw n at (c .before .before .if4 .left) in
-    c .refused5 .ensures ∙ sym (sheet-bonds s long whole lines few (rw m at (c .before .if5 .taken)))
+    let k = known (c .before .before .before) in
+    c .refused5 .ensures ∙ sym (sheet-bonds (c .before .before .before .before .before .before .before .before .before .before .before .before .args .s .now) (k .long) (k .whole) (k .lines) (rw (k .atoms) at (c .before .before .if4 .left)) (rw (k .bonds) at (c .before .if5 .taken)))
 
 add-if6 : tie.Need-add-if6
 add-if6 c = search needs
@@ -85,17 +99,9 @@ refused-requires-6 c κs = search needs
 
 returns-6 : tie.Need-returns-6
 returns-6 c =
-    let s = c .before .before .before .before .before .before .before .before .before .before .before .before .before .args .s .now in
-    let long = c .before .before .before .before .before .before .before .before .before .before .before .if1 .left in
-    let whole = c .before .before .before .before .before .before .before .before .before .before .if2 .left in
-    let ok = not-false _ (c .before .before .before .before .before .before .before .if3 .left) in
-    let lines = sym (c .before .before .before .before .before .before .before .before .before .decode .ensures .ok) ∙ ok in
-    let decodes = c .before .before .before .before .before .before .before .before .before .decode .ensures .values ok in
-    let n : c .before .before .before .before .before .wide .result ≡ atomsOf s = c .before .before .before .before .before .wide .ensures ∙ stored-atoms s _ decodes long in
-    let m : c .before .before .before .before .wide2 .result ≡ bondsOf s = c .before .before .before .before .wide2 .ensures ∙ stored-bonds s _ decodes long in
-    let few = rw n at (c .before .before .before .if4 .left) in
-    let light = rw m at (c .before .before .if5 .left) in
-    c .refused6 .ensures ∙ sym (sheet-size s long whole lines few light (λ e. c .before .if6 .taken (e ∙ size-same _ _ m)))
+    let k = known (c .before .before .before .before) in
+    c .refused6 .ensures
+    ∙ sym (sheet-size (c .before .before .before .before .before .before .before .before .before .before .before .before .before .args .s .now) (k .long) (k .whole) (k .lines) (rw (k .atoms) at (c .before .before .before .if4 .left)) (rw (k .bonds) at (c .before .before .if5 .left)) (λ e. c .before .if6 .taken (e ∙ size-same _ _ (k .bonds))))
 
 read-bonds-requires : tie.Need-read-bonds-requires
 read-bonds-requires c κs = search needs
@@ -103,20 +109,12 @@ read-bonds-requires c κs = search needs
 returns-7 : tie.Need-returns-7
 returns-7 c =
     let s = c .before .before .before .before .before .before .before .before .before .before .before .before .before .before .args .s .now in
-    let long = c .before .before .before .before .before .before .before .before .before .before .before .before .if1 .left in
-    let whole = c .before .before .before .before .before .before .before .before .before .before .before .if2 .left in
-    let ok = not-false _ (c .before .before .before .before .before .before .before .before .if3 .left) in
-    let lines = sym (c .before .before .before .before .before .before .before .before .before .before .decode .ensures .ok) ∙ ok in
-    let decodes = c .before .before .before .before .before .before .before .before .before .before .decode .ensures .values ok in
-    let n : c .before .before .before .before .before .before .wide .result ≡ atomsOf s = c .before .before .before .before .before .before .wide .ensures ∙ stored-atoms s _ decodes long in
-    let m : c .before .before .before .before .before .wide2 .result ≡ bondsOf s = c .before .before .before .before .before .wide2 .ensures ∙ stored-bonds s _ decodes long in
-    let few = rw n at (c .before .before .before .before .if4 .left) in
-    let light = rw m at (c .before .before .before .if5 .left) in
+    let k = known (c .before .before .before .before .before) in
     let size : length s ≡ 9 * suc (c .before .before .before .before .before .wide2 .result) = c .before .before .if6 .left ∙ sym (size-same _ _ refl) in
     c .read-bonds .ensures
-    ∙ stored-read s _ decodes _ _ (c .before .before .before .if5 .left) size
-    ∙ ap₂ (λ x y. readBonds x (bondOf s) y) n m
-    ∙ sym (sheet-read s long whole lines few light (rw m at size))
+    ∙ stored-read s _ (k .decodes) _ _ (c .before .before .before .if5 .left) size
+    ∙ ap₂ (λ x y. readBonds x (bondOf s) y) (k .atoms) (k .bonds)
+    ∙ sym (sheet-read s (k .long) (k .whole) (k .lines) (rw (k .atoms) at (c .before .before .before .before .if4 .left)) (rw (k .bonds) at (c .before .before .before .if5 .left)) (rw (k .bonds) at size))
 
 pub read-sheet-spec : {M : Type 1} → statement M
 read-sheet-spec =
