@@ -1,10 +1,7 @@
 use Rattle.atomset.proofs.Members.{has-empty}
 use Rattle.atomset.proofs.empty.Statement.{statement}
 use Rattle.atomset.proofs.empty.Tie as tie
-use Rattle.atomset.proofs.empty.Reads as reads
-use Rattle.atomset.proofs.empty.Lts as lts
 
--- src/lib.rt:10:1
 returns : tie.Need-returns
 returns c = has-empty
 

@@ -6,28 +6,19 @@ use lib.Pow.{pow-pos}
 use borrow.Author.Needs.{needs}
 use Rattle.atomset.proofs.low_bits.Statement.{statement}
 use Rattle.atomset.proofs.low_bits.Tie as tie
-use Rattle.atomset.proofs.low_bits.Reads as reads
-use Rattle.atomset.proofs.low_bits.Lts as lts
 
--- src/lib.rt:78:9
 returns : tie.Need-returns
 returns c = sym (ap (λ (k : ℕ). 2 ^ k - 1) (c .if1 .taken))
 
--- src/lib.rt:80:6
-shl-result : tie.Need-shl-result
-shl-result c = search needs
-
--- src/lib.rt:80:5
 sub-result : tie.Need-sub-result
 sub-result c =
     let place : c .before .args .k < 64 = omega arith in
     rw (shifted-one (c .before .args .k) place) (pow-pos (c .before .args .k))
 
--- src/lib.rt:73:1
 returns-2 : tie.Need-returns-2
 returns-2 c =
     let place : c .before .args .k < 64 = omega arith in
     rw (shifted-one (c .before .args .k) place)
 
 pub low-bits-spec : {M : Type 1} → statement M
-low-bits-spec = tie.close (tie.spec returns shl-result sub-result returns-2)
+low-bits-spec = tie.close (tie.spec returns (λ c. search needs) sub-result returns-2)

@@ -3,14 +3,10 @@ use native.Mathlib.Omega.{arith}
 use lib.Count.{trailing-le}
 use Rattle.atomset.proofs.lowest_bit.Statement.{statement}
 use Rattle.atomset.proofs.lowest_bit.Tie as tie
-use Rattle.atomset.proofs.lowest_bit.Reads as reads
-use Rattle.atomset.proofs.lowest_bit.Lts as lts
 
--- src/lib.rt:117:5
 cast-result : tie.Need-cast-result
 cast-result c = omega (arith, trailing-le 64 (c .args .word))
 
--- src/lib.rt:113:1
 returns : tie.Need-returns
 returns c = lowest-in (c .args .word) (c .pre) (c .fits .word .fits)
 

@@ -10,15 +10,9 @@ returns : tie.Need-returns
 unfolding column
 returns c = simp (eq-eqb _ _ (c .if1 .taken))
 
-cast-result : tie.Need-cast-result
-cast-result c = search needs
-
-add-result : tie.Need-add-result
-add-result c = search needs
-
 returns-2 : tie.Need-returns-2
 unfolding column
 returns-2 c = simp (ne-eqb _ _ (c .if1 .left))
 
 pub column-byte-spec : {M : Type 1} → statement M
-column-byte-spec = tie.close (tie.spec returns cast-result add-result returns-2)
+column-byte-spec = tie.close (tie.spec returns (λ c. search needs) (λ c. search needs) returns-2)

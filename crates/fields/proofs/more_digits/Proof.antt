@@ -18,9 +18,6 @@ abbrev μ-loop : tie.MeasureT-loop
 loop-holds : tie.Need-loop-holds Inv-loop μ-loop
 loop-holds c = refl
 
-shared-slice-read-b : tie.Need-shared-slice-read-b Inv-loop μ-loop
-shared-slice-read-b c = omega arith
-
 returns : tie.Need-returns Inv-loop μ-loop
 returns c = sym (digits-low _ _ (c .before .before .loop-test .taken) _ (c .if1 .taken)) ∙ c .before .before .before .loop .inv
 
@@ -33,21 +30,6 @@ returns-3 c = sym (digits-zero _ _ (c .before .before .before .before .loop-test
 returns-4 : tie.Need-returns-4 Inv-loop μ-loop
 returns-4 c = sym (digits-full _ _ (c .before .before .before .before .before .loop-test .taken) (c .before .before .before .if1 .left) (c .before .before .if2 .left) _ (c .before .if3 .left) (c .if4 .taken)) ∙ c .before .before .before .before .before .before .loop .inv
 
-mul-v : tie.Need-mul-v Inv-loop μ-loop
-mul-v c = omega arith
-
-wide-requires : tie.Need-wide-requires Inv-loop μ-loop
-wide-requires c κs = tt
-
-add-v : tie.Need-add-v Inv-loop μ-loop
-add-v c = omega arith
-
-add-i : tie.Need-add-i Inv-loop μ-loop
-add-i c = omega arith
-
-loop-less : tie.Need-loop-less Inv-loop μ-loop
-loop-less c = omega arith
-
 loop-again : tie.Need-loop-again Inv-loop μ-loop
 loop-again c = rw (c .wide .ensures) (sym (digits-more _ _ (c .before .before .before .before .before .before .loop-test .taken) (c .before .before .before .before .if1 .left) (c .before .before .before .if2 .left) _ (c .before .before .if3 .left) (c .before .if4 .left)) ∙ c .before .before .before .before .before .before .before .loop .inv)
 
@@ -58,18 +40,5 @@ pub more-digits-spec : {M : Type 1} → statement M
 more-digits-spec =
     tie.close
     (tie.spec
-    Inv-loop
-    μ-loop
-    loop-holds
-    shared-slice-read-b
-    returns
-    returns-2
-    returns-3
-    returns-4
-    mul-v
-    wide-requires
-    add-v
-    add-i
-    loop-less
-    loop-again
-    returns-5)
+    Inv-loop μ-loop loop-holds (λ c. omega arith) returns returns-2 returns-3 returns-4 (λ c. omega arith) (λ c κs. tt) (λ c. omega arith)
+    (λ c. omega arith) (λ c. omega arith) loop-again returns-5)

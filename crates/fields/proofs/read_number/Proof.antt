@@ -18,32 +18,14 @@ abbrev μ-loop : tie.MeasureT-loop
 loop-holds : tie.Need-loop-holds Inv-loop μ-loop
 loop-holds c = refl
 
-shared-slice-read-b : tie.Need-shared-slice-read-b Inv-loop μ-loop
-shared-slice-read-b c = omega arith
-
 returns : tie.Need-returns Inv-loop μ-loop
 returns c = sym (field-low _ _ (c .before .before .before .loop-test .taken) (c .before .if1 .taken) (c .if2 .taken)) ∙ c .before .before .before .before .loop .inv
 
 returns-2 : tie.Need-returns-2 Inv-loop μ-loop
 returns-2 c = sym (field-high _ _ (c .before .before .before .before .loop-test .taken) (c .before .before .if1 .taken) (c .if3 .taken)) ∙ c .before .before .before .before .before .loop .inv
 
-add-more-digits : tie.Need-add-more-digits Inv-loop μ-loop
-add-more-digits c = omega arith
-
-wide-requires : tie.Need-wide-requires Inv-loop μ-loop
-wide-requires c κs = tt
-
-more-digits-requires : tie.Need-more-digits-requires Inv-loop μ-loop
-more-digits-requires c κs = tt
-
 returns-3 : tie.Need-returns-3 Inv-loop μ-loop
 returns-3 c = c .more-digits .ensures ∙ rw (c .before .wide .ensures) (sym (field-digit _ _ (c .before .before .before .before .before .before .loop-test .taken) (c .before .before .before .if2 .left) (c .before .before .if3 .left) (c .before .before .before .before .if1 .taken)) ∙ c .before .before .before .before .before .before .before .loop .inv)
-
-add-i : tie.Need-add-i Inv-loop μ-loop
-add-i c = omega arith
-
-loop-less : tie.Need-loop-less Inv-loop μ-loop
-loop-less c = omega arith
 
 loop-again : tie.Need-loop-again Inv-loop μ-loop
 loop-again c = sym (field-blank _ _ (c .before .before .loop-test .taken) (c .if1 .left)) ∙ c .before .before .before .loop .inv
@@ -55,17 +37,5 @@ pub read-number-spec : {M : Type 1} → statement M
 read-number-spec =
     tie.close
     (tie.spec
-    Inv-loop
-    μ-loop
-    loop-holds
-    shared-slice-read-b
-    returns
-    returns-2
-    add-more-digits
-    wide-requires
-    more-digits-requires
-    returns-3
-    add-i
-    loop-less
-    loop-again
-    returns-4)
+    Inv-loop μ-loop loop-holds (λ c. omega arith) returns returns-2 (λ c. omega arith) (λ c κs. tt) (λ c κs. tt) returns-3 (λ c. omega arith)
+    (λ c. omega arith) loop-again returns-4)

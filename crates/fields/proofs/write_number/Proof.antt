@@ -19,36 +19,12 @@ abbrev μ-loop : tie.MeasureT-loop
 returns : tie.Need-returns Inv-loop μ-loop
 returns c = text-none (c .before .before .args .out .now) (c .before .before .args .value) (c .if1 .taken)
 
-sub-i : tie.Need-sub-i Inv-loop μ-loop
-sub-i c = omega arith
-
-cast-out : tie.Need-cast-out Inv-loop μ-loop
-cast-out c = omega arith
-
-add-out : tie.Need-add-out Inv-loop μ-loop
-add-out c = omega arith
-
-slice-write-out : tie.Need-slice-write-out Inv-loop μ-loop
-slice-write-out c = omega arith
-
 loop-holds : tie.Need-loop-holds Inv-loop μ-loop
 loop-holds c =
     let out = c .before .before .args .out .now in
     let value = c .before .before .args .value in
     let last : suc (length out - 1) ≡ length out = omega arith in
     (refl, simp length-set (omega arith), rw (length-set out (length out - 1) (48 + value % 10)) (text-begins out value (length out - 1) last))
-
-sub-i-2 : tie.Need-sub-i-2 Inv-loop μ-loop
-sub-i-2 c = omega arith
-
-column-byte-requires : tie.Need-column-byte-requires Inv-loop μ-loop
-column-byte-requires c κs = tt
-
-slice-write-out-2 : tie.Need-slice-write-out-2 Inv-loop μ-loop
-slice-write-out-2 c = omega arith
-
-loop-less : tie.Need-loop-less Inv-loop μ-loop
-loop-less c = omega arith
 
 loop-again : tie.Need-loop-again Inv-loop μ-loop
 loop-again c =
@@ -72,18 +48,5 @@ pub write-number-spec : {M : Type 1} → statement M
 write-number-spec =
     tie.close
     (tie.spec
-    Inv-loop
-    μ-loop
-    returns
-    sub-i
-    cast-out
-    add-out
-    slice-write-out
-    loop-holds
-    sub-i-2
-    column-byte-requires
-    slice-write-out-2
-    loop-less
-    loop-again
-    same-length
-    returns-2)
+    Inv-loop μ-loop returns (λ c. omega arith) (λ c. omega arith) (λ c. omega arith) (λ c. omega arith) loop-holds (λ c. omega arith) (λ c κs. tt)
+    (λ c. omega arith) (λ c. omega arith) loop-again same-length returns-2)

@@ -12,12 +12,6 @@ returns : tie.Need-returns
 unfolding checkCode
 returns c = rw (ne-eqb _ 2048 (c .if1 .taken))
 
-assemble-requires : tie.Need-assemble-requires
-assemble-requires c κs = search needs
-
-well-formed-requires : tie.Need-well-formed-requires
-well-formed-requires c κs = search needs
-
 returns-2 : tie.Need-returns-2
 unfolding checkCode
 returns-2 c = rw (eq-eqb _ 2048 (c .before .before .before .if1 .left), ap wellFormed (sym (c .before .before .assemble .ensures)) ∙ sym (c .before .well-formed .ensures) ∙ c .if2 .taken)
@@ -27,5 +21,4 @@ unfolding checkCode
 returns-3 c = rw (eq-eqb _ 2048 (c .before .before .before .if1 .left), ap wellFormed (sym (c .before .before .assemble .ensures)) ∙ sym (c .before .well-formed .ensures) ∙ c .if2 .left)
 
 pub flat-check-record-spec : {M : Type 1} → statement M
-flat-check-record-spec =
-    tie.close (tie.spec returns assemble-requires well-formed-requires returns-2 returns-3)
+flat-check-record-spec = tie.close (tie.spec returns (λ c κs. search needs) (λ c κs. search needs) returns-2 returns-3)

@@ -12,20 +12,9 @@ returns : tie.Need-returns
 unfolding ringCode
 returns c = rw (ne-eqb _ 2048 (c .if1 .taken))
 
-assemble-requires : tie.Need-assemble-requires
-assemble-requires c κs = search needs
-
-judge-ring-requires : tie.Need-judge-ring-requires
-judge-ring-requires c κs = search needs
-
-verdict-code-requires : tie.Need-verdict-code-requires
-verdict-code-requires c κs = search needs
-
 returns-2 : tie.Need-returns-2
 unfolding ringCode
 returns-2 c = rw (eq-eqb _ 2048 (c .before .before .before .if1 .left)) (c .verdict-code .ensures ∙ ap verdictCode (c .before .judge-ring .ensures ∙ ap (λ m. judgeRing m (c .before .before .before .before .before .before .args .list .now)) (c .before .before .assemble .ensures)))
 
 pub flat-judge-ring-spec : {M : Type 1} → statement M
-flat-judge-ring-spec =
-    tie.close
-    (tie.spec returns assemble-requires judge-ring-requires verdict-code-requires returns-2)
+flat-judge-ring-spec = tie.close (tie.spec returns (λ c κs. search needs) (λ c κs. search needs) (λ c κs. search needs) returns-2)

@@ -6,12 +6,6 @@ use borrow.Author.Needs.{needs}
 use Rattle.flat.proofs.flat_read_field.Statement.{statement}
 use Rattle.flat.proofs.flat_read_field.Tie as tie
 
-read-number-requires : tie.Need-read-number-requires
-read-number-requires c κs = search needs
-
-enum-known-number : tie.Need-enum-known-number
-enum-known-number c = search needs
-
 enum-told : tie.Need-enum-told
 enum-told c = search needs
 
@@ -22,5 +16,4 @@ returns-2 : tie.Need-returns-2
 returns-2 c = ap fieldCode (sym (sym (c .before .before .read-number .ensures) ∙ c .enum-told .given .1))
 
 pub flat-read-field-spec : {M : Type 1} → statement M
-flat-read-field-spec =
-    tie.close (tie.spec read-number-requires enum-known-number enum-told returns returns-2)
+flat-read-field-spec = tie.close (tie.spec (λ c κs. search needs) (λ c. search needs) enum-told returns returns-2)

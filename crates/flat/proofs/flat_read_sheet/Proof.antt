@@ -11,23 +11,8 @@ use Rattle.flat.proofs.flat_read_sheet.Tie as tie
 returns : tie.Need-returns
 returns c = read-wrong-length (c .before .before .before .args .sheet .now) (c .before .before .before .args .«record» .now) (c .if1 .taken)
 
-read-sheet-requires : tie.Need-read-sheet-requires
-read-sheet-requires c κs = search needs
-
 enum-told : tie.Need-enum-told
 enum-told c = search needs
-
-flatten-requires : tie.Need-flatten-requires
-flatten-requires c κs = search needs
-
-enum-known-answer : tie.Need-enum-known-answer
-enum-known-answer c = search needs
-
-number-requires : tie.Need-number-requires
-number-requires c κs = search needs
-
-same-length : tie.Need-same-length
-same-length c = search needs
 
 returns-2 : tie.Need-returns-2
 returns-2 c =
@@ -44,15 +29,4 @@ returns-3 c =
     (c .number .ensures ∙ r .0, r .1)
 
 pub flat-read-sheet-spec : {M : Type 1} → statement M
-flat-read-sheet-spec =
-    tie.close
-    (tie.spec
-    returns
-    read-sheet-requires
-    enum-told
-    flatten-requires
-    enum-known-answer
-    number-requires
-    same-length
-    returns-2
-    returns-3)
+flat-read-sheet-spec = tie.close (tie.spec returns (λ c κs. search needs) enum-told (λ c κs. search needs) (λ c. search needs) (λ c κs. search needs) (λ c. search needs) returns-2 returns-3)

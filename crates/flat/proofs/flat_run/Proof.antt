@@ -12,9 +12,6 @@ use borrow.Author.Needs.{needs}
 use Rattle.flat.proofs.flat_run.Statement.{statement}
 use Rattle.flat.proofs.flat_run.Tie as tie
 
-sizes-kept-requires : tie.Need-sizes-kept-requires
-sizes-kept-requires c κs = search needs
-
 -- past the test the buffers have their lengths
 kept : (c : tie.Else1) → sizesKept (length (c .before .before .before .before .before .before .args .rows .now)) (length (c .before .before .before .before .before .before .args .numbers .now)) (length (c .before .before .before .before .before .before .args .prefix .now)) ≡ true
 kept c = sym (c .before .sizes-kept .ensures) ∙ not-false _ (c .if1 .left)
@@ -39,22 +36,10 @@ unpack-requires c κs =
 assemble-requires : tie.Need-assemble-requires
 assemble-requires c κs = sizes (c .before .before .before) .0
 
-run-requires : tie.Need-run-requires
-run-requires c κs = search needs
-
 store-ran-requires : tie.Need-store-ran-requires
 store-ran-requires c κs =
     let lengths = sizes (c .before .before .before .before .before .before .before .before .before .before) in
     (lengths .1, lengths .2)
-
-same-length : tie.Need-same-length
-same-length c = search needs
-
-same-length-2 : tie.Need-same-length-2
-same-length-2 c = search needs
-
-same-length-3 : tie.Need-same-length-3
-same-length-3 c = search needs
 
 returns-2 : tie.Need-returns-2
 returns-2 c =
@@ -71,13 +56,5 @@ pub flat-run-spec : {M : Type 1} → statement M
 flat-run-spec =
     tie.close
     (tie.spec
-    sizes-kept-requires
-    returns
-    unpack-requires
-    assemble-requires
-    run-requires
-    store-ran-requires
-    same-length
-    same-length-2
-    same-length-3
-    returns-2)
+    (λ c κs. search needs) returns unpack-requires assemble-requires (λ c κs. search needs) store-ran-requires (λ c. search needs) (λ c. search needs)
+    (λ c. search needs) returns-2)

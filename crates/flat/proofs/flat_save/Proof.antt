@@ -12,9 +12,6 @@ use borrow.Author.Needs.{needs}
 use Rattle.flat.proofs.flat_save.Statement.{statement}
 use Rattle.flat.proofs.flat_save.Tie as tie
 
-sizes-kept-requires : tie.Need-sizes-kept-requires
-sizes-kept-requires c κs = search needs
-
 -- past the test the buffers have their lengths
 kept : (c : tie.Else1) → sizesKept (length (c .before .before .before .before .before .before .args .rows .now)) (length (c .before .before .before .before .before .before .args .numbers .now)) (length (c .before .before .before .before .before .before .args .prefix .now)) ≡ true
 kept c = sym (c .before .sizes-kept .ensures) ∙ not-false _ (c .if1 .left)
@@ -35,31 +32,13 @@ unpack-requires c κs =
 assemble-requires : tie.Need-assemble-requires
 assemble-requires c κs = sizes (c .before) .0
 
-save-requires : tie.Need-save-requires
-save-requires c κs = search needs
-
-enum-known-saved : tie.Need-enum-known-saved
-enum-known-saved c = search needs
-
 cast-result : tie.Need-cast-result
 cast-result c = omega (arith, mark-small _ _ _ _ (sym (c .before .before .before .before .before .save .ensures .0) ∙ c .before .saved .given .1))
-
-enum-known-saved-2 : tie.Need-enum-known-saved-2
-enum-known-saved-2 c = search needs
-
-number-requires : tie.Need-number-requires
-number-requires c κs = search needs
-
-same-length : tie.Need-same-length
-same-length c = search needs
 
 returns-2 : tie.Need-returns-2
 returns-2 c =
     let start = c .before .before .before .before .before .before .before .before .before .before .before .before .before .before .before in
     save-stored (start .args .rows .now) (start .args .numbers .now) (start .args .prefix .now) (molecule (start .args .atoms) (start .args .bonds) (start .args .rows .now)) (searchFrom (start .args .numbers .now) (start .args .prefix .now)) (start .args .mark .now) (kept (c .before .before .before .before .before .before .before .before .before)) _ (c .before .before .before .before .before .before .before .assemble .ensures) _ (c .before .before .before .before .before .before .before .before .unpack .ensures) _ _ (c .before .before .before .before .before .save .ensures) _ (ap savedCode (sym (c .before .saved .given .1)))
-
-same-length-2 : tie.Need-same-length-2
-same-length-2 c = search needs
 
 returns-3 : tie.Need-returns-3
 returns-3 c =
@@ -70,16 +49,5 @@ pub flat-save-spec : {M : Type 1} → statement M
 flat-save-spec =
     tie.close
     (tie.spec
-    sizes-kept-requires
-    returns
-    unpack-requires
-    assemble-requires
-    save-requires
-    enum-known-saved
-    cast-result
-    enum-known-saved-2
-    number-requires
-    same-length
-    returns-2
-    same-length-2
-    returns-3)
+    (λ c κs. search needs) returns unpack-requires assemble-requires (λ c κs. search needs) (λ c. search needs) cast-result (λ c. search needs)
+    (λ c κs. search needs) (λ c. search needs) returns-2 (λ c. search needs) returns-3)

@@ -12,9 +12,6 @@ use borrow.Author.Needs.{needs}
 use Rattle.flat.proofs.flat_start_rings.Statement.{statement}
 use Rattle.flat.proofs.flat_start_rings.Tie as tie
 
-sizes-kept-requires : tie.Need-sizes-kept-requires
-sizes-kept-requires c κs = search needs
-
 -- past the test the buffers have their lengths
 kept : (c : tie.Else1) → sizesKept (length (c .before .before .before .before .before .args .rows .now)) (length (c .before .before .before .before .before .args .numbers .now)) (length (c .before .before .before .before .before .args .prefix .now)) ≡ true
 kept c = sym (c .before .sizes-kept .ensures) ∙ not-false _ (c .if1 .left)
@@ -30,19 +27,10 @@ returns c =
 assemble-requires : tie.Need-assemble-requires
 assemble-requires c κs = sizes c .0
 
-start-rings-requires : tie.Need-start-rings-requires
-start-rings-requires c κs = search needs
-
 store-made-requires : tie.Need-store-made-requires
 store-made-requires c κs =
     let lengths = sizes (c .before .before .before .before) in
     (lengths .1, lengths .2)
-
-same-length : tie.Need-same-length
-same-length c = search needs
-
-same-length-2 : tie.Need-same-length-2
-same-length-2 c = search needs
 
 returns-2 : tie.Need-returns-2
 returns-2 c =
@@ -50,14 +38,4 @@ returns-2 c =
     made-stored (start .args .rows .now) (start .args .numbers .now) (start .args .prefix .now) (startRings (molecule (start .args .atoms) (start .args .bonds) (start .args .rows .now))) (kept (c .before .before .before .before .before .before .before .before .before)) _ (c .before .before .before .before .before .before .before .start-rings .ensures ∙ ap startRings (c .before .before .before .before .before .before .before .before .assemble .ensures)) _ _ _ (c .before .before .before .before .store-made .ensures)
 
 pub flat-start-rings-spec : {M : Type 1} → statement M
-flat-start-rings-spec =
-    tie.close
-    (tie.spec
-    sizes-kept-requires
-    returns
-    assemble-requires
-    start-rings-requires
-    store-made-requires
-    same-length
-    same-length-2
-    returns-2)
+flat-start-rings-spec = tie.close (tie.spec (λ c κs. search needs) returns assemble-requires (λ c κs. search needs) store-made-requires (λ c. search needs) (λ c. search needs) returns-2)

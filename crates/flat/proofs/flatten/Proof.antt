@@ -9,28 +9,10 @@ use borrow.Author.Needs.{needs}
 use Rattle.flat.proofs.flatten.Statement.{statement}
 use Rattle.flat.proofs.flatten.Tie as tie
 
-head-requires : tie.Need-head-requires
-head-requires c κs = search needs
-
-slice-aggregate-copy : tie.Need-slice-aggregate-copy
-slice-aggregate-copy c = search needs
-
-sub-copy : tie.Need-sub-copy
-sub-copy c = search needs
-
-part-copy-start : tie.Need-part-copy-start
-part-copy-start c = search needs
-
-part-copy-end : tie.Need-part-copy-end
-part-copy-end c = search needs
-
 copy-requires : tie.Need-copy-requires
 copy-requires c κs =
     let size : length (c .before .before .before .before .before .before .before .before .args .m .rows) ≡ 2048 = search needs in
     simp (length-take, length-drop) (omega (arith, c .before .before .before .before .head .kept .0))
-
-same-length : tie.Need-same-length
-same-length c = search needs
 
 returns : tie.Need-returns
 unfolding flatBytes headBytes
@@ -40,14 +22,4 @@ returns c =
     behind-head (headBytes (c .before .before .before .before .before .before .before .before .before .before .before .args .m .atoms) (c .before .before .before .before .before .before .before .before .before .before .before .args .m .bonds)) _ _ _ _ refl rest (c .before .before .before .before .before .before .before .head .ensures) (c .before .before .copy .ensures .1)
 
 pub flatten-spec : {M : Type 1} → statement M
-flatten-spec =
-    tie.close
-    (tie.spec
-    head-requires
-    slice-aggregate-copy
-    sub-copy
-    part-copy-start
-    part-copy-end
-    copy-requires
-    same-length
-    returns)
+flatten-spec = tie.close (tie.spec (λ c κs. search needs) (λ c. search needs) (λ c. search needs) (λ c. search needs) (λ c. search needs) copy-requires (λ c. search needs) returns)

@@ -12,25 +12,10 @@ use Rattle.flat.proofs.pack.Tie as tie
 array : (c : tie.Start) → length (c .args .q .prefix) ≡ 128
 array c = search needs
 
-slice-aggregate-copy-words : tie.Need-slice-aggregate-copy-words
-slice-aggregate-copy-words c = search needs
-
-copy-words-requires : tie.Need-copy-words-requires
-copy-words-requires c κs = search needs
-
-slice-aggregate-copy : tie.Need-slice-aggregate-copy
-slice-aggregate-copy c = search needs
-
 copy-requires : tie.Need-copy-requires
 copy-requires c κs =
     let start = c .before .before .before .before .before .before .before .before .before .before in
     omega (arith, array start, start .pre .1)
-
-same-length : tie.Need-same-length
-same-length c = search needs
-
-same-length-2 : tie.Need-same-length-2
-same-length-2 c = search needs
 
 returns : tie.Need-returns
 unfolding numbersOf
@@ -39,13 +24,4 @@ returns c =
     (c .before .before .before .before .before .before .before .copy-words .ensures, filled _ _ _ (omega (arith, array start, start .pre .1)) (c .before .before .copy .ensures .1))
 
 pub pack-spec : {M : Type 1} → statement M
-pack-spec =
-    tie.close
-    (tie.spec
-    slice-aggregate-copy-words
-    copy-words-requires
-    slice-aggregate-copy
-    copy-requires
-    same-length
-    same-length-2
-    returns)
+pack-spec = tie.close (tie.spec (λ c. search needs) (λ c κs. search needs) (λ c. search needs) copy-requires (λ c. search needs) (λ c. search needs) returns)

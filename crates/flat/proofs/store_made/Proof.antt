@@ -9,21 +9,6 @@ use Rattle.flat.proofs.store_made.Tie as tie
 enum-told : tie.Need-enum-told
 enum-told c = search needs
 
-pack-requires : tie.Need-pack-requires
-pack-requires c κs = search needs
-
-enum-known-answer : tie.Need-enum-known-answer
-enum-known-answer c = search needs
-
-number-requires : tie.Need-number-requires
-number-requires c κs = search needs
-
-same-length : tie.Need-same-length
-same-length c = search needs
-
-same-length-2 : tie.Need-same-length-2
-same-length-2 c = search needs
-
 returns : tie.Need-returns
 returns c =
     let start = c .before .before .before .before .before .before .before .before .before .before .before .before in
@@ -38,14 +23,4 @@ returns-2 c =
     (c .number .ensures ∙ answers .0, answers .1, answers .2)
 
 pub store-made-spec : {M : Type 1} → statement M
-store-made-spec =
-    tie.close
-    (tie.spec
-    enum-told
-    pack-requires
-    enum-known-answer
-    number-requires
-    same-length
-    same-length-2
-    returns
-    returns-2)
+store-made-spec = tie.close (tie.spec enum-told (λ c κs. search needs) (λ c. search needs) (λ c κs. search needs) (λ c. search needs) (λ c. search needs) returns returns-2)

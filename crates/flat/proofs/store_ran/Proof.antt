@@ -6,27 +6,6 @@ use borrow.Author.Needs.{needs}
 use Rattle.flat.proofs.store_ran.Statement.{statement}
 use Rattle.flat.proofs.store_ran.Tie as tie
 
-enum-known-ended : tie.Need-enum-known-ended
-enum-known-ended c = search needs
-
-pack-requires : tie.Need-pack-requires
-pack-requires c κs = search needs
-
-stop-number-requires : tie.Need-stop-number-requires
-stop-number-requires c κs = search needs
-
-enum-known-ended-2 : tie.Need-enum-known-ended-2
-enum-known-ended-2 c = search needs
-
-number-requires : tie.Need-number-requires
-number-requires c κs = search needs
-
-same-length : tie.Need-same-length
-same-length c = search needs
-
-same-length-2 : tie.Need-same-length-2
-same-length-2 c = search needs
-
 returns : tie.Need-returns
 returns c =
     let start = c .before .before .before .before .before .before .before .before .before .before .before .before .before .before in
@@ -44,12 +23,5 @@ pub store-ran-spec : {M : Type 1} → statement M
 store-ran-spec =
     tie.close
     (tie.spec
-    enum-known-ended
-    pack-requires
-    stop-number-requires
-    enum-known-ended-2
-    number-requires
-    same-length
-    same-length-2
-    returns
-    returns-2)
+    (λ c. search needs) (λ c κs. search needs) (λ c κs. search needs) (λ c. search needs) (λ c κs. search needs) (λ c. search needs) (λ c. search needs)
+    returns returns-2)

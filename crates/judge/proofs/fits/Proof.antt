@@ -30,12 +30,6 @@ fits-before-requires c κs = (c .loop-test .taken, c .before .before .before .pr
 returns : tie.Need-returns Inv-loop μ-loop
 returns c = sym (induces-is _ _ _ ∙ all-fails _ (fitsBefore _ _ _) _ (c .before .before .loop-test .taken) (sym (c .before .fits-before .ensures) ∙ not-true _ (c .if1 .taken)))
 
-add-j : tie.Need-add-j Inv-loop μ-loop
-add-j c = omega arith
-
-loop-less : tie.Need-loop-less Inv-loop μ-loop
-loop-less c = omega arith
-
 loop-again : tie.Need-loop-again Inv-loop μ-loop
 loop-again c = (omega arith, all-more _ (fitsBefore _ _ _) (c .before .before .before .loop .inv .1) (sym (c .before .fits-before .ensures) ∙ not-false _ (c .if1 .left)))
 
@@ -43,15 +37,4 @@ returns-2 : tie.Need-returns-2 Inv-loop μ-loop
 returns-2 c = sym (induces-is _ _ _ ∙ all-done _ _ (fitsBefore _ _ _) (c .before .loop .inv .0) (c .loop-test .left) (c .before .loop .inv .1))
 
 pub fits-spec : {M : Type 1} → statement M
-fits-spec =
-    tie.close
-    (tie.spec
-    Inv-loop
-    μ-loop
-    loop-holds
-    fits-before-requires
-    returns
-    add-j
-    loop-less
-    loop-again
-    returns-2)
+fits-spec = tie.close (tie.spec Inv-loop μ-loop loop-holds fits-before-requires returns (λ c. omega arith) (λ c. omega arith) loop-again returns-2)

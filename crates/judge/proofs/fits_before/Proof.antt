@@ -29,12 +29,6 @@ returns : tie.Need-returns Inv-loop μ-loop
 unfolding fitsBefore
 returns c = sym (all-fails _ (pairFits _ _ _ _) _ (c .before .before .loop-test .taken) (sym (c .before .pair-fits .ensures) ∙ not-true _ (c .if1 .taken)))
 
-add-i : tie.Need-add-i Inv-loop μ-loop
-add-i c = omega arith
-
-loop-less : tie.Need-loop-less Inv-loop μ-loop
-loop-less c = omega arith
-
 loop-again : tie.Need-loop-again Inv-loop μ-loop
 loop-again c = (omega arith, all-more _ (pairFits _ _ _ _) (c .before .before .before .loop .inv .1) (sym (c .before .pair-fits .ensures) ∙ not-false _ (c .if1 .left)))
 
@@ -43,15 +37,4 @@ unfolding fitsBefore
 returns-2 c = sym (all-done _ _ (pairFits _ _ _ _) (c .before .loop .inv .0) (c .loop-test .left) (c .before .loop .inv .1))
 
 pub fits-before-spec : {M : Type 1} → statement M
-fits-before-spec =
-    tie.close
-    (tie.spec
-    Inv-loop
-    μ-loop
-    loop-holds
-    pair-fits-requires
-    returns
-    add-i
-    loop-less
-    loop-again
-    returns-2)
+fits-before-spec = tie.close (tie.spec Inv-loop μ-loop loop-holds pair-fits-requires returns (λ c. omega arith) (λ c. omega arith) loop-again returns-2)

@@ -22,23 +22,11 @@ abbrev μ-loop : tie.MeasureT-loop
 loop-holds : tie.Need-loop-holds Inv-loop μ-loop
 loop-holds c = (search needs, refl)
 
-shared-slice-read-wide : tie.Need-shared-slice-read-wide Inv-loop μ-loop
-shared-slice-read-wide c = omega arith
-
-wide-requires : tie.Need-wide-requires Inv-loop μ-loop
-wide-requires c κs = tt
-
 returns : tie.Need-returns Inv-loop μ-loop
 returns c = sym (in-range-is _ _ ∙ all-fails _ (inRangeAt _ _) _ (c .before .before .before .loop-test .taken) (out-low (c .before .before .before .before .before .before .args .n) (c .before .before .before .before .before .before .args .xs .now) (c .before .before .before .before .loop .i) (rw (c .before .wide .ensures) at (c .if1 .taken))))
 
 returns-2 : tie.Need-returns-2 Inv-loop μ-loop
 returns-2 c = sym (in-range-is _ _ ∙ all-fails _ (inRangeAt _ _) _ (c .before .before .before .before .loop-test .taken) (out-high (c .before .before .before .before .before .before .before .args .n) (c .before .before .before .before .before .before .before .args .xs .now) (c .before .before .before .before .before .loop .i) (rw (c .before .before .wide .ensures) at (c .before .if1 .left)) (rw (c .before .before .wide .ensures) at (c .if2 .taken))))
-
-add-i : tie.Need-add-i Inv-loop μ-loop
-add-i c = omega arith
-
-loop-less : tie.Need-loop-less Inv-loop μ-loop
-loop-less c = omega arith
 
 loop-again : tie.Need-loop-again Inv-loop μ-loop
 loop-again c = (omega arith, all-more _ (inRangeAt _ _) (c .before .before .before .before .before .loop .inv .1) (inside (c .before .before .before .before .before .before .before .args .n) (c .before .before .before .before .before .before .before .args .xs .now) (c .before .before .before .before .before .loop .i) (rw (c .before .before .wide .ensures) at (c .before .if1 .left)) (rw (c .before .before .wide .ensures) at (c .if2 .left))))
@@ -47,17 +35,4 @@ returns-3 : tie.Need-returns-3 Inv-loop μ-loop
 returns-3 c = sym (in-range-is _ _ ∙ all-done _ _ (inRangeAt _ _) (c .before .loop .inv .0) (c .loop-test .left) (c .before .loop .inv .1))
 
 pub in-range-spec : {M : Type 1} → statement M
-in-range-spec =
-    tie.close
-    (tie.spec
-    Inv-loop
-    μ-loop
-    loop-holds
-    shared-slice-read-wide
-    wide-requires
-    returns
-    returns-2
-    add-i
-    loop-less
-    loop-again
-    returns-3)
+in-range-spec = tie.close (tie.spec Inv-loop μ-loop loop-holds (λ c. omega arith) (λ c κs. tt) returns returns-2 (λ c. omega arith) (λ c. omega arith) loop-again returns-3)

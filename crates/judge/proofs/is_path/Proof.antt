@@ -10,29 +10,11 @@ use Rattle.judge.proofs.is_path.Tie as tie
 returns : tie.Need-returns
 returns c = sym (path-short (c .before .before .args .n) _ _ _ (c .before .before .args .xs .now) (c .if1 .taken))
 
-in-range-requires : tie.Need-in-range-requires
-in-range-requires c κs = search needs
-
 returns-2 : tie.Need-returns-2
 returns-2 c = sym (path-out (c .before .before .before .before .args .n) _ _ _ (c .before .before .before .before .args .xs .now) (c .before .before .if1 .left) (sym (c .before .in-range .ensures) ∙ not-true _ (c .if2 .taken)))
 
-shared-slice-read-wide : tie.Need-shared-slice-read-wide
-shared-slice-read-wide c = search needs
-
-wide-requires : tie.Need-wide-requires
-wide-requires c κs = search needs
-
 returns-3 : tie.Need-returns-3
 returns-3 c = sym (path-start (c .before .before .before .before .before .before .before .args .n) _ _ _ (c .before .before .before .before .before .before .before .args .xs .now) (c .before .before .before .before .before .if1 .left) (sym (c .before .before .before .before .in-range .ensures) ∙ not-false _ (c .before .before .before .if2 .left)) (λ e. c .if3 .taken (c .before .wide .ensures ∙ e)))
-
-sub-wide : tie.Need-sub-wide
-sub-wide c = search needs
-
-shared-slice-read-wide-2 : tie.Need-shared-slice-read-wide-2
-shared-slice-read-wide-2 c = search needs
-
-wide-requires-2 : tie.Need-wide-requires-2
-wide-requires-2 c κs = search needs
 
 returns-4 : tie.Need-returns-4
 returns-4 c = sym (path-end (c .before .before .before .before .before .before .before .before .before .before .args .n) _ _ _ (c .before .before .before .before .before .before .before .before .before .before .args .xs .now) (c .before .before .before .before .before .before .before .before .if1 .left) (sym (c .before .before .before .before .before .before .before .in-range .ensures) ∙ not-false _ (c .before .before .before .before .before .before .if2 .left)) (sym (c .before .before .before .before .wide .ensures) ∙ c .before .before .before .if3 .left) (λ e. c .if4 .taken (c .before .wide2 .ensures ∙ e)))
@@ -47,15 +29,5 @@ pub is-path-spec : {M : Type 1} → statement M
 is-path-spec =
     tie.close
     (tie.spec
-    returns
-    in-range-requires
-    returns-2
-    shared-slice-read-wide
-    wide-requires
-    returns-3
-    sub-wide
-    shared-slice-read-wide-2
-    wide-requires-2
-    returns-4
-    fits-requires
-    returns-5)
+    returns (λ c κs. search needs) returns-2 (λ c. search needs) (λ c κs. search needs) returns-3 (λ c. search needs) (λ c. search needs)
+    (λ c κs. search needs) returns-4 fits-requires returns-5)

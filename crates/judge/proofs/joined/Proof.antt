@@ -6,9 +6,6 @@ use borrow.Author.Needs.{needs}
 use Rattle.judge.proofs.joined.Statement.{statement}
 use Rattle.judge.proofs.joined.Tie as tie
 
-add-if1 : tie.Need-add-if1
-add-if1 c = search needs
-
 returns : tie.Need-returns
 returns c = sym (joined-next _ _ _ (c .if1 .taken))
 
@@ -18,11 +15,8 @@ returns-2 c = sym (joined-inner _ _ _ (c .before .if1 .left) (c .if2 .taken))
 returns-3 : tie.Need-returns-3
 returns-3 c = sym (joined-open _ _ _ (c .before .before .if1 .left) (c .before .if2 .left) (c .if3 .taken))
 
-sub-result : tie.Need-sub-result
-sub-result c = search needs
-
 returns-4 : tie.Need-returns-4
 returns-4 c = sym (joined-close _ _ _ (c .before .before .if1 .left) (c .before .if2 .left) (c .if3 .left))
 
 pub joined-spec : {M : Type 1} → statement M
-joined-spec = tie.close (tie.spec add-if1 returns returns-2 returns-3 sub-result returns-4)
+joined-spec = tie.close (tie.spec (λ c. search needs) returns returns-2 returns-3 (λ c. search needs) returns-4)

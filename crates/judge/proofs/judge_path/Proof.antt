@@ -9,20 +9,11 @@ use borrow.Author.Needs.{needs}
 use Rattle.judge.proofs.judge_path.Statement.{statement}
 use Rattle.judge.proofs.judge_path.Tie as tie
 
-well-formed-requires : tie.Need-well-formed-requires
-well-formed-requires c κs = search needs
-
 returns : tie.Need-returns
 returns c = sym (refused-record _ (sym (c .before .well-formed .ensures) ∙ not-true _ (c .if1 .taken)) .1 _ _ _)
 
-is-atom-requires : tie.Need-is-atom-requires
-is-atom-requires c κs = search needs
-
 returns-2 : tie.Need-returns-2
 returns-2 c = sym (path-no-start _ _ _ _ (sym (c .before .before .before .before .well-formed .ensures) ∙ not-false _ (c .before .before .before .if1 .left)) (sym (c .before .is-atom .ensures) ∙ not-true _ (c .if2 .taken)))
-
-is-atom-requires-2 : tie.Need-is-atom-requires-2
-is-atom-requires-2 c κs = search needs
 
 returns-3 : tie.Need-returns-3
 returns-3 c = sym (path-no-end _ _ _ _ (sym (c .before .before .before .before .before .before .well-formed .ensures) ∙ not-false _ (c .before .before .before .before .before .if1 .left)) (sym (c .before .before .before .is-atom .ensures) ∙ not-false _ (c .before .before .if2 .left)) (sym (c .before .is-atom2 .ensures) ∙ not-true _ (c .if3 .taken)))
@@ -40,16 +31,4 @@ returns-6 : tie.Need-returns-6
 returns-6 c = sym (path-judged _ _ _ _ (sym (c .before .before .before .before .before .before .before .before .before .before .well-formed .ensures) ∙ not-false _ (c .before .before .before .before .before .before .before .before .before .if1 .left)) (sym (c .before .before .before .before .before .before .before .is-atom .ensures) ∙ not-false _ (c .before .before .before .before .before .before .if2 .left)) (sym (c .before .before .before .before .before .is-atom2 .ensures) ∙ not-false _ (c .before .before .before .before .if3 .left)) (c .before .before .before .if4 .left) false (sym (c .before .is-path .ensures) ∙ c .if5 .left))
 
 pub judge-path-spec : {M : Type 1} → statement M
-judge-path-spec =
-    tie.close
-    (tie.spec
-    well-formed-requires
-    returns
-    is-atom-requires
-    returns-2
-    is-atom-requires-2
-    returns-3
-    returns-4
-    is-path-requires
-    returns-5
-    returns-6)
+judge-path-spec = tie.close (tie.spec (λ c κs. search needs) returns (λ c κs. search needs) returns-2 (λ c κs. search needs) returns-3 returns-4 is-path-requires returns-5 returns-6)

@@ -10,17 +10,11 @@ use borrow.Author.Needs.{needs}
 use Rattle.judge.proofs.judge_ring.Statement.{statement}
 use Rattle.judge.proofs.judge_ring.Tie as tie
 
-well-formed-requires : tie.Need-well-formed-requires
-well-formed-requires c κs = search needs
-
 returns : tie.Need-returns
 returns c = sym (refused-record _ (sym (c .before .well-formed .ensures) ∙ not-true _ (c .if1 .taken)) .0 _)
 
 returns-2 : tie.Need-returns-2
 returns-2 c = sym (ring-judged _ _ (sym (c .before .before .before .well-formed .ensures) ∙ not-false _ (c .before .before .if1 .left)) false (ring-short _ _ (c .before .before .before .before .before .args .xs .now) (c .if2 .taken)))
-
-in-range-requires : tie.Need-in-range-requires
-in-range-requires c κs = search needs
 
 returns-3 : tie.Need-returns-3
 returns-3 c = sym (ring-judged _ _ (sym (c .before .before .before .before .before .well-formed .ensures) ∙ not-false _ (c .before .before .before .before .if1 .left)) false (ring-out _ _ (c .before .before .before .before .before .before .before .args .xs .now) (c .before .before .if2 .left) (sym (c .before .in-range .ensures) ∙ not-true _ (c .if3 .taken))))
@@ -31,20 +25,8 @@ fits-requires c κs = (rule9 (c .before .before .before .before .before .before 
 returns-4 : tie.Need-returns-4
 returns-4 c = sym (ring-judged _ _ (sym (c .before .before .before .before .before .before .before .before .well-formed .ensures) ∙ not-false _ (c .before .before .before .before .before .before .before .if1 .left)) false (ring-chord _ _ (c .before .before .before .before .before .before .before .before .before .before .args .xs .now) (c .before .before .before .before .before .if2 .left) (sym (c .before .before .before .before .in-range .ensures) ∙ not-false _ (c .before .before .before .if3 .left)) (sym (c .before .fits2 .ensures) ∙ not-true _ (c .if4 .taken))))
 
-lowest-first-requires : tie.Need-lowest-first-requires
-lowest-first-requires c κs = search needs
-
 returns-5 : tie.Need-returns-5
 returns-5 c = sym (ring-judged _ _ (sym (c .before .before .before .before .before .before .before .before .before .before .well-formed .ensures) ∙ not-false _ (c .before .before .before .before .before .before .before .before .before .if1 .left)) false (ring-low _ _ (c .before .before .before .before .before .before .before .before .before .before .before .before .args .xs .now) (c .before .before .before .before .before .before .before .if2 .left) (sym (c .before .before .before .before .before .before .in-range .ensures) ∙ not-false _ (c .before .before .before .before .before .if3 .left)) (sym (c .before .before .before .fits2 .ensures) ∙ not-false _ (c .before .before .if4 .left)) (sym (c .before .lowest-first .ensures) ∙ not-true _ (c .if5 .taken))))
-
-shared-slice-read-if6 : tie.Need-shared-slice-read-if6
-shared-slice-read-if6 c = search needs
-
-sub-if6 : tie.Need-sub-if6
-sub-if6 c = search needs
-
-shared-slice-read-if6-2 : tie.Need-shared-slice-read-if6-2
-shared-slice-read-if6-2 c = search needs
 
 returns-6 : tie.Need-returns-6
 returns-6 c = sym (ring-judged _ _ (sym (c .before .before .before .before .before .before .before .before .before .before .before .before .before .well-formed .ensures) ∙ not-false _ (c .before .before .before .before .before .before .before .before .before .before .before .before .if1 .left)) true (ring-turn _ _ (c .before .before .before .before .before .before .before .before .before .before .before .before .before .before .before .args .xs .now) (c .before .before .before .before .before .before .before .before .before .before .if2 .left) (sym (c .before .before .before .before .before .before .before .before .before .in-range .ensures) ∙ not-false _ (c .before .before .before .before .before .before .before .before .if3 .left)) (sym (c .before .before .before .before .before .before .fits2 .ensures) ∙ not-false _ (c .before .before .before .before .before .if4 .left)) (sym (c .before .before .before .before .lowest-first .ensures) ∙ not-false _ (c .before .before .before .if5 .left)) ∙ lt-ltb _ _ (c .if6 .taken)))
@@ -56,17 +38,5 @@ pub judge-ring-spec : {M : Type 1} → statement M
 judge-ring-spec =
     tie.close
     (tie.spec
-    well-formed-requires
-    returns
-    returns-2
-    in-range-requires
-    returns-3
-    fits-requires
-    returns-4
-    lowest-first-requires
-    returns-5
-    shared-slice-read-if6
-    sub-if6
-    shared-slice-read-if6-2
-    returns-6
-    returns-7)
+    (λ c κs. search needs) returns returns-2 (λ c κs. search needs) returns-3 fits-requires returns-4 (λ c κs. search needs) returns-5 (λ c. search needs)
+    (λ c. search needs) (λ c. search needs) returns-6 returns-7)

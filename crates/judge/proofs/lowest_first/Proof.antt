@@ -19,30 +19,12 @@ Inv-loop xs first i₀ i = (i ≤ length xs - 1) × (allBelow i (aboveFirst xs) 
 abbrev μ-loop : tie.MeasureT-loop
 μ-loop xs first i₀ i = length xs - i
 
-shared-slice-read-first : tie.Need-shared-slice-read-first Inv-loop μ-loop
-shared-slice-read-first c = search needs
-
 loop-holds : tie.Need-loop-holds Inv-loop μ-loop
 loop-holds c = (search needs, refl)
-
-sub-loop : tie.Need-sub-loop Inv-loop μ-loop
-sub-loop c = search needs
-
-add-if1 : tie.Need-add-if1 Inv-loop μ-loop
-add-if1 c = omega arith
-
-shared-slice-read-if1 : tie.Need-shared-slice-read-if1 Inv-loop μ-loop
-shared-slice-read-if1 c = omega arith
 
 returns : tie.Need-returns Inv-loop μ-loop
 unfolding lowestFirst
 returns c = sym (all-fails _ (aboveFirst _) _ (c .before .before .loop-test .taken) (not-above (c .before .before .before .before .before .args .xs .now) (c .before .before .before .loop .i) (c .if1 .taken)))
-
-add-i : tie.Need-add-i Inv-loop μ-loop
-add-i c = omega arith
-
-loop-less : tie.Need-loop-less Inv-loop μ-loop
-loop-less c = omega arith
 
 loop-again : tie.Need-loop-again Inv-loop μ-loop
 loop-again c = (omega arith, all-more _ (aboveFirst _) (c .before .before .before .loop .inv .1) (above (c .before .before .before .before .before .args .xs .now) (c .before .before .before .loop .i) (c .if1 .left)))
@@ -55,15 +37,5 @@ pub lowest-first-spec : {M : Type 1} → statement M
 lowest-first-spec =
     tie.close
     (tie.spec
-    Inv-loop
-    μ-loop
-    shared-slice-read-first
-    loop-holds
-    sub-loop
-    add-if1
-    shared-slice-read-if1
-    returns
-    add-i
-    loop-less
-    loop-again
-    returns-2)
+    Inv-loop μ-loop (λ c. search needs) loop-holds (λ c. search needs) (λ c. omega arith) (λ c. omega arith) returns (λ c. omega arith) (λ c. omega arith)
+    loop-again returns-2)

@@ -12,18 +12,6 @@ use borrow.Author.Needs.{needs}
 use Rattle.judge.proofs.pair_fits.Statement.{statement}
 use Rattle.judge.proofs.pair_fits.Tie as tie
 
-shared-slice-read-wide : tie.Need-shared-slice-read-wide
-shared-slice-read-wide c = search needs
-
-wide-requires : tie.Need-wide-requires
-wide-requires c κs = search needs
-
-shared-slice-read-wide-2 : tie.Need-shared-slice-read-wide-2
-shared-slice-read-wide-2 c = search needs
-
-wide-requires-2 : tie.Need-wide-requires-2
-wide-requires-2 c κs = search needs
-
 returns : tie.Need-returns
 returns c = sym (pair-equal _ _ _ _ _ (sym (c .before .before .before .wide .ensures) ∙ c .if1 .taken ∙ c .before .wide2 .ensures))
 
@@ -41,9 +29,6 @@ linked-requires c κs =
     let j = range-at _ _ (c .before .before .before .before .before .before .pre .3) (c .before .before .before .before .before .before .args .j) (omega arith) in
     omega (arith, c .before .before .before .wide .ensures, c .before .wide2 .ensures)
 
-joined-requires : tie.Need-joined-requires
-joined-requires c κs = search needs
-
 returns-2 : tie.Need-returns-2
 returns-2 c =
     let start = c .before .before .before .before .before .before .before .before .before in
@@ -53,9 +38,6 @@ returns-2 c =
     let b = c .before .before .before .before .wide2 .ensures in
     let bit = bonded-cell (start .args .n) (start .args .rows .now) (atomAt (start .args .xs .now) (start .args .i)) (atomAt (start .args .xs .now) (start .args .j)) (i .0) (i .1) (j .0) (j .1) in
     c .joined .ensures ∙ sym (pair-bonded _ _ _ _ _ (λ e. c .before .before .before .if1 .left (a ∙ e ∙ sym b)) (bit ∙ rw (a, b) at (sym (c .before .before .linked .ensures)) ∙ c .before .if2 .taken))
-
-joined-requires-2 : tie.Need-joined-requires-2
-joined-requires-2 c κs = search needs
 
 returns-3 : tie.Need-returns-3
 returns-3 c =
@@ -71,15 +53,5 @@ pub pair-fits-spec : {M : Type 1} → statement M
 pair-fits-spec =
     tie.close
     (tie.spec
-    shared-slice-read-wide
-    wide-requires
-    shared-slice-read-wide-2
-    wide-requires-2
-    returns
-    sub-linked
-    sub-linked-2
-    linked-requires
-    joined-requires
-    returns-2
-    joined-requires-2
-    returns-3)
+    (λ c. search needs) (λ c κs. search needs) (λ c. search needs) (λ c κs. search needs) returns sub-linked sub-linked-2 linked-requires
+    (λ c κs. search needs) returns-2 (λ c κs. search needs) returns-3)

@@ -19,27 +19,15 @@ Inv-loop rows n at k₀ k = (k ≤ 8) × (allBelow k (bitSound rows n at) ≡ tr
 abbrev μ-loop : tie.MeasureT-loop
 μ-loop rows n at k₀ k = 8 - k
 
-element-copy-out-if1 : tie.Need-element-copy-out-if1 Inv-loop μ-loop
-element-copy-out-if1 c = search needs
-
 returns : tie.Need-returns Inv-loop μ-loop
 returns c = sym (zero-byte _ _ _ (c .if1 .taken))
 
 loop-holds : tie.Need-loop-holds Inv-loop μ-loop
 loop-holds c = (search needs, refl)
 
-bit-sound-requires : tie.Need-bit-sound-requires Inv-loop μ-loop
-bit-sound-requires c κs = omega arith
-
 returns-2 : tie.Need-returns-2 Inv-loop μ-loop
 unfolding byteSound
 returns-2 c = sym (all-fails 8 (bitSound _ _ _) _ (c .before .before .loop-test .taken) (sym (c .before .bit-sound .ensures) ∙ not-true _ (c .if2 .taken)))
-
-add-k : tie.Need-add-k Inv-loop μ-loop
-add-k c = omega arith
-
-loop-less : tie.Need-loop-less Inv-loop μ-loop
-loop-less c = omega arith
 
 loop-again : tie.Need-loop-again Inv-loop μ-loop
 loop-again c = (omega arith, all-more _ (bitSound _ _ _) (c .before .before .before .loop .inv .1) (sym (c .before .bit-sound .ensures) ∙ not-false _ (c .if2 .left)))
@@ -49,17 +37,4 @@ unfolding byteSound
 returns-3 c = sym (all-done _ 8 _ (c .before .loop .inv .0) (c .loop-test .left) (c .before .loop .inv .1))
 
 pub byte-sound-spec : {M : Type 1} → statement M
-byte-sound-spec =
-    tie.close
-    (tie.spec
-    Inv-loop
-    μ-loop
-    element-copy-out-if1
-    returns
-    loop-holds
-    bit-sound-requires
-    returns-2
-    add-k
-    loop-less
-    loop-again
-    returns-3)
+byte-sound-spec = tie.close (tie.spec Inv-loop μ-loop (λ c. search needs) returns loop-holds (λ c κs. omega arith) returns-2 (λ c. omega arith) (λ c. omega arith) loop-again returns-3)

@@ -18,12 +18,9 @@ returns-3 : tie.Need-returns-3
 unfolding mirrored
 returns-3 c = simp (lt-ltb _ _ (c .before .before .if1 .left), lt-ltb _ _ (c .before .if2 .left), eq-eqb _ _ (c .if3 .taken))
 
-linked-requires : tie.Need-linked-requires
-linked-requires c κs = search needs
-
 returns-4 : tie.Need-returns-4
 unfolding mirrored
 returns-4 c = simp (c .linked .ensures, lt-ltb _ _ (c .before .before .before .if1 .left), lt-ltb _ _ (c .before .before .if2 .left), ne-eqb _ _ (c .before .if3 .left))
 
 pub is-mirrored-spec : {M : Type 1} → statement M
-is-mirrored-spec = tie.close (tie.spec returns returns-2 returns-3 linked-requires returns-4)
+is-mirrored-spec = tie.close (tie.spec returns returns-2 returns-3 (λ c κs. search needs) returns-4)

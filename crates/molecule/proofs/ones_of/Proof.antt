@@ -21,20 +21,11 @@ abbrev μ-loop : tie.MeasureT-loop
 loop-holds : tie.Need-loop-holds Inv-loop μ-loop
 loop-holds c = (search needs, search needs, zero-add _)
 
-shared-slice-read-sum : tie.Need-shared-slice-read-sum Inv-loop μ-loop
-shared-slice-read-sum c = omega arith
-
 cast-sum : tie.Need-cast-sum Inv-loop μ-loop
 cast-sum c = omega (arith, ones-le 8 _ (c .shared-slice-known .given (c .before .before .loop .i) .fits))
 
 add-sum : tie.Need-add-sum Inv-loop μ-loop
 add-sum c = omega (arith, ones-le 8 _ (c .shared-slice-known .given (c .before .before .loop .i) .fits))
-
-add-i : tie.Need-add-i Inv-loop μ-loop
-add-i c = omega arith
-
-loop-less : tie.Need-loop-less Inv-loop μ-loop
-loop-less c = omega arith
 
 loop-again : tie.Need-loop-again Inv-loop μ-loop
 loop-again c =
@@ -45,16 +36,4 @@ returns : tie.Need-returns Inv-loop μ-loop
 returns c = sym (ones-end (c .before .before .args .rows .now) (c .before .loop .i) (c .before .loop .sum) (c .loop-test .left)) ∙ c .before .loop .inv .2
 
 pub ones-of-spec : {M : Type 1} → statement M
-ones-of-spec =
-    tie.close
-    (tie.spec
-    Inv-loop
-    μ-loop
-    loop-holds
-    shared-slice-read-sum
-    cast-sum
-    add-sum
-    add-i
-    loop-less
-    loop-again
-    returns)
+ones-of-spec = tie.close (tie.spec Inv-loop μ-loop loop-holds (λ c. omega arith) cast-sum add-sum (λ c. omega arith) (λ c. omega arith) loop-again returns)

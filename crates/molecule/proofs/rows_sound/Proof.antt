@@ -21,18 +21,9 @@ abbrev μ-loop : tie.MeasureT-loop
 loop-holds : tie.Need-loop-holds Inv-loop μ-loop
 loop-holds c = (search needs, refl)
 
-byte-sound-requires : tie.Need-byte-sound-requires Inv-loop μ-loop
-byte-sound-requires c κs = omega arith
-
 returns : tie.Need-returns Inv-loop μ-loop
 unfolding rowsSound
 returns c = sym (all-fails 2048 (byteSound _ _) _ (c .before .before .loop-test .taken) (sym (c .before .byte-sound .ensures) ∙ not-true _ (c .if1 .taken)))
-
-add-at : tie.Need-add-at Inv-loop μ-loop
-add-at c = omega arith
-
-loop-less : tie.Need-loop-less Inv-loop μ-loop
-loop-less c = omega arith
 
 loop-again : tie.Need-loop-again Inv-loop μ-loop
 loop-again c = (omega arith, all-more _ (byteSound _ _) (c .before .before .before .loop .inv .1) (sym (c .before .byte-sound .ensures) ∙ not-false _ (c .if1 .left)))
@@ -42,15 +33,4 @@ unfolding rowsSound
 returns-2 c = sym (all-done _ 2048 _ (c .before .loop .inv .0) (c .loop-test .left) (c .before .loop .inv .1))
 
 pub rows-sound-spec : {M : Type 1} → statement M
-rows-sound-spec =
-    tie.close
-    (tie.spec
-    Inv-loop
-    μ-loop
-    loop-holds
-    byte-sound-requires
-    returns
-    add-at
-    loop-less
-    loop-again
-    returns-2)
+rows-sound-spec = tie.close (tie.spec Inv-loop μ-loop loop-holds (λ c κs. omega arith) returns (λ c. omega arith) (λ c. omega arith) loop-again returns-2)

@@ -17,20 +17,8 @@ returns-2 : tie.Need-returns-2
 unfolding wellFormed
 returns-2 c = simp (le-leb _ _ (c .before .if1 .left), lt-leb _ _ (c .if2 .taken))
 
-rows-sound-requires : tie.Need-rows-sound-requires
-rows-sound-requires c κs = search needs
-
 returns-3 : tie.Need-returns-3
 returns-3 c = sym (rule-in-range (c .before .before .before .before .before .before .args .m) (c .before .before .before .before .if1 .left) (c .before .before .before .if2 .left) false (sym (c .before .rows-sound .ensures) ∙ not-true _ (c .if3 .taken)))
-
-slice-aggregate-ones-of : tie.Need-slice-aggregate-ones-of
-slice-aggregate-ones-of c = search needs
-
-ones-of-requires : tie.Need-ones-of-requires
-ones-of-requires c κs = search needs
-
-mul-result : tie.Need-mul-result
-mul-result c = search needs
 
 returns-4 : tie.Need-returns-4
 returns-4 c =
@@ -39,14 +27,4 @@ returns-4 c =
     rw count (sym (rule-in-range (start .args .m) (c .before .before .before .before .before .before .if1 .left) (c .before .before .before .before .before .if2 .left) true (sym (c .before .before .before .rows-sound .ensures) ∙ not-false _ (c .before .before .if3 .left))))
 
 pub well-formed-spec : {M : Type 1} → statement M
-well-formed-spec =
-    tie.close
-    (tie.spec
-    returns
-    returns-2
-    rows-sound-requires
-    returns-3
-    slice-aggregate-ones-of
-    ones-of-requires
-    mul-result
-    returns-4)
+well-formed-spec = tie.close (tie.spec returns returns-2 (λ c κs. search needs) returns-3 (λ c. search needs) (λ c κs. search needs) (λ c. search needs) returns-4)

@@ -4,16 +4,6 @@ use Rattle.openness.proofs.Plans.{alone-yes, alone-no}
 use borrow.Author.Needs.{needs}
 use Rattle.openness.proofs.alone.Statement.{statement}
 use Rattle.openness.proofs.alone.Tie as tie
-use Rattle.openness.proofs.alone.Reads as reads
-use Rattle.openness.proofs.alone.Lts as lts
-use Rattle.atomset.proofs.empty.Reads as empty-reads
-use Rattle.atomset.proofs.single.Reads as single-reads
-
-empty-requires : tie.Need-empty-requires
-empty-requires c κs = search needs
-
-single-requires : tie.Need-single-requires
-single-requires c κs = search needs
 
 returns : tie.Need-returns
 returns c = alone-yes _ _ _ _ (c .before .if1 .taken) (c .before .before .empty .ensures) (c .single .ensures)
@@ -22,4 +12,4 @@ returns-2 : tie.Need-returns-2
 returns-2 c = alone-no _ _ _ (c .if1 .left) (c .before .empty .ensures)
 
 pub alone-spec : {M : Type 1} → statement M
-alone-spec = tie.close (tie.spec empty-requires single-requires returns returns-2)
+alone-spec = tie.close (tie.spec (λ c κs. search needs) (λ c κs. search needs) returns returns-2)

@@ -9,14 +9,6 @@ use Rattle.openness.proofs.Molecules.{table-words, open-same}
 use borrow.Author.Needs.{needs}
 use Rattle.openness.proofs.check_search.Statement.{statement}
 use Rattle.openness.proofs.check_search.Tie as tie
-use Rattle.openness.proofs.check_search.Reads as reads
-use Rattle.openness.proofs.check_search.Lts as lts
-use Rattle.atomset.proofs.words_of.Reads as words-of-reads
-use Rattle.openness.proofs.counts_kept.Reads as counts-kept-reads
-use Rattle.openness.proofs.is_open.Reads as is-open-reads
-use Rattle.openness.proofs.is_padded.Reads as is-padded-reads
-use Rattle.openness.proofs.kind_kept.Reads as kind-kept-reads
-use Rattle.openness.proofs.next_kept.Reads as next-kept-reads
 
 -- the array of the search has its 128 places
 full : (c : tie.Start) → length (c .args .q .prefix) ≡ 128
@@ -25,14 +17,8 @@ full c = search needs
 returns : tie.Need-returns
 returns c = sym (not-short (c .before .before .before .args .m) (c .before .before .before .args .q) (c .if1 .taken))
 
-is-padded-requires : tie.Need-is-padded-requires
-is-padded-requires c κs = search needs
-
 returns-2 : tie.Need-returns-2
 returns-2 c = sym (not-padded (c .before .before .before .before .before .before .args .m) (c .before .before .before .before .before .before .args .q) (sym (c .before .is-padded .ensures) ∙ not-true _ (c .if2 .taken)))
-
-kind-kept-requires : tie.Need-kind-kept-requires
-kind-kept-requires c κs = search needs
 
 returns-3 : tie.Need-returns-3
 returns-3 c = sym (not-kind (c .before .before .before .before .before .before .before .before .args .m) (c .before .before .before .before .before .before .before .before .args .q) (sym (c .before .kind-kept .ensures) ∙ not-true _ (c .if3 .taken)))
@@ -43,14 +29,8 @@ next-kept-requires c κs = rule9 (c .before .before .before .before .before .bef
 returns-4 : tie.Need-returns-4
 returns-4 c = sym (not-next (c .before .before .before .before .before .before .before .before .before .before .args .m) (c .before .before .before .before .before .before .before .before .before .before .args .q) (full (c .before .before .before .before .before .before .before .before .before .before)) (c .before .before .before .before .before .before .before .if1 .left) (sym (c .before .next-kept .ensures) ∙ not-true _ (c .if4 .taken)))
 
-counts-kept-requires : tie.Need-counts-kept-requires
-counts-kept-requires c κs = search needs
-
 returns-5 : tie.Need-returns-5
 returns-5 c = sym (not-counts (c .before .before .before .before .before .before .before .before .before .before .before .before .args .m) (c .before .before .before .before .before .before .before .before .before .before .before .before .args .q) (sym (c .before .counts-kept .ensures) ∙ not-true _ (c .if5 .taken)))
-
-words-of-requires : tie.Need-words-of-requires
-words-of-requires c κs = search needs
 
 is-open-requires : tie.Need-is-open-requires
 is-open-requires c κs = (table-words (c .before .before .before .before .before .before .before .before .before .before .before .before .before .before .before .before .args .m) (c .before .before .before .before .before .before .before .before .before .before .before .before .before .before .before .before .pre) _ (c .before .before .words-of .ensures), (sym (c .before .before .before .before .before .before .before .before .before .kind-kept .ensures) ∙ not-false _ (c .before .before .before .before .before .before .before .before .if3 .left)), full (c .before .before .before .before .before .before .before .before .before .before .before .before .before .before .before .before), c .before .before .before .before .before .before .before .before .before .before .before .before .before .if1 .left)
@@ -62,15 +42,5 @@ pub check-search-spec : {M : Type 1} → statement M
 check-search-spec =
     tie.close
     (tie.spec
-    returns
-    is-padded-requires
-    returns-2
-    kind-kept-requires
-    returns-3
-    next-kept-requires
-    returns-4
-    counts-kept-requires
-    returns-5
-    words-of-requires
-    is-open-requires
-    returns-6)
+    returns (λ c κs. search needs) returns-2 (λ c κs. search needs) returns-3 next-kept-requires returns-4 (λ c κs. search needs) returns-5
+    (λ c κs. search needs) is-open-requires returns-6)

@@ -4,8 +4,6 @@ use mathlib.Core.Path.{sym}
 use Rattle.openness.proofs.Checks.{counts-first, counts-second, counts-third}
 use Rattle.openness.proofs.counts_kept.Statement.{statement}
 use Rattle.openness.proofs.counts_kept.Tie as tie
-use Rattle.openness.proofs.counts_kept.Reads as reads
-use Rattle.openness.proofs.counts_kept.Lts as lts
 
 returns : tie.Need-returns
 returns c = sym (counts-first (c .before .args .trials) (c .before .args .extensions) (c .before .args .listed) (c .if1 .taken))

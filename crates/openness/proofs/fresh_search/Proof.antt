@@ -5,8 +5,6 @@ use Rattle.enumeration.specs.Machine.{fresh}
 use Rattle.search.specs.Place.{held, searchAt, freshSearch}
 use Rattle.openness.proofs.fresh_search.Statement.{statement}
 use Rattle.openness.proofs.fresh_search.Tie as tie
-use Rattle.openness.proofs.fresh_search.Reads as reads
-use Rattle.openness.proofs.fresh_search.Lts as lts
 
 returns : tie.Need-returns
 unfolding freshSearch searchAt held fresh

@@ -13,9 +13,6 @@ use Rattle.openness.proofs.Plans.{family-by-lawful}
 use Rattle.openness.proofs.Opens.{open-empty, open-cut, beginning-of}
 use Rattle.openness.proofs.is_open.Statement.{statement}
 use Rattle.openness.proofs.is_open.Tie as tie
-use Rattle.openness.proofs.is_open.Reads as reads
-use Rattle.openness.proofs.is_open.Lts as lts
-use Rattle.openness.proofs.opens_at.Reads as opens-at-reads
 
 abbrev Inv-loop : tie.InvT-loop
 Inv-loop table n kind s t prefix len i₀ i = (i ≤ len) × (isOpen (familyBy n table kind s t) (take i prefix) ≡ true)
@@ -32,12 +29,6 @@ opens-at-requires c κs = beginning-of (c .before .before .pre) (c .before .loop
 returns : tie.Need-returns Inv-loop μ-loop
 returns c = sym (open-cut (familyBy (c .before .before .before .before .args .n) (c .before .before .before .before .args .table .now) (c .before .before .before .before .args .kind) (c .before .before .before .before .args .s) (c .before .before .before .before .args .t)) (family-by-lawful (c .before .before .before .before .args .n) (c .before .before .before .before .args .table .now) (c .before .before .before .before .args .kind) (c .before .before .before .before .args .s) (c .before .before .before .before .args .t)) (c .before .before .before .before .args .prefix .now) (c .before .before .before .loop .i) (c .before .before .before .before .args .len) (c .before .before .before .before .pre .2) (c .before .before .loop-test .taken) (c .before .before .before .before .pre .3) (sym (c .before .opens-at .ensures) ∙ not-true _ (c .if1 .taken)))
 
-add-i : tie.Need-add-i Inv-loop μ-loop
-add-i c = omega arith
-
-loop-less : tie.Need-loop-less Inv-loop μ-loop
-loop-less c = omega arith
-
 loop-again : tie.Need-loop-again Inv-loop μ-loop
 loop-again c = (omega arith, rw (add-one (c .before .before .before .loop .i)) (sym (c .before .opens-at .ensures) ∙ not-false _ (c .if1 .left)))
 
@@ -45,15 +36,4 @@ returns-2 : tie.Need-returns-2 Inv-loop μ-loop
 returns-2 c = let e : c .before .loop .i ≡ c .before .before .args .len = omega arith in sym (rw e at (c .before .loop .inv .1))
 
 pub is-open-spec : {M : Type 1} → statement M
-is-open-spec =
-    tie.close
-    (tie.spec
-    Inv-loop
-    μ-loop
-    loop-holds
-    opens-at-requires
-    returns
-    add-i
-    loop-less
-    loop-again
-    returns-2)
+is-open-spec = tie.close (tie.spec Inv-loop μ-loop loop-holds opens-at-requires returns (λ c. omega arith) (λ c. omega arith) loop-again returns-2)

@@ -9,8 +9,6 @@ use Rattle.openness.specs.Parts.{paddedAt}
 use Rattle.openness.proofs.Checks.{padded-before, padded-zero, padded-other, padded-fails, padded-of}
 use Rattle.openness.proofs.is_padded.Statement.{statement}
 use Rattle.openness.proofs.is_padded.Tie as tie
-use Rattle.openness.proofs.is_padded.Reads as reads
-use Rattle.openness.proofs.is_padded.Lts as lts
 
 abbrev Inv-loop : tie.InvT-loop
 Inv-loop prefix len i₀ i = (len ≤ i) × ((k : ℕ) → k < i → paddedAt prefix len k ≡ true)
@@ -21,17 +19,8 @@ abbrev μ-loop : tie.MeasureT-loop
 loop-holds : tie.Need-loop-holds Inv-loop μ-loop
 loop-holds c = (omega arith, λ k h. padded-before (c .args .prefix .now) (c .args .len) k h)
 
-element-copy-out-if1 : tie.Need-element-copy-out-if1 Inv-loop μ-loop
-element-copy-out-if1 c = omega arith
-
 returns : tie.Need-returns Inv-loop μ-loop
 returns c = sym (padded-fails (c .before .before .before .before .args .prefix .now) (c .before .before .before .before .args .len) (c .before .before .before .loop .i) (c .before .before .loop-test .taken) (padded-other (c .before .before .before .before .args .prefix .now) (c .before .before .before .before .args .len) (c .before .before .before .loop .i) (c .before .before .before .loop .inv .0) (c .if1 .taken)))
-
-add-i : tie.Need-add-i Inv-loop μ-loop
-add-i c = omega arith
-
-loop-less : tie.Need-loop-less Inv-loop μ-loop
-loop-less c = omega arith
 
 loop-again : tie.Need-loop-again Inv-loop μ-loop
 loop-again c = (omega arith, below-more _ _ (c .before .before .before .loop .inv .1) (padded-zero (c .before .before .before .before .args .prefix .now) (c .before .before .before .before .args .len) (c .before .before .before .loop .i) (c .before .before .before .loop .inv .0) (c .if1 .left)))
@@ -40,15 +29,4 @@ returns-2 : tie.Need-returns-2 Inv-loop μ-loop
 returns-2 c = sym (padded-of (c .before .before .args .prefix .now) (c .before .before .args .len) (λ k h. c .before .loop .inv .1 k (omega arith)))
 
 pub is-padded-spec : {M : Type 1} → statement M
-is-padded-spec =
-    tie.close
-    (tie.spec
-    Inv-loop
-    μ-loop
-    loop-holds
-    element-copy-out-if1
-    returns
-    add-i
-    loop-less
-    loop-again
-    returns-2)
+is-padded-spec = tie.close (tie.spec Inv-loop μ-loop loop-holds (λ c. omega arith) returns (λ c. omega arith) (λ c. omega arith) loop-again returns-2)

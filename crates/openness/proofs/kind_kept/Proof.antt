@@ -5,9 +5,6 @@ use Rattle.openness.proofs.Checks.{kind-no-zero, kind-zero, kind-no-one
 use borrow.Author.Needs.{needs}
 use Rattle.openness.proofs.kind_kept.Statement.{statement}
 use Rattle.openness.proofs.kind_kept.Tie as tie
-use Rattle.openness.proofs.kind_kept.Reads as reads
-use Rattle.openness.proofs.kind_kept.Lts as lts
-use Rattle.openness.proofs.ends_kept.Reads as ends-kept-reads
 
 returns : tie.Need-returns
 returns c = sym (kind-no-zero (c .before .before .args .n) (c .before .before .args .kind) (c .before .before .args .s) (c .before .before .args .t) (c .before .if1 .taken) (c .if2 .taken))
@@ -18,11 +15,8 @@ returns-2 c = sym (kind-zero (c .before .before .args .n) (c .before .before .ar
 returns-3 : tie.Need-returns-3
 returns-3 c = sym (kind-no-one (c .before .before .args .n) (c .before .before .args .kind) (c .before .before .args .s) (c .before .before .args .t) (c .before .if1 .left) (c .if3 .taken))
 
-ends-kept-requires : tie.Need-ends-kept-requires
-ends-kept-requires c κs = search needs
-
 returns-4 : tie.Need-returns-4
 returns-4 c = c .ends-kept .ensures ∙ sym (kind-one (c .before .before .before .args .n) (c .before .before .before .args .kind) (c .before .before .before .args .s) (c .before .before .before .args .t) (c .before .before .if1 .left) (c .before .if3 .left))
 
 pub kind-kept-spec : {M : Type 1} → statement M
-kind-kept-spec = tie.close (tie.spec returns returns-2 returns-3 ends-kept-requires returns-4)
+kind-kept-spec = tie.close (tie.spec returns returns-2 returns-3 (λ c κs. search needs) returns-4)

@@ -8,12 +8,6 @@ use Rattle.openness.specs.Parts.{Near}
 use Rattle.openness.proofs.Sets.{near-none, near-more, near-same}
 use Rattle.openness.proofs.near.Statement.{statement}
 use Rattle.openness.proofs.near.Tie as tie
-use Rattle.openness.proofs.near.Reads as reads
-use Rattle.openness.proofs.near.Lts as lts
-use Rattle.atomset.proofs.empty.Reads as empty-reads
-use Rattle.atomset.proofs.row.Reads as row-reads
-use Rattle.atomset.proofs.union.Reads as union-reads
-use Rattle.openness.proofs.wide.Reads as wide-reads
 
 abbrev Inv-loop : tie.InvT-loop
 Inv-loop table prefix low high all₀ i₀ all i = (low ≤ i) × (i ≤ high) × Near (linkedBy table) prefix low i all
@@ -21,29 +15,17 @@ Inv-loop table prefix low high all₀ i₀ all i = (low ≤ i) × (i ≤ high) �
 abbrev μ-loop : tie.MeasureT-loop
 μ-loop table prefix low high all₀ i₀ all i = high - i
 
-empty-requires : tie.Need-empty-requires Inv-loop μ-loop
-empty-requires c κs = tt
-
 loop-holds : tie.Need-loop-holds Inv-loop μ-loop
 loop-holds c = (omega arith, c .before .pre .0, near-none _ _ _ _ (c .empty .ensures))
 
 element-copy-out-wide : tie.Need-element-copy-out-wide Inv-loop μ-loop
 element-copy-out-wide c = omega (arith, c .before .before .before .pre .1)
 
-wide-requires : tie.Need-wide-requires Inv-loop μ-loop
-wide-requires c κs = tt
-
 row-requires : tie.Need-row-requires Inv-loop μ-loop
 row-requires c κs = rw (c .wide .ensures) (c .before .before .before .before .before .pre .2 (c .before .before .before .loop .i) (c .before .before .loop-test .taken))
 
-union-requires : tie.Need-union-requires Inv-loop μ-loop
-union-requires c κs = tt
-
 add-i : tie.Need-add-i Inv-loop μ-loop
 add-i c = omega (arith, c .before .before .before .before .before .before .before .pre .1)
-
-loop-less : tie.Need-loop-less Inv-loop μ-loop
-loop-less c = omega arith
 
 loop-again : tie.Need-loop-again Inv-loop μ-loop
 loop-again c = (omega arith, omega arith, near-more _ _ _ _ (c .before .before .wide .result) _ (c .before .row .result) _ (c .before .before .before .before .before .loop .inv .0) (c .before .before .wide .ensures) (c .before .row .ensures) (c .union .ensures) (c .before .before .before .before .before .loop .inv .2))
@@ -52,18 +34,4 @@ returns : tie.Need-returns Inv-loop μ-loop
 returns c = near-same _ (omega arith) (λ i h. refl) (c .before .loop .inv .2)
 
 pub near-spec : {M : Type 1} → statement M
-near-spec =
-    tie.close
-    (tie.spec
-    Inv-loop
-    μ-loop
-    empty-requires
-    loop-holds
-    element-copy-out-wide
-    wide-requires
-    row-requires
-    union-requires
-    add-i
-    loop-less
-    loop-again
-    returns)
+near-spec = tie.close (tie.spec Inv-loop μ-loop (λ c κs. tt) loop-holds element-copy-out-wide (λ c κs. tt) row-requires (λ c κs. tt) add-i (λ c. omega arith) loop-again returns)

@@ -5,12 +5,6 @@ use Rattle.openness.proofs.Checks.{next-atom, next-inside, next-after}
 use borrow.Author.Needs.{needs}
 use Rattle.openness.proofs.next_kept.Statement.{statement}
 use Rattle.openness.proofs.next_kept.Tie as tie
-use Rattle.openness.proofs.next_kept.Reads as reads
-use Rattle.openness.proofs.next_kept.Lts as lts
-use Rattle.molecule.proofs.is_atom.Reads as is-atom-reads
-
-is-atom-requires : tie.Need-is-atom-requires
-is-atom-requires c κs = search needs
 
 returns : tie.Need-returns
 returns c = sym (next-atom (c .before .before .args .n) (c .before .before .args .len) (c .before .before .args .c) (sym (c .before .is-atom .ensures) ∙ c .if1 .taken))
@@ -18,11 +12,8 @@ returns c = sym (next-atom (c .before .before .args .n) (c .before .before .args
 returns-2 : tie.Need-returns-2
 returns-2 c = sym (next-inside (c .before .before .before .args .n) (c .before .before .before .args .len) (c .before .before .before .args .c) (sym (c .before .before .is-atom .ensures) ∙ c .before .if1 .left) (c .if2 .taken))
 
-add-result : tie.Need-add-result
-add-result c = search needs
-
 returns-3 : tie.Need-returns-3
 returns-3 c = sym (next-after (c .before .before .before .args .n) (c .before .before .before .args .len) (c .before .before .before .args .c) (sym (c .before .before .is-atom .ensures) ∙ c .before .if1 .left) (c .if2 .left))
 
 pub next-kept-spec : {M : Type 1} → statement M
-next-kept-spec = tie.close (tie.spec is-atom-requires returns returns-2 add-result returns-3)
+next-kept-spec = tie.close (tie.spec (λ c κs. search needs) returns returns-2 (λ c. search needs) returns-3)

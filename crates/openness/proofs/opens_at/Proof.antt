@@ -8,21 +8,6 @@ use Rattle.openness.proofs.Opens.{opens-out, opens-in}
 use borrow.Author.Needs.{needs}
 use Rattle.openness.proofs.opens_at.Statement.{statement}
 use Rattle.openness.proofs.opens_at.Tie as tie
-use Rattle.openness.proofs.opens_at.Reads as reads
-use Rattle.openness.proofs.opens_at.Lts as lts
-use Rattle.atomset.proofs.contains.Reads as contains-reads
-use Rattle.molecule.proofs.is_atom.Reads as is-atom-reads
-use Rattle.openness.proofs.plan_at.Reads as plan-at-reads
-use Rattle.openness.proofs.wide.Reads as wide-reads
-
-element-copy-out-wide : tie.Need-element-copy-out-wide
-element-copy-out-wide c = search needs
-
-wide-requires : tie.Need-wide-requires
-wide-requires c κs = search needs
-
-is-atom-requires : tie.Need-is-atom-requires
-is-atom-requires c κs = search needs
 
 returns : tie.Need-returns
 returns c = sym (opens-out (c .before .before .before .before .pre) (c .before .before .wide .result) (c .before .before .wide .ensures) (sym (c .before .is-atom .ensures) ∙ not-true _ (c .if1 .taken)))
@@ -37,13 +22,4 @@ returns-2 : tie.Need-returns-2
 returns-2 c = c .contains .ensures ∙ opens-in (c .before .before .before .before .before .before .before .pre) (c .before .before .before .before .before .wide .result) _ (c .before .before .before .before .before .wide .ensures) (c .before .before .plan-at .ensures)
 
 pub opens-at-spec : {M : Type 1} → statement M
-opens-at-spec =
-    tie.close
-    (tie.spec
-    element-copy-out-wide
-    wide-requires
-    is-atom-requires
-    returns
-    plan-at-requires
-    contains-requires
-    returns-2)
+opens-at-spec = tie.close (tie.spec (λ c. search needs) (λ c κs. search needs) (λ c κs. search needs) returns plan-at-requires contains-requires returns-2)

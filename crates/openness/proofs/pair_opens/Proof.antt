@@ -8,44 +8,12 @@ use Rattle.openness.proofs.Rings.{pair-above, pair-bonded, pair-told}
 use borrow.Author.Needs.{needs}
 use Rattle.openness.proofs.pair_opens.Statement.{statement}
 use Rattle.openness.proofs.pair_opens.Tie as tie
-use Rattle.openness.proofs.pair_opens.Reads as reads
-use Rattle.openness.proofs.pair_opens.Lts as lts
-use Rattle.atomset.proofs.contains.Reads as contains-reads
-use Rattle.atomset.proofs.intersection.Reads as intersection-reads
-use Rattle.atomset.proofs.minus.Reads as minus-reads
-use Rattle.atomset.proofs.range.Reads as range-reads
-use Rattle.atomset.proofs.row.Reads as row-reads
-use Rattle.sweep.proofs.sweep.Reads as sweep-reads
 
 returns : tie.Need-returns
 returns c = sym (pair-above (c .before .args .n) _ (c .before .pre .0 .irreflexive) (c .before .args .s) (c .before .args .v) (c .before .pre .1) (c .if1 .taken))
 
-row-requires : tie.Need-row-requires
-row-requires c κs = search needs
-
-contains-requires : tie.Need-contains-requires
-contains-requires c κs = search needs
-
 returns-2 : tie.Need-returns-2
 returns-2 c = sym (pair-bonded (c .before .before .before .before .args .n) _ (c .before .before .before .before .pre .0 .irreflexive) (c .before .before .before .before .args .s) (c .before .before .before .before .args .v) (c .before .before .before .before .pre .1) (sym (c .before .before .row .ensures (c .before .before .before .before .args .v)) ∙ sym (c .before .contains .ensures) ∙ not-true _ (c .if2 .taken)))
-
-range-requires : tie.Need-range-requires
-range-requires c κs = search needs
-
-range-requires-2 : tie.Need-range-requires-2
-range-requires-2 c κs = search needs
-
-intersection-requires : tie.Need-intersection-requires
-intersection-requires c κs = search needs
-
-minus-requires : tie.Need-minus-requires
-minus-requires c κs = search needs
-
-sweep-requires : tie.Need-sweep-requires
-sweep-requires c κs = search needs
-
-contains-requires-2 : tie.Need-contains-requires-2
-contains-requires-2 c κs = search needs
 
 returns-3 : tie.Need-returns-3
 returns-3 c =
@@ -68,14 +36,5 @@ pub pair-opens-spec : {M : Type 1} → statement M
 pair-opens-spec =
     tie.close
     (tie.spec
-    returns
-    row-requires
-    contains-requires
-    returns-2
-    range-requires
-    range-requires-2
-    intersection-requires
-    minus-requires
-    sweep-requires
-    contains-requires-2
-    returns-3)
+    returns (λ c κs. search needs) (λ c κs. search needs) returns-2 (λ c κs. search needs) (λ c κs. search needs) (λ c κs. search needs)
+    (λ c κs. search needs) (λ c κs. search needs) (λ c κs. search needs) returns-3)

@@ -14,35 +14,9 @@ use Rattle.openness.proofs.Paths.{path-shut, path-told}
 use borrow.Author.Needs.{needs}
 use Rattle.openness.proofs.path_plan.Statement.{statement}
 use Rattle.openness.proofs.path_plan.Tie as tie
-use Rattle.openness.proofs.path_plan.Reads as reads
-use Rattle.openness.proofs.path_plan.Lts as lts
-use Rattle.atomset.proofs.contains.Reads as contains-reads
-use Rattle.atomset.proofs.empty.Reads as empty-reads
-use Rattle.atomset.proofs.intersection.Reads as intersection-reads
-use Rattle.atomset.proofs.minus.Reads as minus-reads
-use Rattle.atomset.proofs.row.Reads as row-reads
-use Rattle.atomset.proofs.single.Reads as single-reads
-use Rattle.atomset.proofs.union.Reads as union-reads
-use Rattle.atomset.proofs.up_to.Reads as up-to-reads
-use Rattle.atomset.proofs.without_atom.Reads as without-atom-reads
-use Rattle.openness.proofs.near.Reads as near-reads
-use Rattle.openness.proofs.wide.Reads as wide-reads
-use Rattle.sweep.proofs.sweep.Reads as sweep-reads
-
-sub-wide : tie.Need-sub-wide
-sub-wide c = search needs
-
-element-copy-out-wide : tie.Need-element-copy-out-wide
-element-copy-out-wide c = search needs
-
-wide-requires : tie.Need-wide-requires
-wide-requires c κs = search needs
 
 row-requires : tie.Need-row-requires
 row-requires c κs = rw (c .wide .ensures) (opened-atoms (c .before .before .pre .2) (paths-lawful _ _ _ _) refl (c .before .before .args .len - 1) (omega (arith, c .before .before .pre .0)))
-
-sub-near : tie.Need-sub-near
-sub-near c = search needs
 
 near-requires : tie.Need-near-requires
 near-requires c κs = near-asked (c .before .before .before .pre .2) (paths-lawful _ _ _ _) refl 0 (omega (arith, c .before .before .before .pre .0))
@@ -50,20 +24,8 @@ near-requires c κs = near-asked (c .before .before .before .pre .2) (paths-lawf
 single-requires : tie.Need-single-requires
 single-requires c κs = let e = ends-facts _ _ _ (c .before .before .before .before .pre .1) in (e .t-low, omega (arith, c .before .before .before .before .pre .2 .words .few))
 
-minus-requires : tie.Need-minus-requires
-minus-requires c κs = search needs
-
-intersection-requires : tie.Need-intersection-requires
-intersection-requires c κs = search needs
-
-union-requires : tie.Need-union-requires
-union-requires c κs = search needs
-
 contains-requires : tie.Need-contains-requires
 contains-requires c κs = let e = ends-facts _ _ _ (c .before .before .before .before .before .before .before .before .pre .1) in (e .t-low, omega (arith, c .before .before .before .before .before .before .before .before .pre .2 .words .few))
-
-empty-requires : tie.Need-empty-requires
-empty-requires c κs = search needs
 
 returns : tie.Need-returns
 returns c =
@@ -85,23 +47,8 @@ returns c =
     })
     (sym (has-goal .ensures) ∙ c .before .if1 .taken) (c .empty .ensures)
 
-up-to-requires : tie.Need-up-to-requires
-up-to-requires c κs = search needs
-
-minus-requires-2 : tie.Need-minus-requires-2
-minus-requires-2 c κs = search needs
-
-sweep-requires : tie.Need-sweep-requires
-sweep-requires c κs = search needs
-
 without-atom-requires : tie.Need-without-atom-requires
 without-atom-requires c κs = let e = ends-facts _ _ _ (c .before .before .before .before .before .before .before .before .before .before .before .before .before .pre .1) in (e .s-low, omega (arith, c .before .before .before .before .before .before .before .before .before .before .before .before .before .pre .2 .words .few))
-
-intersection-requires-2 : tie.Need-intersection-requires-2
-intersection-requires-2 c κs = search needs
-
-intersection-requires-3 : tie.Need-intersection-requires-3
-intersection-requires-3 c κs = search needs
 
 returns-2 : tie.Need-returns-2
 returns-2 c =
@@ -136,23 +83,6 @@ pub path-plan-spec : {M : Type 1} → statement M
 path-plan-spec =
     tie.close
     (tie.spec
-    sub-wide
-    element-copy-out-wide
-    wide-requires
-    row-requires
-    sub-near
-    near-requires
-    single-requires
-    minus-requires
-    intersection-requires
-    union-requires
-    contains-requires
-    empty-requires
-    returns
-    up-to-requires
-    minus-requires-2
-    sweep-requires
-    without-atom-requires
-    intersection-requires-2
-    intersection-requires-3
-    returns-2)
+    (λ c. search needs) (λ c. search needs) (λ c κs. search needs) row-requires (λ c. search needs) near-requires single-requires (λ c κs. search needs)
+    (λ c κs. search needs) (λ c κs. search needs) contains-requires (λ c κs. search needs) returns (λ c κs. search needs) (λ c κs. search needs)
+    (λ c κs. search needs) without-atom-requires (λ c κs. search needs) (λ c κs. search needs) returns-2)

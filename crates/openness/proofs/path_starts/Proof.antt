@@ -8,24 +8,12 @@ use Rattle.openness.proofs.Paths.{start-other, start-told}
 use borrow.Author.Needs.{needs}
 use Rattle.openness.proofs.path_starts.Statement.{statement}
 use Rattle.openness.proofs.path_starts.Tie as tie
-use Rattle.openness.proofs.path_starts.Reads as reads
-use Rattle.openness.proofs.path_starts.Lts as lts
-use Rattle.atomset.proofs.contains.Reads as contains-reads
-use Rattle.atomset.proofs.single.Reads as single-reads
-use Rattle.atomset.proofs.up_to.Reads as up-to-reads
-use Rattle.sweep.proofs.sweep.Reads as sweep-reads
 
 returns : tie.Need-returns
 returns c = sym (start-other (c .before .args .n) _ (c .before .args .s) (c .before .args .t) (c .before .pre .0 .irreflexive) (ends-facts _ _ _ (c .before .pre .1)) (c .before .args .c) (c .if1 .taken))
 
-up-to-requires : tie.Need-up-to-requires
-up-to-requires c κs = search needs
-
 single-requires : tie.Need-single-requires
 single-requires c κs = let e = ends-facts _ _ _ (c .before .before .pre .1) in (e .t-low, omega (arith, c .before .before .pre .0 .few))
-
-sweep-requires : tie.Need-sweep-requires
-sweep-requires c κs = search needs
 
 contains-requires : tie.Need-contains-requires
 contains-requires c κs = let e = ends-facts _ _ _ (c .before .before .before .before .pre .1) in (e .s-low, omega (arith, c .before .before .before .before .pre .0 .few))
@@ -34,6 +22,4 @@ returns-2 : tie.Need-returns-2
 returns-2 c = c .contains .ensures ∙ start-told (c .before .before .before .before .before .args .n) _ (c .before .before .before .before .before .args .s) (c .before .before .before .before .before .args .t) (c .before .before .before .before .before .pre .0 .irreflexive) (ends-facts _ _ _ (c .before .before .before .before .before .pre .1)) (c .before .before .before .before .before .args .c) (has (c .before .before .single .result)) (has (c .before .before .before .up-to .result)) (has (c .before .sweep .result)) (c .before .before .before .before .if1 .left) (c .before .before .single .ensures) (c .before .before .before .up-to .ensures) (c .before .sweep .ensures)
 
 pub path-starts-spec : {M : Type 1} → statement M
-path-starts-spec =
-    tie.close
-    (tie.spec returns up-to-requires single-requires sweep-requires contains-requires returns-2)
+path-starts-spec = tie.close (tie.spec returns (λ c κs. search needs) single-requires (λ c κs. search needs) contains-requires returns-2)

@@ -5,15 +5,6 @@ use Rattle.openness.proofs.Plans.{beginning-atoms, opened-rings, planne
 use borrow.Author.Needs.{needs}
 use Rattle.openness.proofs.plan_at.Statement.{statement}
 use Rattle.openness.proofs.plan_at.Tie as tie
-use Rattle.openness.proofs.plan_at.Reads as reads
-use Rattle.openness.proofs.plan_at.Lts as lts
-use Rattle.openness.proofs.alone.Reads as alone-reads
-use Rattle.openness.proofs.pair_opens.Reads as pair-opens-reads
-use Rattle.openness.proofs.path_plan.Reads as path-plan-reads
-use Rattle.openness.proofs.path_starts.Reads as path-starts-reads
-use Rattle.openness.proofs.ring_plan.Reads as ring-plan-reads
-use Rattle.openness.proofs.ring_starts.Reads as ring-starts-reads
-use Rattle.openness.proofs.wide.Reads as wide-reads
 
 path-starts-requires : tie.Need-path-starts-requires
 path-starts-requires c κs = (c .before .before .pre .0 .words, path-ends (c .before .before .pre .0) (c .before .if1 .taken))
@@ -39,12 +30,6 @@ alone-requires-2 c κs = (c .before .before .before .pre .1, omega (arith, c .be
 returns-3 : tie.Need-returns-3
 returns-3 c = planned-ring-start (c .before .before .before .before .pre .0) (c .before .before .before .if1 .left) _ _ _ (c .before .before .if3 .taken) (c .before .ring-starts .ensures) (c .alone2 .ensures)
 
-element-copy-out-wide : tie.Need-element-copy-out-wide
-element-copy-out-wide c = search needs
-
-wide-requires : tie.Need-wide-requires
-wide-requires c κs = search needs
-
 pair-opens-requires : tie.Need-pair-opens-requires
 pair-opens-requires c κs = let first = beginning-atoms (c .before .before .before .before .before .pre .0) 0 (omega (arith, c .before .before .if4 .taken)) in (c .before .before .before .before .before .pre .0 .words, omega (arith, c .wide .ensures), omega (arith, c .wide .ensures), c .before .before .before .before .before .pre .1, c .before .before .before .before .before .pre .2)
 
@@ -64,18 +49,5 @@ pub plan-at-spec : {M : Type 1} → statement M
 plan-at-spec =
     tie.close
     (tie.spec
-    path-starts-requires
-    alone-requires
-    returns
-    path-plan-requires
-    returns-2
-    ring-starts-requires
-    alone-requires-2
-    returns-3
-    element-copy-out-wide
-    wide-requires
-    pair-opens-requires
-    alone-requires-3
-    returns-4
-    ring-plan-requires
-    returns-5)
+    path-starts-requires alone-requires returns path-plan-requires returns-2 ring-starts-requires alone-requires-2 returns-3 (λ c. search needs)
+    (λ c κs. search needs) pair-opens-requires alone-requires-3 returns-4 ring-plan-requires returns-5)

@@ -12,42 +12,9 @@ use Rattle.openness.proofs.Rings.{ring-told}
 use borrow.Author.Needs.{needs}
 use Rattle.openness.proofs.ring_plan.Statement.{statement}
 use Rattle.openness.proofs.ring_plan.Tie as tie
-use Rattle.openness.proofs.ring_plan.Reads as reads
-use Rattle.openness.proofs.ring_plan.Lts as lts
-use Rattle.atomset.proofs.intersection.Reads as intersection-reads
-use Rattle.atomset.proofs.minus.Reads as minus-reads
-use Rattle.atomset.proofs.range.Reads as range-reads
-use Rattle.atomset.proofs.row.Reads as row-reads
-use Rattle.openness.proofs.near.Reads as near-reads
-use Rattle.openness.proofs.wide.Reads as wide-reads
-use Rattle.sweep.proofs.sweep.Reads as sweep-reads
-
-element-copy-out-wide : tie.Need-element-copy-out-wide
-element-copy-out-wide c = search needs
-
-wide-requires : tie.Need-wide-requires
-wide-requires c κs = search needs
-
-element-copy-out-wide-2 : tie.Need-element-copy-out-wide-2
-element-copy-out-wide-2 c = search needs
-
-wide-requires-2 : tie.Need-wide-requires-2
-wide-requires-2 c κs = search needs
-
-sub-wide : tie.Need-sub-wide
-sub-wide c = search needs
-
-element-copy-out-wide-3 : tie.Need-element-copy-out-wide-3
-element-copy-out-wide-3 c = search needs
-
-wide-requires-3 : tie.Need-wide-requires-3
-wide-requires-3 c κs = search needs
 
 row-requires : tie.Need-row-requires
 row-requires c κs = rw (c .before .before .before .before .wide .ensures) (opened-atoms (c .before .before .before .before .before .before .pre .1) (rings-lawful _ _) refl 0 (omega (arith, c .before .before .before .before .before .before .pre .0)))
-
-sub-near : tie.Need-sub-near
-sub-near c = search needs
 
 near-requires : tie.Need-near-requires
 near-requires c κs = near-asked (c .before .before .before .before .before .before .before .pre .1) (rings-lawful _ _) refl 1 (omega (arith, c .before .before .before .before .before .before .before .pre .0))
@@ -61,38 +28,8 @@ range-requires c κs = (rw (c .before .before .before .before .before .before .b
 range-requires-2 : tie.Need-range-requires-2
 range-requires-2 c κs = (rw (c .before .before .before .before .before .before .wide2 .ensures) (opened-atoms (c .before .before .before .before .before .before .before .before .before .before .pre .1) (rings-lawful _ _) refl 1 (omega (arith, c .before .before .before .before .before .before .before .before .before .before .pre .0)) .1), c .before .before .before .before .before .before .before .before .before .before .pre .1 .words .few)
 
-minus-requires : tie.Need-minus-requires
-minus-requires c κs = search needs
-
-intersection-requires : tie.Need-intersection-requires
-intersection-requires c κs = search needs
-
-intersection-requires-2 : tie.Need-intersection-requires-2
-intersection-requires-2 c κs = search needs
-
-minus-requires-2 : tie.Need-minus-requires-2
-minus-requires-2 c κs = search needs
-
-intersection-requires-3 : tie.Need-intersection-requires-3
-intersection-requires-3 c κs = search needs
-
-minus-requires-3 : tie.Need-minus-requires-3
-minus-requires-3 c κs = search needs
-
-minus-requires-4 : tie.Need-minus-requires-4
-minus-requires-4 c κs = search needs
-
-minus-requires-5 : tie.Need-minus-requires-5
-minus-requires-5 c κs = search needs
-
 sweep-requires : tie.Need-sweep-requires
 sweep-requires c κs = c .before .before .before .before .before .before .before .before .before .before .before .before .before .before .before .before .before .before .before .pre .1 .words .symmetric
-
-intersection-requires-4 : tie.Need-intersection-requires-4
-intersection-requires-4 c κs = search needs
-
-intersection-requires-5 : tie.Need-intersection-requires-5
-intersection-requires-5 c κs = search needs
 
 returns : tie.Need-returns
 returns c =
@@ -131,28 +68,7 @@ pub ring-plan-spec : {M : Type 1} → statement M
 ring-plan-spec =
     tie.close
     (tie.spec
-    element-copy-out-wide
-    wide-requires
-    element-copy-out-wide-2
-    wide-requires-2
-    sub-wide
-    element-copy-out-wide-3
-    wide-requires-3
-    row-requires
-    sub-near
-    near-requires
-    row-requires-2
-    range-requires
-    range-requires-2
-    minus-requires
-    intersection-requires
-    intersection-requires-2
-    minus-requires-2
-    intersection-requires-3
-    minus-requires-3
-    minus-requires-4
-    minus-requires-5
-    sweep-requires
-    intersection-requires-4
-    intersection-requires-5
-    returns)
+    (λ c. search needs) (λ c κs. search needs) (λ c. search needs) (λ c κs. search needs) (λ c. search needs) (λ c. search needs) (λ c κs. search needs)
+    row-requires (λ c. search needs) near-requires row-requires-2 range-requires range-requires-2 (λ c κs. search needs) (λ c κs. search needs)
+    (λ c κs. search needs) (λ c κs. search needs) (λ c κs. search needs) (λ c κs. search needs) (λ c κs. search needs) (λ c κs. search needs)
+    sweep-requires (λ c κs. search needs) (λ c κs. search needs) returns)

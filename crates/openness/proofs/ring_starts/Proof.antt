@@ -12,9 +12,6 @@ use Rattle.atomset.specs.Set.{linkedBy}
 use Rattle.openness.proofs.Rings.{pair-above, start-some, start-none}
 use Rattle.openness.proofs.ring_starts.Statement.{statement}
 use Rattle.openness.proofs.ring_starts.Tie as tie
-use Rattle.openness.proofs.ring_starts.Reads as reads
-use Rattle.openness.proofs.ring_starts.Lts as lts
-use Rattle.openness.proofs.pair_opens.Reads as pair-opens-reads
 
 abbrev Inv-loop : tie.InvT-loop
 Inv-loop table n c a₀ a = (c < a) × (a ≤ n + 1) × ((k : ℕ) → k < a → isOpen (rings n (linkedBy table)) (c ∷ k ∷ []) ≡ false)
@@ -37,9 +34,6 @@ returns c = sym (start-some (c .before .before .before .before .args .n) _ (c .b
 add-a-2 : tie.Need-add-a-2 Inv-loop μ-loop
 add-a-2 c = omega (arith, c .before .before .before .before .pre .0 .few)
 
-loop-less : tie.Need-loop-less Inv-loop μ-loop
-loop-less c = omega arith
-
 loop-again : tie.Need-loop-again Inv-loop μ-loop
 loop-again c = (omega arith, omega arith, below-more _ _ (c .before .before .before .loop .inv .2) (sym (c .before .pair-opens .ensures) ∙ c .if1 .left))
 
@@ -47,16 +41,4 @@ returns-2 : tie.Need-returns-2 Inv-loop μ-loop
 returns-2 c = sym (start-none (c .before .before .args .n) _ (c .before .before .pre .0 .irreflexive) (c .before .before .args .c) (c .before .before .pre .1) (c .before .loop .a) (c .loop-test .left) (c .before .loop .inv .2))
 
 pub ring-starts-spec : {M : Type 1} → statement M
-ring-starts-spec =
-    tie.close
-    (tie.spec
-    Inv-loop
-    μ-loop
-    add-a
-    loop-holds
-    pair-opens-requires
-    returns
-    add-a-2
-    loop-less
-    loop-again
-    returns-2)
+ring-starts-spec = tie.close (tie.spec Inv-loop μ-loop add-a loop-holds pair-opens-requires returns add-a-2 (λ c. omega arith) loop-again returns-2)

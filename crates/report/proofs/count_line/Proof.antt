@@ -12,45 +12,6 @@ use Rattle.report.proofs.count_line.Tie as tie
 returns : tie.Need-returns
 returns c = prints-none 61 (countLine (c .before .before .args .listed) (c .before .before .args .extensions) (c .before .before .args .trials)) (c .before .before .args .text .now) (c .if1 .taken)
 
-sub-write-number : tie.Need-sub-write-number
-sub-write-number c = search needs
-
-part-write-number-start : tie.Need-part-write-number-start
-part-write-number-start c = search needs
-
-part-write-number-end : tie.Need-part-write-number-end
-part-write-number-end c = search needs
-
-write-number-requires : tie.Need-write-number-requires
-write-number-requires c κs = search needs
-
-sub-write-number-2 : tie.Need-sub-write-number-2
-sub-write-number-2 c = search needs
-
-part-write-number-start-2 : tie.Need-part-write-number-start-2
-part-write-number-start-2 c = search needs
-
-part-write-number-end-2 : tie.Need-part-write-number-end-2
-part-write-number-end-2 c = search needs
-
-write-number-requires-2 : tie.Need-write-number-requires-2
-write-number-requires-2 c κs = search needs
-
-sub-write-number-3 : tie.Need-sub-write-number-3
-sub-write-number-3 c = search needs
-
-part-write-number-start-3 : tie.Need-part-write-number-start-3
-part-write-number-start-3 c = search needs
-
-part-write-number-end-3 : tie.Need-part-write-number-end-3
-part-write-number-end-3 c = search needs
-
-write-number-requires-3 : tie.Need-write-number-requires-3
-write-number-requires-3 c κs = search needs
-
-slice-write-text : tie.Need-slice-write-text
-slice-write-text c = search needs
-
 same-length : tie.Need-same-length
 same-length c =
     let start = c .before .before .before .before .before .before .before .before .before .before .before .before .before .before in
@@ -68,19 +29,5 @@ pub count-line-spec : {M : Type 1} → statement M
 count-line-spec =
     tie.close
     (tie.spec
-    returns
-    sub-write-number
-    part-write-number-start
-    part-write-number-end
-    write-number-requires
-    sub-write-number-2
-    part-write-number-start-2
-    part-write-number-end-2
-    write-number-requires-2
-    sub-write-number-3
-    part-write-number-start-3
-    part-write-number-end-3
-    write-number-requires-3
-    slice-write-text
-    same-length
-    returns-2)
+    returns (λ c. search needs) (λ c. search needs) (λ c. search needs) (λ c κs. search needs) (λ c. search needs) (λ c. search needs) (λ c. search needs)
+    (λ c κs. search needs) (λ c. search needs) (λ c. search needs) (λ c. search needs) (λ c κs. search needs) (λ c. search needs) same-length returns-2)

@@ -17,9 +17,6 @@ word-kept c k = length-sets (c .before .before .args .text .now) 0 (take k refus
 returns : tie.Need-returns
 returns c = prints-none 12 (refusalLine (c .before .before .args .number)) (c .before .before .args .text .now) (c .if1 .taken)
 
-slice-write-text : tie.Need-slice-write-text
-slice-write-text c = search needs
-
 slice-write-text-2 : tie.Need-slice-write-text-2
 slice-write-text-2 c = omega (arith, word-kept c 1)
 
@@ -38,17 +35,8 @@ slice-write-text-6 c = omega (arith, word-kept c 5)
 slice-write-text-7 : tie.Need-slice-write-text-7
 slice-write-text-7 c = omega (arith, word-kept c 6)
 
-sub-write-number : tie.Need-sub-write-number
-sub-write-number c = search needs
-
-part-write-number-start : tie.Need-part-write-number-start
-part-write-number-start c = search needs
-
 part-write-number-end : tie.Need-part-write-number-end
 part-write-number-end c = omega (arith, word-kept c 7)
-
-write-number-requires : tie.Need-write-number-requires
-write-number-requires c κs = search needs
 
 slice-write-text-8 : tie.Need-slice-write-text-8
 slice-write-text-8 c = omega (arith, word-kept (c .before .before .before .before) 7)
@@ -71,18 +59,5 @@ pub refusal-line-spec : {M : Type 1} → statement M
 refusal-line-spec =
     tie.close
     (tie.spec
-    returns
-    slice-write-text
-    slice-write-text-2
-    slice-write-text-3
-    slice-write-text-4
-    slice-write-text-5
-    slice-write-text-6
-    slice-write-text-7
-    sub-write-number
-    part-write-number-start
-    part-write-number-end
-    write-number-requires
-    slice-write-text-8
-    same-length
-    returns-2)
+    returns (λ c. search needs) slice-write-text-2 slice-write-text-3 slice-write-text-4 slice-write-text-5 slice-write-text-6 slice-write-text-7
+    (λ c. search needs) (λ c. search needs) part-write-number-end (λ c κs. search needs) slice-write-text-8 same-length returns-2)

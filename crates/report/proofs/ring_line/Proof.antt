@@ -22,44 +22,11 @@ room c = omega arith
 returns : tie.Need-returns Inv-loop μ-loop
 returns c = prints-none (4 * length (c .before .before .before .args .atoms .now) + 1) (ringLine (c .before .before .before .args .atoms .now)) (c .before .before .before .args .text .now) (omega arith)
 
-mul-end : tie.Need-mul-end Inv-loop μ-loop
-mul-end c = omega arith
-
 returns-2 : tie.Need-returns-2 Inv-loop μ-loop
 returns-2 c = prints-none (4 * length (c .before .before .before .before .args .atoms .now) + 1) (ringLine (c .before .before .before .before .args .atoms .now)) (c .before .before .before .before .args .text .now) (omega arith)
 
 loop-holds : tie.Need-loop-holds Inv-loop μ-loop
 loop-holds c = (omega arith, refl, ring-starts (c .before .before .before .before .args .text .now) (c .before .before .before .before .args .atoms .now) (room c))
-
-mul-at : tie.Need-mul-at Inv-loop μ-loop
-mul-at c = omega arith
-
-add-next : tie.Need-add-next Inv-loop μ-loop
-add-next c = omega arith
-
-sub-write-number : tie.Need-sub-write-number Inv-loop μ-loop
-sub-write-number c = omega arith
-
-part-write-number-start : tie.Need-part-write-number-start Inv-loop μ-loop
-part-write-number-start c = omega arith
-
-part-write-number-end : tie.Need-part-write-number-end Inv-loop μ-loop
-part-write-number-end c = omega arith
-
-shared-slice-read-wide : tie.Need-shared-slice-read-wide Inv-loop μ-loop
-shared-slice-read-wide c = omega arith
-
-wide-requires : tie.Need-wide-requires Inv-loop μ-loop
-wide-requires c κs = tt
-
-write-number-requires : tie.Need-write-number-requires Inv-loop μ-loop
-write-number-requires c κs = tt
-
-add-i : tie.Need-add-i Inv-loop μ-loop
-add-i c = omega arith
-
-loop-less : tie.Need-loop-less Inv-loop μ-loop
-loop-less c = omega arith
 
 loop-again : tie.Need-loop-again Inv-loop μ-loop
 loop-again c =
@@ -69,12 +36,6 @@ loop-again c =
     let text : putMid (4 * loop .i) (4 * loop .i + 4 - 4 * loop .i) (loop .text) (c .before .before .write-number .last .0) ≡ onto (fieldsText 4 (take (loop .i + 1) (start .args .atoms .now))) (start .args .text .now) =
     ring-goes-on (start .args .text .now) (start .args .atoms .now) (room (c .before .before .before .before .before .before .before .before)) (loop .text) (c .before .before .write-number .last .0) (loop .i) (c .before .before .before .before .before .before .loop-test .taken) (loop .inv .2) (rw number at (c .before .before .write-number .ensures)) in
     (omega arith, ap length text ∙ ring-kept (start .args .text .now) (start .args .atoms .now) (room (c .before .before .before .before .before .before .before .before)) (loop .i + 1) (omega arith), text)
-
-slice-write-text : tie.Need-slice-write-text Inv-loop μ-loop
-slice-write-text c = omega arith
-
-add-result : tie.Need-add-result Inv-loop μ-loop
-add-result c = omega arith
 
 same-length : tie.Need-same-length Inv-loop μ-loop
 same-length c = length-set (c .before .loop .text) (4 * length (c .before .before .before .before .before .before .args .atoms .now)) 10 ∙ c .before .loop .inv .1
@@ -90,24 +51,6 @@ pub ring-line-spec : {M : Type 1} → statement M
 ring-line-spec =
     tie.close
     (tie.spec
-    Inv-loop
-    μ-loop
-    returns
-    mul-end
-    returns-2
-    loop-holds
-    mul-at
-    add-next
-    sub-write-number
-    part-write-number-start
-    part-write-number-end
-    shared-slice-read-wide
-    wide-requires
-    write-number-requires
-    add-i
-    loop-less
-    loop-again
-    slice-write-text
-    add-result
-    same-length
-    returns-3)
+    Inv-loop μ-loop returns (λ c. omega arith) returns-2 loop-holds (λ c. omega arith) (λ c. omega arith) (λ c. omega arith) (λ c. omega arith)
+    (λ c. omega arith) (λ c. omega arith) (λ c κs. tt) (λ c κs. tt) (λ c. omega arith) (λ c. omega arith) loop-again (λ c. omega arith) (λ c. omega arith)
+    same-length returns-3)

@@ -23,18 +23,6 @@ returns c = prints-none (4 * length (c .before .before .before .args .records .n
 loop-holds : tie.Need-loop-holds Inv-loop μ-loop
 loop-holds c = printing-starts (c .before .before .before .args .records .now) (c .before .before .before .args .text .now) (room c)
 
-add-first : tie.Need-add-first Inv-loop μ-loop
-add-first c = omega arith
-
-shared-slice-read-as-length : tie.Need-shared-slice-read-as-length Inv-loop μ-loop
-shared-slice-read-as-length c = omega arith
-
-as-length-requires : tie.Need-as-length-requires Inv-loop μ-loop
-as-length-requires c κs = tt
-
-sub-if2 : tie.Need-sub-if2 Inv-loop μ-loop
-sub-if2 c = omega arith
-
 same-length : tie.Need-same-length Inv-loop μ-loop
 same-length c = c .before .before .before .before .loop .inv .size
 
@@ -45,30 +33,6 @@ returns-2 c =
     printing-ends (start .args .records .now) (start .args .text .now) (room (c .before .before .before .before .before)) (loop .text) (loop .used) (loop .i) (loop .inv)
     (printing-cut (start .args .records .now) (start .args .text .now) (room (c .before .before .before .before .before)) (loop .text) (loop .used) (loop .i) (c .before .as-length .result) (loop .inv) (c .before .before .before .loop-test .taken) (c .before .as-length .ensures) (c .if2 .taken))
 
-add-next : tie.Need-add-next Inv-loop μ-loop
-add-next c = omega arith
-
-sub-ring-line : tie.Need-sub-ring-line Inv-loop μ-loop
-sub-ring-line c = omega arith
-
-part-ring-line-start : tie.Need-part-ring-line-start Inv-loop μ-loop
-part-ring-line-start c = omega arith
-
-part-ring-line-end : tie.Need-part-ring-line-end Inv-loop μ-loop
-part-ring-line-end c = omega arith
-
-sub-ring-line-2 : tie.Need-sub-ring-line-2 Inv-loop μ-loop
-sub-ring-line-2 c = omega arith
-
-part-ring-line-start-2 : tie.Need-part-ring-line-start-2 Inv-loop μ-loop
-part-ring-line-start-2 c = omega arith
-
-part-ring-line-end-2 : tie.Need-part-ring-line-end-2 Inv-loop μ-loop
-part-ring-line-end-2 c = omega arith
-
-ring-line-requires : tie.Need-ring-line-requires Inv-loop μ-loop
-ring-line-requires c κs = tt
-
 loop-again : tie.Need-loop-again Inv-loop μ-loop
 loop-again c =
     let start = c .before .before .before .before .before .before .before .before .before .before .before .before .before in
@@ -78,9 +42,6 @@ loop-again c =
 
 add-used : tie.Need-add-used Inv-loop μ-loop
 add-used c = omega (arith, loop-again c .short, loop-again c .within, room (c .before .before .before .before .before .before .before .before .before .before))
-
-loop-less : tie.Need-loop-less Inv-loop μ-loop
-loop-less c = omega arith
 
 same-length-2 : tie.Need-same-length-2 Inv-loop μ-loop
 same-length-2 c = c .before .loop .inv .size
@@ -96,26 +57,6 @@ pub ring-lines-spec : {M : Type 1} → statement M
 ring-lines-spec =
     tie.close
     (tie.spec
-    Inv-loop
-    μ-loop
-    returns
-    loop-holds
-    add-first
-    shared-slice-read-as-length
-    as-length-requires
-    sub-if2
-    same-length
-    returns-2
-    add-next
-    sub-ring-line
-    part-ring-line-start
-    part-ring-line-end
-    sub-ring-line-2
-    part-ring-line-start-2
-    part-ring-line-end-2
-    ring-line-requires
-    add-used
-    loop-less
-    loop-again
-    same-length-2
-    returns-3)
+    Inv-loop μ-loop returns loop-holds (λ c. omega arith) (λ c. omega arith) (λ c κs. tt) (λ c. omega arith) same-length returns-2 (λ c. omega arith)
+    (λ c. omega arith) (λ c. omega arith) (λ c. omega arith) (λ c. omega arith) (λ c. omega arith) (λ c. omega arith) (λ c κs. tt) add-used
+    (λ c. omega arith) loop-again same-length-2 returns-3)

@@ -30,9 +30,6 @@ slice-reshare-prefix-write-all c = c .before .before .before .before .before .ta
 slice-aggregate-write-all : tie.Need-slice-aggregate-write-all Inv-loop μ-loop
 slice-aggregate-write-all c = sym (length-take-le (c .before .before .before .before .before .before .take-turn .result .size) (c .before .before .before .before .before .before .take-turn .last .1 .1 .1 .0) (c .before .before .before .before .before .before .take-turn .ensures .within))
 
-write-all-requires : tie.Need-write-all-requires Inv-loop μ-loop
-write-all-requires c κs = tt
-
 same-length : tie.Need-same-length Inv-loop μ-loop
 same-length c = c .before .before .before .before .before .before .before .before .take-turn .kept .1 .1 .0 ∙ c .before .before .before .before .before .before .before .before .before .before .before .loop .inv .0
 
@@ -73,18 +70,5 @@ pub list-rings-spec : {M : Type 1} → statement M
 list-rings-spec =
     tie.close
     (tie.spec
-    Inv-loop
-    μ-loop
-    loop-holds
-    take-turn-requires
-    slice-reshare-prefix-write-all
-    slice-aggregate-write-all
-    write-all-requires
-    same-length
-    same-length-2
-    returns
-    same-length-3
-    same-length-4
-    returns-2
-    loop-less
-    loop-again)
+    Inv-loop μ-loop loop-holds take-turn-requires slice-reshare-prefix-write-all slice-aggregate-write-all (λ c κs. tt) same-length same-length-2 returns
+    same-length-3 same-length-4 returns-2 loop-less loop-again)

@@ -6,31 +6,11 @@ use borrow.Author.Needs.{needs}
 use Rattle.ringlist.proofs.print_counts.Statement.{statement}
 use Rattle.ringlist.proofs.print_counts.Tie as tie
 
-slice-aggregate-count-line : tie.Need-slice-aggregate-count-line
-slice-aggregate-count-line c = search needs
-
-count-line-requires : tie.Need-count-line-requires
-count-line-requires c κs = search needs
-
 array-share-prefix-text : tie.Need-array-share-prefix-text
 array-share-prefix-text c = printed-within _ _ _ (c .before .count-line .ensures)
 
 slice-aggregate-write-all : tie.Need-slice-aggregate-write-all
 slice-aggregate-write-all c = sym (length-take-le (c .before .before .count-line .result) (c .before .before .count-line .last .1 .1 .1 .0) (printed-within _ _ _ (c .before .before .count-line .ensures)))
 
-write-all-requires : tie.Need-write-all-requires
-write-all-requires c κs = search needs
-
-returns : tie.Need-returns
-returns c = search needs
-
 pub print-counts-spec : {M : Type 1} → statement M
-print-counts-spec =
-    tie.close
-    (tie.spec
-    slice-aggregate-count-line
-    count-line-requires
-    array-share-prefix-text
-    slice-aggregate-write-all
-    write-all-requires
-    returns)
+print-counts-spec = tie.close (tie.spec (λ c. search needs) (λ c κs. search needs) array-share-prefix-text slice-aggregate-write-all (λ c κs. search needs) (λ c. search needs))

@@ -6,31 +6,11 @@ use borrow.Author.Needs.{needs}
 use Rattle.ringlist.proofs.print_refusal.Statement.{statement}
 use Rattle.ringlist.proofs.print_refusal.Tie as tie
 
-slice-aggregate-refusal-line : tie.Need-slice-aggregate-refusal-line
-slice-aggregate-refusal-line c = search needs
-
-refusal-line-requires : tie.Need-refusal-line-requires
-refusal-line-requires c κs = search needs
-
 array-share-prefix-text : tie.Need-array-share-prefix-text
 array-share-prefix-text c = printed-within _ _ _ (c .before .refusal-line .ensures)
 
 slice-aggregate-write-all : tie.Need-slice-aggregate-write-all
 slice-aggregate-write-all c = sym (length-take-le (c .before .before .refusal-line .result) (c .before .before .refusal-line .last .1 .0) (printed-within _ _ _ (c .before .before .refusal-line .ensures)))
 
-write-all-requires : tie.Need-write-all-requires
-write-all-requires c κs = search needs
-
-returns : tie.Need-returns
-returns c = search needs
-
 pub print-refusal-spec : {M : Type 1} → statement M
-print-refusal-spec =
-    tie.close
-    (tie.spec
-    slice-aggregate-refusal-line
-    refusal-line-requires
-    array-share-prefix-text
-    slice-aggregate-write-all
-    write-all-requires
-    returns)
+print-refusal-spec = tie.close (tie.spec (λ c. search needs) (λ c κs. search needs) array-share-prefix-text slice-aggregate-write-all (λ c κs. search needs) (λ c. search needs))

@@ -6,26 +6,11 @@ use borrow.Author.Needs.{needs}
 use Rattle.ringlist.proofs.take_turn.Statement.{statement}
 use Rattle.ringlist.proofs.take_turn.Tie as tie
 
-run-requires : tie.Need-run-requires
-run-requires c κs = search needs
-
 slice-reshare-prefix-ring-lines : tie.Need-slice-reshare-prefix-ring-lines
 slice-reshare-prefix-ring-lines c = used-within _ _ _ _ (c .before .before .run .ensures)
 
 slice-aggregate-ring-lines : tie.Need-slice-aggregate-ring-lines
 slice-aggregate-ring-lines c = sym (length-take-le (c .before .before .before .run .result .used) (c .before .before .before .run .last .1 .1 .1 .0) (used-within _ _ _ _ (c .before .before .before .run .ensures)))
-
-ring-lines-requires : tie.Need-ring-lines-requires
-ring-lines-requires c κs = search needs
-
-is-last-requires : tie.Need-is-last-requires
-is-last-requires c κs = search needs
-
-same-length : tie.Need-same-length
-same-length c = search needs
-
-same-length-2 : tie.Need-same-length-2
-same-length-2 c = search needs
 
 returns : tie.Need-returns
 returns c =
@@ -38,11 +23,5 @@ pub take-turn-spec : {M : Type 1} → statement M
 take-turn-spec =
     tie.close
     (tie.spec
-    run-requires
-    slice-reshare-prefix-ring-lines
-    slice-aggregate-ring-lines
-    ring-lines-requires
-    is-last-requires
-    same-length
-    same-length-2
-    returns)
+    (λ c κs. search needs) slice-reshare-prefix-ring-lines slice-aggregate-ring-lines (λ c κs. search needs) (λ c κs. search needs) (λ c. search needs)
+    (λ c. search needs) returns)

@@ -22,56 +22,11 @@ abbrev μ-loop : tie.MeasureT-loop
 loop-holds : tie.Need-loop-holds Inv-loop μ-loop
 loop-holds c = (search needs, refl)
 
-add-wide : tie.Need-add-wide Inv-loop μ-loop
-add-wide c = omega arith
-
-mul-wide : tie.Need-mul-wide Inv-loop μ-loop
-mul-wide c = omega arith
-
-mul-wide-2 : tie.Need-mul-wide-2 Inv-loop μ-loop
-mul-wide-2 c = omega arith
-
-element-copy-out-wide : tie.Need-element-copy-out-wide Inv-loop μ-loop
-element-copy-out-wide c = omega arith
-
-wide-requires : tie.Need-wide-requires Inv-loop μ-loop
-wide-requires c κs = tt
-
-is-atom-requires : tie.Need-is-atom-requires Inv-loop μ-loop
-is-atom-requires c κs = tt
-
 returns : tie.Need-returns Inv-loop μ-loop
 returns c = sym (atoms-kept-is _ _ _ ∙ all-fails _ (within _ _) _ (c .before .before .before .before .loop-test .taken) (within-left (c .before .before .before .before .before .before .args .values .now) (c .before .before .before .before .before .loop .k) (c .before .before .before .before .before .before .args .n) (rw (c .before .before .wide .ensures) at (sym (c .before .is-atom .ensures)) ∙ not-true _ (c .if1 .taken))))
 
-add-wide-2 : tie.Need-add-wide-2 Inv-loop μ-loop
-add-wide-2 c = omega arith
-
-mul-wide-3 : tie.Need-mul-wide-3 Inv-loop μ-loop
-mul-wide-3 c = omega arith
-
-add-wide-3 : tie.Need-add-wide-3 Inv-loop μ-loop
-add-wide-3 c = omega arith
-
-mul-wide-4 : tie.Need-mul-wide-4 Inv-loop μ-loop
-mul-wide-4 c = omega arith
-
-element-copy-out-wide-2 : tie.Need-element-copy-out-wide-2 Inv-loop μ-loop
-element-copy-out-wide-2 c = omega arith
-
-wide-requires-2 : tie.Need-wide-requires-2 Inv-loop μ-loop
-wide-requires-2 c κs = tt
-
-is-atom-requires-2 : tie.Need-is-atom-requires-2 Inv-loop μ-loop
-is-atom-requires-2 c κs = tt
-
 returns-2 : tie.Need-returns-2 Inv-loop μ-loop
 returns-2 c = sym (atoms-kept-is _ _ _ ∙ all-fails _ (within _ _) _ (c .before .before .before .before .before .before .before .before .loop-test .taken) (within-right (c .before .before .before .before .before .before .before .before .before .before .args .values .now) (c .before .before .before .before .before .before .before .before .before .loop .k) (c .before .before .before .before .before .before .before .before .before .before .args .n) (rw (c .before .before .before .before .before .before .wide .ensures) at (sym (c .before .before .before .before .before .is-atom .ensures)) ∙ not-false _ (c .before .before .before .before .if1 .left)) (rw (c .before .before .wide2 .ensures) at (sym (c .before .is-atom2 .ensures)) ∙ not-true _ (c .if2 .taken))))
-
-add-k : tie.Need-add-k Inv-loop μ-loop
-add-k c = omega arith
-
-loop-less : tie.Need-loop-less Inv-loop μ-loop
-loop-less c = omega arith
 
 loop-again : tie.Need-loop-again Inv-loop μ-loop
 loop-again c = (omega arith, all-more _ (within _ _) (c .before .before .before .before .before .before .before .before .before .loop .inv .1) (within-both (c .before .before .before .before .before .before .before .before .before .before .args .values .now) (c .before .before .before .before .before .before .before .before .before .loop .k) (c .before .before .before .before .before .before .before .before .before .before .args .n) (rw (c .before .before .before .before .before .before .wide .ensures) at (sym (c .before .before .before .before .before .is-atom .ensures)) ∙ not-false _ (c .before .before .before .before .if1 .left)) (rw (c .before .before .wide2 .ensures) at (sym (c .before .is-atom2 .ensures)) ∙ not-false _ (c .if2 .left))))
@@ -83,25 +38,6 @@ pub atoms-kept-spec : {M : Type 1} → statement M
 atoms-kept-spec =
     tie.close
     (tie.spec
-    Inv-loop
-    μ-loop
-    loop-holds
-    add-wide
-    mul-wide
-    mul-wide-2
-    element-copy-out-wide
-    wide-requires
-    is-atom-requires
-    returns
-    add-wide-2
-    mul-wide-3
-    add-wide-3
-    mul-wide-4
-    element-copy-out-wide-2
-    wide-requires-2
-    is-atom-requires-2
-    returns-2
-    add-k
-    loop-less
-    loop-again
-    returns-3)
+    Inv-loop μ-loop loop-holds (λ c. omega arith) (λ c. omega arith) (λ c. omega arith) (λ c. omega arith) (λ c κs. tt) (λ c κs. tt) returns
+    (λ c. omega arith) (λ c. omega arith) (λ c. omega arith) (λ c. omega arith) (λ c. omega arith) (λ c κs. tt) (λ c κs. tt) returns-2 (λ c. omega arith)
+    (λ c. omega arith) loop-again returns-3)

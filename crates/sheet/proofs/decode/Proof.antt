@@ -24,14 +24,8 @@ abbrev μ-loop : tie.MeasureT-loop
 loop-holds : tie.Need-loop-holds Inv-loop μ-loop
 loop-holds c = (search needs, refl, refl, decodes-none _ _)
 
-line-requires : tie.Need-line-requires Inv-loop μ-loop
-line-requires c κs = omega arith
-
 returns : tie.Need-returns Inv-loop μ-loop
 returns c = record { ok = sym (all-fails _ (lineKept _) _ (c .before .before .before .loop-test .taken) (sym (c .before .before .line .ensures .ok) ∙ not-true _ (c .if1 .taken))); values = λ e. absurd (true≢false (sym e)) }
-
-slot-requires : tie.Need-slot-requires Inv-loop μ-loop
-slot-requires c κs = tt
 
 mul-values : tie.Need-mul-values Inv-loop μ-loop
 mul-values c = omega (arith, c .slot .ensures)
@@ -54,12 +48,6 @@ mul-values-4 c = omega (arith, c .slot .ensures)
 array-write-values-2 : tie.Need-array-write-values-2 Inv-loop μ-loop
 array-write-values-2 c = omega (arith, c .slot .ensures)
 
-add-i : tie.Need-add-i Inv-loop μ-loop
-add-i c = omega arith
-
-loop-less : tie.Need-loop-less Inv-loop μ-loop
-loop-less c = omega arith
-
 loop-again : tie.Need-loop-again Inv-loop μ-loop
 loop-again c =
     let ok = not-false _ (c .before .if1 .left) in
@@ -77,20 +65,5 @@ pub decode-spec : {M : Type 1} → statement M
 decode-spec =
     tie.close
     (tie.spec
-    Inv-loop
-    μ-loop
-    loop-holds
-    line-requires
-    returns
-    slot-requires
-    mul-values
-    mul-values-2
-    array-write-values
-    mul-values-3
-    add-values
-    mul-values-4
-    array-write-values-2
-    add-i
-    loop-less
-    loop-again
-    returns-2)
+    Inv-loop μ-loop loop-holds (λ c κs. omega arith) returns (λ c κs. tt) mul-values mul-values-2 array-write-values mul-values-3 add-values mul-values-4
+    array-write-values-2 (λ c. omega arith) (λ c. omega arith) loop-again returns-2)

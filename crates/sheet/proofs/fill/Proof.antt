@@ -21,50 +21,14 @@ abbrev μ-loop : tie.MeasureT-loop
 loop-holds : tie.Need-loop-holds Inv-loop μ-loop
 loop-holds c = (search needs, rows-none _, twice-zero _)
 
-add-wide : tie.Need-add-wide Inv-loop μ-loop
-add-wide c = omega arith
-
-mul-wide : tie.Need-mul-wide Inv-loop μ-loop
-mul-wide c = omega arith
-
-mul-wide-2 : tie.Need-mul-wide-2 Inv-loop μ-loop
-mul-wide-2 c = omega arith
-
-element-copy-out-wide : tie.Need-element-copy-out-wide Inv-loop μ-loop
-element-copy-out-wide c = omega arith
-
-wide-requires : tie.Need-wide-requires Inv-loop μ-loop
-wide-requires c κs = tt
-
 sub-i : tie.Need-sub-i Inv-loop μ-loop
 sub-i c = rw (c .wide .ensures) (stored-ends (c .before .before .before .before .args .n) (c .before .before .before .before .args .values .now) (c .before .before .before .before .args .m) (kept-of (c .before .before .before .before .args .n) (storedBond (c .before .before .before .before .args .values .now)) (c .before .before .before .before .args .m) (c .before .before .before .before .pre .0) (c .before .before .before .before .pre .2) (c .before .before .before .before .pre .3)) (c .before .before .before .loop .k) (c .before .before .loop-test .taken) .0)
-
-add-wide-2 : tie.Need-add-wide-2 Inv-loop μ-loop
-add-wide-2 c = omega arith
-
-mul-wide-3 : tie.Need-mul-wide-3 Inv-loop μ-loop
-mul-wide-3 c = omega arith
-
-add-wide-3 : tie.Need-add-wide-3 Inv-loop μ-loop
-add-wide-3 c = omega arith
-
-mul-wide-4 : tie.Need-mul-wide-4 Inv-loop μ-loop
-mul-wide-4 c = omega arith
-
-element-copy-out-wide-2 : tie.Need-element-copy-out-wide-2 Inv-loop μ-loop
-element-copy-out-wide-2 c = omega arith
-
-wide-requires-2 : tie.Need-wide-requires-2 Inv-loop μ-loop
-wide-requires-2 c κs = tt
 
 sub-j : tie.Need-sub-j Inv-loop μ-loop
 sub-j c = rw (c .wide2 .ensures) (stored-ends (c .before .before .before .before .before .before .args .n) (c .before .before .before .before .before .before .args .values .now) (c .before .before .before .before .before .before .args .m) (kept-of (c .before .before .before .before .before .before .args .n) (storedBond (c .before .before .before .before .before .before .args .values .now)) (c .before .before .before .before .before .before .args .m) (c .before .before .before .before .before .before .pre .0) (c .before .before .before .before .before .before .pre .2) (c .before .before .before .before .before .before .pre .3)) (c .before .before .before .before .before .loop .k) (c .before .before .before .before .loop-test .taken) .2)
 
 linked-requires : tie.Need-linked-requires Inv-loop μ-loop
 linked-requires c κs = let e = stored-ends (c .before .before .before .before .before .before .before .args .n) (c .before .before .before .before .before .before .before .args .values .now) (c .before .before .before .before .before .before .before .args .m) (kept-of (c .before .before .before .before .before .before .before .args .n) (storedBond (c .before .before .before .before .before .before .before .args .values .now)) (c .before .before .before .before .before .before .before .args .m) (c .before .before .before .before .before .before .before .pre .0) (c .before .before .before .before .before .before .before .pre .2) (c .before .before .before .before .before .before .before .pre .3)) (c .before .before .before .before .before .before .loop .k) (c .before .before .before .before .before .loop-test .taken) in omega (arith, c .before .before .before .wide .ensures, c .before .wide2 .ensures, c .before .before .before .before .before .before .before .pre .0)
-
-refused-requires : tie.Need-refused-requires Inv-loop μ-loop
-refused-requires c κs = tt
 
 returns : tie.Need-returns Inv-loop μ-loop
 returns c = c .refused .ensures ∙ sym (bonds-twice _ _ _ (c .before .before .before .before .before .before .before .before .before .before .pre .2) (c .before .before .before .before .before .before .before .before .before .before .pre .3) (twice-found (c .before .before .before .before .before .before .before .before .before .before .args .n) (storedBond (c .before .before .before .before .before .before .before .before .before .before .args .values .now)) (c .before .before .before .before .before .before .before .before .before .before .args .m) (kept-of (c .before .before .before .before .before .before .before .before .before .before .args .n) (storedBond (c .before .before .before .before .before .before .before .before .before .before .args .values .now)) (c .before .before .before .before .before .before .before .before .before .before .args .m) (c .before .before .before .before .before .before .before .before .before .before .pre .0) (c .before .before .before .before .before .before .before .before .before .before .pre .2) (c .before .before .before .before .before .before .before .before .before .before .pre .3)) (c .before .before .before .before .before .before .before .before .before .loop .k) (c .before .before .before .before .before .before .before .before .loop-test .taken) (sym (cell-here (c .before .before .before .before .before .before .before .before .before .before .args .values .now) (c .before .before .before .before .before .before .before .before .before .loop .k) _ _ _ (c .before .before .before .before .before .before .wide .ensures) (c .before .before .before .before .wide2 .ensures) (c .before .before .before .before .before .before .before .before .before .loop .inv .1)) ∙ sym (c .before .before .linked .ensures) ∙ c .before .if1 .taken)))
@@ -81,12 +45,6 @@ slice-aggregate-link-2 c = sym (c .before .before .link .kept .0 ∙ rows-size (
 link-requires-2 : tie.Need-link-requires-2 Inv-loop μ-loop
 link-requires-2 c κs = let e = stored-ends (c .before .before .before .before .before .before .before .before .before .before .before .before .before .args .n) (c .before .before .before .before .before .before .before .before .before .before .before .before .before .args .values .now) (c .before .before .before .before .before .before .before .before .before .before .before .before .before .args .m) (kept-of (c .before .before .before .before .before .before .before .before .before .before .before .before .before .args .n) (storedBond (c .before .before .before .before .before .before .before .before .before .before .before .before .before .args .values .now)) (c .before .before .before .before .before .before .before .before .before .before .before .before .before .args .m) (c .before .before .before .before .before .before .before .before .before .before .before .before .before .pre .0) (c .before .before .before .before .before .before .before .before .before .before .before .before .before .pre .2) (c .before .before .before .before .before .before .before .before .before .before .before .before .before .pre .3)) (c .before .before .before .before .before .before .before .before .before .before .before .before .loop .k) (c .before .before .before .before .before .before .before .before .before .before .before .loop-test .taken) in (omega (arith, c .before .before .before .before .before .before .before .wide2 .ensures, c .before .before .before .before .before .before .before .before .before .before .before .before .before .pre .0), omega (arith, c .before .before .before .before .before .before .before .before .before .wide .ensures, c .before .before .before .before .before .before .before .before .before .before .before .before .before .pre .0), c .before .before .link .kept .0 ∙ rows-size (c .before .before .before .before .before .before .before .before .before .before .before .before .before .args .n) (c .before .before .before .before .before .before .before .before .before .before .before .before .before .args .values .now) (c .before .before .before .before .before .before .before .before .before .before .before .before .before .args .m) (kept-of (c .before .before .before .before .before .before .before .before .before .before .before .before .before .args .n) (storedBond (c .before .before .before .before .before .before .before .before .before .before .before .before .before .args .values .now)) (c .before .before .before .before .before .before .before .before .before .before .before .before .before .args .m) (c .before .before .before .before .before .before .before .before .before .before .before .before .before .pre .0) (c .before .before .before .before .before .before .before .before .before .before .before .before .before .pre .2) (c .before .before .before .before .before .before .before .before .before .before .before .before .before .pre .3)) (c .before .before .before .before .before .before .before .before .before .before .before .before .loop .k) _ (c .before .before .before .before .before .before .before .before .before .before .before .before .loop .inv .0) (c .before .before .before .before .before .before .before .before .before .before .before .before .loop .inv .1))
 
-add-k : tie.Need-add-k Inv-loop μ-loop
-add-k c = omega arith
-
-loop-less : tie.Need-loop-less Inv-loop μ-loop
-loop-less c = omega arith
-
 loop-again : tie.Need-loop-again Inv-loop μ-loop
 loop-again c = (
   omega arith,
@@ -101,30 +59,6 @@ pub fill-spec : {M : Type 1} → statement M
 fill-spec =
     tie.close
     (tie.spec
-    Inv-loop
-    μ-loop
-    loop-holds
-    add-wide
-    mul-wide
-    mul-wide-2
-    element-copy-out-wide
-    wide-requires
-    sub-i
-    add-wide-2
-    mul-wide-3
-    add-wide-3
-    mul-wide-4
-    element-copy-out-wide-2
-    wide-requires-2
-    sub-j
-    linked-requires
-    refused-requires
-    returns
-    slice-aggregate-link
-    link-requires
-    slice-aggregate-link-2
-    link-requires-2
-    add-k
-    loop-less
-    loop-again
-    returns-2)
+    Inv-loop μ-loop loop-holds (λ c. omega arith) (λ c. omega arith) (λ c. omega arith) (λ c. omega arith) (λ c κs. tt) sub-i (λ c. omega arith)
+    (λ c. omega arith) (λ c. omega arith) (λ c. omega arith) (λ c. omega arith) (λ c κs. tt) sub-j linked-requires (λ c κs. tt) returns
+    slice-aggregate-link link-requires slice-aggregate-link-2 link-requires-2 (λ c. omega arith) (λ c. omega arith) loop-again returns-2)

@@ -8,41 +8,14 @@ use borrow.Author.Needs.{needs}
 use Rattle.sheet.proofs.line.Statement.{statement}
 use Rattle.sheet.proofs.line.Tie as tie
 
-mul-at : tie.Need-mul-at
-mul-at c = search needs
-
-number-at-requires : tie.Need-number-at-requires
-number-at-requires c κs = search needs
-
-enum-known-left : tie.Need-enum-known-left
-enum-known-left c = search needs
-
 enum-told : tie.Need-enum-told
 enum-told c = search needs
 
 returns : tie.Need-returns
 returns c = record { ok = sym (line-left-bad _ _ (sym (c .before .before .number-at .ensures) ∙ c .enum-told .given .1)); values = λ e. absurd (true≢false (sym e)) }
 
-add-number-at : tie.Need-add-number-at
-add-number-at c = search needs
-
-number-at-requires-2 : tie.Need-number-at-requires-2
-number-at-requires-2 c κs = search needs
-
-enum-known-right : tie.Need-enum-known-right
-enum-known-right c = search needs
-
-enum-told-2 : tie.Need-enum-told-2
-enum-told-2 c = search needs
-
 returns-2 : tie.Need-returns-2
 returns-2 c = record { ok = sym (line-right-bad _ _ _ (sym (c .before .before .before .before .before .before .number-at .ensures) ∙ c .before .before .before .before .left .given .1) (sym (c .before .before .number-at2 .ensures) ∙ c .enum-told2 .given .1)); values = λ e. absurd (true≢false (sym e)) }
-
-add-if1 : tie.Need-add-if1
-add-if1 c = search needs
-
-shared-slice-read-if1 : tie.Need-shared-slice-read-if1
-shared-slice-read-if1 c = search needs
 
 returns-3 : tie.Need-returns-3
 returns-3 c = record { ok = sym (line-end-bad (c .before .before .before .before .before .before .before .before .before .before .before .args .s .now) (c .before .before .before .before .before .before .before .before .before .before .before .args .i) _ (sym (c .before .before .before .before .before .before .before .before .before .number-at .ensures) ∙ c .before .before .before .before .before .before .before .left .given .1) _ (sym (c .before .before .before .before .before .number-at2 .ensures) ∙ c .before .before .before .right .given .1) (c .if1 .taken)); values = λ e. absurd (true≢false (sym e)) }
@@ -60,19 +33,5 @@ pub line-spec : {M : Type 1} → statement M
 line-spec =
     tie.close
     (tie.spec
-    mul-at
-    number-at-requires
-    enum-known-left
-    enum-told
-    returns
-    add-number-at
-    number-at-requires-2
-    enum-known-right
-    enum-told-2
-    returns-2
-    add-if1
-    shared-slice-read-if1
-    returns-3
-    cast-t12
-    cast-t13
-    returns-4)
+    (λ c. search needs) (λ c κs. search needs) (λ c. search needs) enum-told returns (λ c. search needs) (λ c κs. search needs) (λ c. search needs)
+    (λ c. search needs) returns-2 (λ c. search needs) (λ c. search needs) returns-3 cast-t12 cast-t13 returns-4)

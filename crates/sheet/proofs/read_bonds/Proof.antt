@@ -7,20 +7,8 @@ use borrow.Author.Needs.{needs}
 use Rattle.sheet.proofs.read_bonds.Statement.{statement}
 use Rattle.sheet.proofs.read_bonds.Tie as tie
 
-atoms-kept-requires : tie.Need-atoms-kept-requires
-atoms-kept-requires c κs = search needs
-
-refused-requires : tie.Need-refused-requires
-refused-requires c κs = search needs
-
 returns : tie.Need-returns
 returns c = c .refused .ensures ∙ sym (bonds-out _ _ _ (sym (c .before .before .atoms-kept .ensures) ∙ not-true _ (c .before .if1 .taken)))
-
-none-to-itself-requires : tie.Need-none-to-itself-requires
-none-to-itself-requires c κs = search needs
-
-refused-requires-2 : tie.Need-refused-requires-2
-refused-requires-2 c κs = search needs
 
 returns-2 : tie.Need-returns-2
 returns-2 c = c .refused2 .ensures ∙ sym (bonds-self _ _ _ (sym (c .before .before .before .before .atoms-kept .ensures) ∙ not-false _ (c .before .before .before .if1 .left)) (sym (c .before .before .none-to-itself .ensures) ∙ not-true _ (c .before .if2 .taken)))
@@ -28,18 +16,5 @@ returns-2 c = c .refused2 .ensures ∙ sym (bonds-self _ _ _ (sym (c .before .be
 fill-requires : tie.Need-fill-requires
 fill-requires c κs = (c .before .before .before .before .pre .0, c .before .before .before .before .pre .1, (sym (c .before .before .before .atoms-kept .ensures) ∙ not-false _ (c .before .before .if1 .left)), (sym (c .before .none-to-itself .ensures) ∙ not-false _ (c .if2 .left)))
 
-returns-3 : tie.Need-returns-3
-returns-3 c = search needs
-
 pub read-bonds-spec : {M : Type 1} → statement M
-read-bonds-spec =
-    tie.close
-    (tie.spec
-    atoms-kept-requires
-    refused-requires
-    returns
-    none-to-itself-requires
-    refused-requires-2
-    returns-2
-    fill-requires
-    returns-3)
+read-bonds-spec = tie.close (tie.spec (λ c κs. search needs) (λ c κs. search needs) returns (λ c κs. search needs) (λ c κs. search needs) returns-2 fill-requires (λ c. search needs))

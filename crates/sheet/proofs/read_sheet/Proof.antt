@@ -15,41 +15,14 @@ use borrow.Author.Needs.{needs}
 use Rattle.sheet.proofs.read_sheet.Statement.{statement}
 use Rattle.sheet.proofs.read_sheet.Tie as tie
 
-refused-requires : tie.Need-refused-requires
-refused-requires c κs = search needs
-
 returns : tie.Need-returns
 returns c = c .refused .ensures ∙ sym (sheet-short _ (c .before .if1 .taken))
-
-refused-requires-2 : tie.Need-refused-requires-2
-refused-requires-2 c κs = search needs
 
 returns-2 : tie.Need-returns-2
 returns-2 c = c .refused2 .ensures ∙ sym (sheet-ragged (c .before .before .before .before .args .s .now) (c .before .before .if1 .left) (c .before .if2 .taken))
 
-decode-requires : tie.Need-decode-requires
-decode-requires c κs = search needs
-
-refused-requires-3 : tie.Need-refused-requires-3
-refused-requires-3 c κs = search needs
-
 returns-3 : tie.Need-returns-3
 returns-3 c = c .refused3 .ensures ∙ sym (sheet-bytes (c .before .before .before .before .before .before .before .args .s .now) (c .before .before .before .before .before .if1 .left) (c .before .before .before .before .if2 .left) (sym (c .before .before .before .decode .ensures .ok) ∙ not-true _ (c .before .if3 .taken)))
-
-array-read-wide : tie.Need-array-read-wide
-array-read-wide c = search needs
-
-wide-requires : tie.Need-wide-requires
-wide-requires c κs = search needs
-
-array-read-wide-2 : tie.Need-array-read-wide-2
-array-read-wide-2 c = search needs
-
-wide-requires-2 : tie.Need-wide-requires-2
-wide-requires-2 c κs = search needs
-
-refused-requires-4 : tie.Need-refused-requires-4
-refused-requires-4 c κs = search needs
 
 -- What is known once n and m are read: rules 1 and 2 are kept, and the numbers are the sheet's
 record Known (s values : List ℕ) (n m : ℕ) : Type 0 where
@@ -80,31 +53,16 @@ returns-4 c =
     let k = known (c .before .before) in
     c .refused4 .ensures ∙ sym (sheet-atoms (c .before .before .before .before .before .before .before .before .before .before .before .args .s .now) (k .long) (k .whole) (k .lines) (rw (k .atoms) at (c .before .if4 .taken)))
 
-refused-requires-5 : tie.Need-refused-requires-5
-refused-requires-5 c κs = search needs
-
 returns-5 : tie.Need-returns-5
 returns-5 c =
     let k = known (c .before .before .before) in
     c .refused5 .ensures ∙ sym (sheet-bonds (c .before .before .before .before .before .before .before .before .before .before .before .before .args .s .now) (k .long) (k .whole) (k .lines) (rw (k .atoms) at (c .before .before .if4 .left)) (rw (k .bonds) at (c .before .if5 .taken)))
-
-add-if6 : tie.Need-add-if6
-add-if6 c = search needs
-
-mul-if6 : tie.Need-mul-if6
-mul-if6 c = search needs
-
-refused-requires-6 : tie.Need-refused-requires-6
-refused-requires-6 c κs = search needs
 
 returns-6 : tie.Need-returns-6
 returns-6 c =
     let k = known (c .before .before .before .before) in
     c .refused6 .ensures
     ∙ sym (sheet-size (c .before .before .before .before .before .before .before .before .before .before .before .before .before .args .s .now) (k .long) (k .whole) (k .lines) (rw (k .atoms) at (c .before .before .before .if4 .left)) (rw (k .bonds) at (c .before .before .if5 .left)) (λ e. c .before .if6 .taken (e ∙ size-same _ _ (k .bonds))))
-
-read-bonds-requires : tie.Need-read-bonds-requires
-read-bonds-requires c κs = search needs
 
 returns-7 : tie.Need-returns-7
 returns-7 c =
@@ -120,24 +78,6 @@ pub read-sheet-spec : {M : Type 1} → statement M
 read-sheet-spec =
     tie.close
     (tie.spec
-    refused-requires
-    returns
-    refused-requires-2
-    returns-2
-    decode-requires
-    refused-requires-3
-    returns-3
-    array-read-wide
-    wide-requires
-    array-read-wide-2
-    wide-requires-2
-    refused-requires-4
-    returns-4
-    refused-requires-5
-    returns-5
-    add-if6
-    mul-if6
-    refused-requires-6
-    returns-6
-    read-bonds-requires
-    returns-7)
+    (λ c κs. search needs) returns (λ c κs. search needs) returns-2 (λ c κs. search needs) (λ c κs. search needs) returns-3 (λ c. search needs)
+    (λ c κs. search needs) (λ c. search needs) (λ c κs. search needs) (λ c κs. search needs) returns-4 (λ c κs. search needs) returns-5
+    (λ c. search needs) (λ c. search needs) (λ c κs. search needs) returns-6 (λ c κs. search needs) returns-7)

@@ -4,11 +4,8 @@ use borrow.Author.Needs.{needs}
 use Rattle.sheet.proofs.refused.Statement.{statement}
 use Rattle.sheet.proofs.refused.Tie as tie
 
-fresh-requires : tie.Need-fresh-requires
-fresh-requires c κs = search needs
-
 returns : tie.Need-returns
 returns c = rw (c .fresh .ensures)
 
 pub refused-spec : {M : Type 1} → statement M
-refused-spec = tie.close (tie.spec fresh-requires returns)
+refused-spec = tie.close (tie.spec (λ c κs. search needs) returns)
