@@ -4,24 +4,24 @@ use Prim.Native.Nat.{ℕ}
 use mathlib.Core.Path.{_≡_, refl, sym, _∙_}
 use mathlib.Core.Bool.{Bool, true, false, _&&_, _||_, not}
 use mathlib.Core.Logic.{_⊎_, inl, inr}
-use native.Mathlib.Decide.{ℕ-discrete}
-use lib.Dec.{eqb}
-use borrow.Author.Tests.{ne-eqb}
+use mathlib.Core.List.{List}
 use Rattle.graph.specs.Chordless.{Adjacency}
 use Rattle.graph.proofs.Below.{apart, clash, either, and-left, and-right, and-both, not-of}
 use Rattle.chordless.specs.Reach.{there, through}
 use Rattle.chordless.proofs.Shortest.{walk-within}
-use Rattle.sweep.specs.Swept.{Symmetric, Reaches, Swept}
+use Rattle.atomset.specs.Set.{has}
+use Rattle.sweep.specs.declared.Front.{Front}
+use Rattle.sweep.specs.Swept.{Symmetric, Reaches, Swept, Advanced, Stepped}
 
-or-cases : (p q : Bool) → p || q ≡ true → (p ≡ true) ⊎ (q ≡ true)
+pub or-cases : (p q : Bool) → p || q ≡ true → (p ≡ true) ⊎ (q ≡ true)
 or-cases true q e = inl refl
 or-cases false q e = inr e
 
-or-left : (p q : Bool) → p ≡ true → p || q ≡ true
+pub or-left : (p q : Bool) → p ≡ true → p || q ≡ true
 or-left true q e = refl
 or-left false q e = absurd (apart (sym e))
 
-or-right : (p q : Bool) → q ≡ true → p || q ≡ true
+pub or-right : (p q : Bool) → q ≡ true → p || q ≡ true
 or-right true q e = refl
 or-right false q e = e
 
@@ -53,62 +53,68 @@ module _ (adj : Adjacency) (allowed target : ℕ → Bool) where
       complete r =
           walk-within adj (λ u. seen u ≡ true) (done (r .0) (f .targets-settled (r .0) (r .1))) (λ u w e a s. done w (f .allowed-settled w a s) u e) (r .2)
 
-  -- one step from an atom x of the frontier
-  module _ (symmetric : Symmetric adj) (seen pending seen′ pending′ : ℕ → Bool) (x : ℕ) (taken : pending x ≡ true)
-      (seen-is : (a : ℕ) → seen′ a ≡ (seen a || adj x a)) (pending-is : (a : ℕ) → pending′ a ≡ (pending a && not (eqb a x) || adj x a && not (seen a) && allowed a))
+  -- one step, from the atoms taken of the frontier to those near
+  module _ (symmetric : Symmetric adj) (seen pending seen′ pending′ taken near : ℕ → Bool) (were : (x : ℕ) → taken x ≡ true → pending x ≡ true)
+      (only : (a : ℕ) → near a ≡ true → (x : ℕ) × (taken x ≡ true) × (adj x a ≡ true)) (every : (x a : ℕ) → taken x ≡ true → adj x a ≡ true → near a ≡ true)
+      (seen-is : (a : ℕ) → seen′ a ≡ (seen a || near a)) (pending-is : (a : ℕ) → pending′ a ≡ (pending a && not (taken a) || near a && not (seen a) && allowed a))
       (f : Frontier seen pending) where
-    back : (v : ℕ) → adj x v ≡ true → adj v x ≡ true
-    back v e = symmetric v x ∙ e
-
     kept : (v : ℕ) → seen v ≡ true → seen′ v ≡ true
-    kept v e = seen-is v ∙ or-left (seen v) (adj x v) e
+    kept v e = seen-is v ∙ or-left (seen v) (near v) e
 
-    near : (v : ℕ) → adj v x ≡ true → seen′ v ≡ true
-    near v e = seen-is v ∙ or-right (seen v) (adj x v) (symmetric x v ∙ e)
+    bonded : (x v : ℕ) → taken x ≡ true → adj v x ≡ true → seen′ v ≡ true
+    bonded x v t e = seen-is v ∙ or-right (seen v) (near v) (every x v t (symmetric x v ∙ e))
 
-    stays : (w : ℕ) → pending w ≡ true → (w ≡ x → ⊥) → pending′ w ≡ true
-    stays w p d =
-        pending-is w ∙ or-left (pending w && not (eqb w x)) (adj x w && not (seen w) && allowed w) (and-both (pending w) (not (eqb w x)) p (not-of (eqb w x) (ne-eqb w x d)))
+    stays : (w : ℕ) → pending w ≡ true → taken w ≡ false → pending′ w ≡ true
+    stays w p d = pending-is w ∙ or-left (pending w && not (taken w)) (near w && not (seen w) && allowed w) (and-both (pending w) (not (taken w)) p (not-of (taken w) d))
 
-    joins : (w : ℕ) → adj x w ≡ true → seen w ≡ false → allowed w ≡ true → pending′ w ≡ true
+    joins : (w : ℕ) → near w ≡ true → seen w ≡ false → allowed w ≡ true → pending′ w ≡ true
     joins w e s a =
         pending-is w
-        ∙ or-right (pending w && not (eqb w x)) (adj x w && not (seen w) && allowed w)
-        (and-both (adj x w && not (seen w)) (allowed w) (and-both (adj x w) (not (seen w)) e (not-of (seen w) s)) a)
+        ∙ or-right (pending w && not (taken w)) (near w && not (seen w) && allowed w)
+        (and-both (near w && not (seen w)) (allowed w) (and-both (near w) (not (seen w)) e (not-of (seen w) s)) a)
+
+    reached : (v : ℕ) → near v ≡ true → Reaches adj allowed target v
+    reached v e = let from = only v e in f .sources (from .0) (were (from .0) (from .1)) v (symmetric v (from .0) ∙ from .2)
 
     sound : (v : ℕ) → seen′ v ≡ true → Reaches adj allowed target v
-    sound v e = split (or-cases (seen v) (adj x v) (sym (seen-is v) ∙ e))
+    sound v e = split (or-cases (seen v) (near v) (sym (seen-is v) ∙ e))
       where
-        split : (seen v ≡ true) ⊎ (adj x v ≡ true) → Reaches adj allowed target v
+        split : (seen v ≡ true) ⊎ (near v ≡ true) → Reaches adj allowed target v
         split (inl s) = f .sound v s
-        split (inr b) = f .sources x taken v (back v b)
+        split (inr b) = reached v b
 
     sources : (w : ℕ) → pending′ w ≡ true → (v : ℕ) → adj v w ≡ true → Reaches adj allowed target v
-    sources w p v e = split (or-cases (pending w && not (eqb w x)) (adj x w && not (seen w) && allowed w) (sym (pending-is w) ∙ p))
+    sources w p v e = split (or-cases (pending w && not (taken w)) (near w && not (seen w) && allowed w) (sym (pending-is w) ∙ p))
       where
-        split : (pending w && not (eqb w x) ≡ true) ⊎ (adj x w && not (seen w) && allowed w ≡ true) → Reaches adj allowed target v
-        split (inl k) = f .sources w (and-left (pending w) (not (eqb w x)) k) v e
+        split : (pending w && not (taken w) ≡ true) ⊎ (near w && not (seen w) && allowed w ≡ true) → Reaches adj allowed target v
+        split (inl k) = f .sources w (and-left (pending w) (not (taken w)) k) v e
         split (inr k) =
-            let a = and-right (adj x w && not (seen w)) (allowed w) k in
-            let b = and-left (adj x w) (not (seen w)) (and-left (adj x w && not (seen w)) (allowed w) k) in
-            let r = f .sources x taken w (back w b) in
+            let a = and-right (near w && not (seen w)) (allowed w) k in
+            let b = and-left (near w) (not (seen w)) (and-left (near w && not (seen w)) (allowed w) k) in
+            let r = reached w b in
             (r .0, r .1, through e a (r .2))
 
     settled : (w : ℕ) → Settled seen pending w → Settled seen′ pending′ w
-    settled w (inl p) = split (ℕ-discrete w x)
+    settled w (inl p) = split (either (taken w))
       where
-        split : Dec (w ≡ x) → Settled seen′ pending′ w
-        split (yes d) = inr (λ v e. near v (rw d at e))
-        split (no d) = inl (stays w p d)
+        split : (taken w ≡ true) ⊎ (taken w ≡ false) → Settled seen′ pending′ w
+        split (inl t) = inr (λ v e. bonded w v t e)
+        split (inr d) = inl (stays w p d)
     settled w (inr s) = inr (λ v e. kept v (s v e))
 
     newly : (w : ℕ) → allowed w ≡ true → seen′ w ≡ true → (seen w ≡ true) ⊎ (seen w ≡ false) → Settled seen′ pending′ w
     newly w a e (inl s) = settled w (f .allowed-settled w a s)
-    newly w a e (inr s) = split (or-cases (seen w) (adj x w) (sym (seen-is w) ∙ e))
+    newly w a e (inr s) = split (or-cases (seen w) (near w) (sym (seen-is w) ∙ e))
       where
-        split : (seen w ≡ true) ⊎ (adj x w ≡ true) → Settled seen′ pending′ w
+        split : (seen w ≡ true) ⊎ (near w ≡ true) → Settled seen′ pending′ w
         split (inl t) = absurd (clash (seen w) t s)
         split (inr b) = inl (joins w b s a)
 
-    pub frontier-step : Frontier seen′ pending′
-    frontier-step = record { sound = sound; sources = sources; targets-settled = λ w t. settled w (f .targets-settled w t); allowed-settled = λ w a e. newly w a e (either (seen w)) }
+    after-step : Frontier seen′ pending′
+    after-step = record { sound = sound; sources = sources; targets-settled = λ w t. settled w (f .targets-settled w t); allowed-settled = λ w a e. newly w a e (either (seen w)) }
+
+pub frontier-step : (adj : Adjacency) (allowed : List ℕ) (target : ℕ → Bool) {seen pending : List ℕ} {next : Front} → Symmetric adj → Stepped adj allowed seen pending next
+    → Frontier adj (has allowed) target (has seen) (has pending) → Frontier adj (has allowed) target (has (next .seen)) (has (next .pending))
+frontier-step adj allowed target {seen} {pending} {next} symmetric s =
+    after-step adj (has allowed) target symmetric (has seen) (has pending) (has (next .seen)) (has (next .pending)) (s .taken) (s .near) (s .were-pending) (s .only) (s .every)
+    (s .advanced .seen-is) (s .advanced .pending-is)

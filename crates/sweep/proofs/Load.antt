@@ -1,12 +1,16 @@
 -- A step of the sweep leaves less to do: the atoms not seen, and those in the frontier.
--- Counted atom by atom: none gains, and the atom of the step loses.
+-- Counted atom by atom: none gains, and an atom that the step takes loses.
 use Prim.Native.Nat.{ℕ, zero, suc, _+_, _≤_, _<_}
 use native.Mathlib.Omega.{arith}
 use native.Mathlib.Decide.{ℕ-discrete}
-use mathlib.Core.Path.{_≡_, refl}
+use mathlib.Core.Path.{_≡_}
 use mathlib.Core.Bool.{Bool, true, false, _&&_, _||_, not}
-use lib.Dec.{eqb}
-use borrow.Author.Tests.{eq-eqb}
+use mathlib.Core.List.{List}
+use Rattle.graph.specs.Chordless.{Adjacency}
+use Rattle.atomset.specs.Set.{has}
+use Rattle.atomset.proofs.Members.{has-range}
+use Rattle.sweep.specs.declared.Front.{Front}
+use Rattle.sweep.specs.Swept.{Advanced, Stepped}
 
 -- what an atom, seen or not, pending or not, adds
 abbrev pub cost : Bool → Bool → ℕ
@@ -41,7 +45,7 @@ load-less s p s′ p′ x h g (suc k) l u = split (ℕ-discrete x (suc k)) (λ b
         let below : load s′ p′ k < load s p k = rest (omega arith) in
         omega arith
 
--- by cases on: seen, bonded to x, pending, is x, allowed
+-- by cases on: seen, near, pending, taken, allowed
 cost-le : (s b p e a : Bool) → cost (s || b) (p && not e || b && not s && a) ≤ cost s p
 cost-le true b true true a = shut b a
   where
@@ -67,8 +71,14 @@ cost-less false true true = omega arith
 cost-less false true false = omega arith
 cost-less false false a = omega arith
 
-pub step-less : (allowed bonded seen pending seen′ pending′ : ℕ → Bool) (x : ℕ) → ((a : ℕ) → seen′ a ≡ (seen a || bonded a))
-    → ((a : ℕ) → pending′ a ≡ (pending a && not (eqb a x) || bonded a && not (seen a) && allowed a)) → pending x ≡ true → 1 ≤ x → x ≤ 128 → load seen′ pending′ 128 < load seen pending 128
-step-less allowed bonded seen pending seen′ pending′ x seen-is pending-is taken l h =
-    load-less seen pending seen′ pending′ x (λ a. rw (seen-is a, pending-is a) (cost-le (seen a) (bonded a) (pending a) (eqb a x) (allowed a)))
-    (rw (seen-is x, pending-is x, taken, eq-eqb x x refl) (cost-less (seen x) (bonded x) (allowed x))) 128 l h
+pub step-less : (adj : Adjacency) (allowed seen pending : List ℕ) (next : Front) → Stepped adj allowed seen pending next
+    → load (has (next .seen)) (has (next .pending)) 128 < load (has seen) (has pending) 128
+step-less adj allowed seen pending next s =
+    let x = s .some .0 in
+    let taken = s .some .1 in
+    let was = s .were-pending x taken in
+    let inside = has-range pending x was in
+    let after = s .advanced in
+    load-less (has seen) (has pending) (has (next .seen)) (has (next .pending)) x
+    (λ a. rw (after .seen-is a, after .pending-is a) (cost-le (has seen a) (s .near a) (has pending a) (s .taken a) (has allowed a)))
+    (rw (after .seen-is x, after .pending-is x, was, taken) (cost-less (has seen x) (s .near x) (has allowed x))) 128 (inside .0) (inside .1)

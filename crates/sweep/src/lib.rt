@@ -1,7 +1,9 @@
 // Reachability by one backward sweep: from the targets, over bonds, through allowed atoms.
-ghost use Prim.Native.Nat.{_≤_};
+ghost use Prim.Native.Nat.{_<_};
+ghost use mathlib.Core.Path.{_≡_};
+ghost use lib.ListN.{getD};
 ghost use Rattle.atomset.specs.Set.{has, linkedBy};
-ghost use Rattle.sweep.specs.Swept.{Symmetric, Swept, Stepped};
+ghost use Rattle.sweep.specs.Swept.{Symmetric, Swept, NearWord, Advanced, Stepped};
 
 // The atoms that were seen, and the frontier: those whose neighbours are still to be seen.
 struct Front {
@@ -9,14 +11,35 @@ struct Front {
     pending: [u64; 2],
 }
 
-// Takes atom x from the frontier, and sees its neighbours.
-fn step(table: &[u64; 256], allowed: [u64; 2], seen: [u64; 2], pending: [u64; 2], x: usize) -> Front
-    requires { ⌜ (1 ≤ x) × (x ≤ 128) ⌝ }
-    ensures { λ r. ⌜ Stepped (linkedBy (now (table .entry))) allowed seen pending x r ⌝ }
+// The atoms bonded to an atom of word k of a set.
+fn near_word(table: &[u64; 256], word: u64, k: usize) -> [u64; 2]
+    requires { ⌜ k < 2 ⌝ }
+    ensures { λ r. ⌜ NearWord (linkedBy (now (table .entry))) word k r ⌝ }
 {
-    let near = atomset::row(table, x);
+    let mut all = atomset::empty();
+    let mut left = word;
+    while left != 0 {
+        let j = atomset::lowest_bit(left);
+        let row = atomset::row(table, 64 * k + j + 1);
+        let more = atomset::union(all, row);
+        all = more;
+        left = left & (left - 1);
+    }
+    all
+}
+
+// The atoms `taken` leave the frontier, and the atoms `near` them are seen.
+fn advance(
+    allowed: [u64; 2],
+    seen: [u64; 2],
+    pending: [u64; 2],
+    taken: [u64; 2],
+    near: [u64; 2],
+) -> Front
+    ensures { λ r. ⌜ Advanced allowed seen pending (has taken) (has near) r ⌝ }
+{
     let fresh = atomset::minus(near, seen);
-    let rest = atomset::without_atom(pending, x);
+    let rest = atomset::minus(pending, taken);
     let joins = atomset::intersection(fresh, allowed);
     let all = atomset::union(seen, near);
     let next = atomset::union(rest, joins);
@@ -24,6 +47,22 @@ fn step(table: &[u64; 256], allowed: [u64; 2], seen: [u64; 2], pending: [u64; 2]
         seen: all,
         pending: next,
     }
+}
+
+// Takes the atoms of word k from the frontier, and sees their neighbours. The atoms of word 0 are those up to 64.
+fn step(table: &[u64; 256], allowed: [u64; 2], seen: [u64; 2], pending: [u64; 2], k: usize) -> Front
+    requires { ⌜ (k < 2) × (getD pending k 0 ≡ 0 → ⊥) ⌝ }
+    ensures { λ r. ⌜ Stepped (linkedBy (now (table .entry))) allowed seen pending r ⌝ }
+{
+    let first = atomset::up_to(64);
+    if k == 0 {
+        let taken = atomset::intersection(pending, first);
+        let near = near_word(table, taken[0], 0);
+        return advance(allowed, seen, pending, taken, near);
+    }
+    let taken = atomset::minus(pending, first);
+    let near = near_word(table, taken[1], 1);
+    advance(allowed, seen, pending, taken, near)
 }
 
 // The atoms from which a target is reached through allowed atoms.
@@ -44,8 +83,7 @@ pub fn sweep(table: &[u64; 256], allowed: [u64; 2], targets: [u64; 2]) -> [u64; 
             }
             k += 1;
         }
-        let x = 64 * k + atomset::lowest_bit(pending[k]) + 1;
-        let front = step(table, allowed, seen, pending, x);
+        let front = step(table, allowed, seen, pending, k);
         let all = front.seen;
         let next = front.pending;
         seen = all;

@@ -1,66 +1,30 @@
-use mathlib.Core.Path.{_∙_, ap, ap₂}
-use mathlib.Core.Bool.{Bool, _&&_, _||_, not}
-use Rattle.atomset.specs.Set.{has}
+-- `sweep::step` meets its contract: with the atoms up to 64 it takes those of the first word, without them those of the second.
+use mathlib.Core.Path.{_≡_}
+use native.Mathlib.Omega.{arith}
+use lib.ListN.{getD}
+use mir.Val.{Fits}
+use mir.Syntax.{w64}
+use Rattle.sweep.proofs.Words.{step-first, step-second}
 use borrow.Author.Needs.{needs}
 use Rattle.sweep.proofs.step.Statement.{statement}
 use Rattle.sweep.proofs.step.Tie as tie
-use Rattle.sweep.proofs.step.Reads as reads
-use Rattle.sweep.proofs.step.Lts as lts
-use Rattle.atomset.proofs.intersection.Reads as intersection-reads
-use Rattle.atomset.proofs.minus.Reads as minus-reads
-use Rattle.atomset.proofs.row.Reads as row-reads
-use Rattle.atomset.proofs.union.Reads as union-reads
-use Rattle.atomset.proofs.without_atom.Reads as without-atom-reads
 
--- src/lib.rt:19:9
-row-requires : tie.Need-row-requires
-row-requires c κs = search needs
-
--- src/lib.rt:20:9
-minus-requires : tie.Need-minus-requires
-minus-requires c κs = search needs
-
--- src/lib.rt:21:9
-without-atom-requires : tie.Need-without-atom-requires
-without-atom-requires c κs = search needs
-
--- src/lib.rt:22:9
-intersection-requires : tie.Need-intersection-requires
-intersection-requires c κs = search needs
-
--- src/lib.rt:23:9
-union-requires : tie.Need-union-requires
-union-requires c κs = search needs
-
--- src/lib.rt:24:9
-union-requires-2 : tie.Need-union-requires-2
-union-requires-2 c κs = search needs
-
--- src/lib.rt:15:1
 returns : tie.Need-returns
 returns c =
-    let start = c .before .before .before .before .before .before in
-    let row = c .before .before .before .before .before .row in
-    let fresh = c .before .before .before .before .minus in
-    let rest = c .before .before .before .without-atom in
-    let joins = c .before .before .intersection in
-    record {
-      seen-is = λ a. c .before .union .ensures a ∙ ap (λ (p : Bool). has (start .args .seen) a || p) (row .ensures a);
-      pending-is =
-          λ a. c .union2 .ensures a
-          ∙ ap₂ (λ (p q : Bool). p || q) (rest .ensures a)
-          (joins .ensures a
-          ∙ ap (λ (p : Bool). p && has (start .args .allowed) a) (fresh .ensures a ∙ ap (λ (p : Bool). p && not (has (start .args .seen) a)) (row .ensures a)));
-    }
+    let start = c .before .before .before .before .before in
+    let small : Fits w64 (getD (start .args .pending) 0 0) = search needs in
+    let some : getD (start .args .pending) 0 0 ≡ 0 → ⊥ = rw (c .before .before .before .if1 .taken) at (start .pre .1) in
+    step-first _ _ _ _ (c .before .before .before .before .up-to .result) (c .before .before .intersection .result) (c .before .near-word .result) _ (c .before .before .before .before .up-to .ensures)
+    (c .before .before .intersection .ensures) some (small .fits) (c .before .near-word .ensures) (c .advance .ensures)
+
+returns-2 : tie.Need-returns-2
+returns-2 c =
+    let start = c .before .before .before .before .before in
+    let small : Fits w64 (getD (start .args .pending) 1 0) = search needs in
+    let second : start .args .k ≡ 1 = omega (arith, c .before .before .before .if1 .left, start .pre .0) in
+    let some : getD (start .args .pending) 1 0 ≡ 0 → ⊥ = rw second at (start .pre .1) in
+    step-second _ _ _ _ (c .before .before .before .before .up-to .result) (c .before .before .minus .result) (c .before .near-word2 .result) _ (c .before .before .before .before .up-to .ensures)
+    (c .before .before .minus .ensures) some (small .fits) (c .before .near-word2 .ensures) (c .advance2 .ensures)
 
 pub step-spec : {M : Type 1} → statement M
-step-spec =
-    tie.close
-    (tie.spec
-    row-requires
-    minus-requires
-    without-atom-requires
-    intersection-requires
-    union-requires
-    union-requires-2
-    returns)
+step-spec = tie.close (tie.spec (λ c κs. search needs) (λ c κs. search needs) (λ c. search needs) (λ c κs. search needs) (λ c κs. search needs) returns (λ c κs. search needs) (λ c. search needs) (λ c κs. search needs) (λ c κs. search needs) returns-2)
