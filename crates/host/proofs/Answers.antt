@@ -3,6 +3,7 @@
 use Prim.Native.Nat.{ℕ, _+_, _*_, _^_, _≤_, _<_}
 use native.Mathlib.Omega.{arith}
 use mathlib.Core.Path.{_≡_, ap, sym, _∙_}
+use mathlib.Core.Bool.{true}
 use mathlib.Core.List.{List}
 use lib.ListN.{length, take, drop, length-drop}
 use lib.Seq.{length-take-le}
@@ -14,19 +15,22 @@ use Rattle.refusal.specs.declared.Refusal.{Refusal}
 use Rattle.refusal.specs.declared.Refusal.the-variants as refusal
 use Rattle.refusal.specs.declared.Answer.the-variants.{Accepted, Refused}
 use Rattle.molecule.specs.declared.Molecule.{Molecule}
+use Rattle.molecule.specs.Record.{wellFormed}
 use Rattle.sheet.specs.declared.Sheet.{Sheet}
 use Rattle.sheet.specs.Read.{readSheet}
 use Rattle.search.specs.declared.Search.{Search}
 use Rattle.search.specs.declared.Made.{Made}
 use Rattle.search.specs.declared.Ran.{Ran}
-use Rattle.search.specs.Entries.{startRings, runSearch, runOutput}
+use Rattle.search.specs.Place.{freshSearch}
+use Rattle.search.specs.Entries.{accepted, runSearch, runOutput}
 use Rattle.search.specs.Mark.{fieldAt, valueAt, saveOutput, restoreMark}
+use Rattle.openness.proofs.Starts.{rings-started}
 use Rattle.host.specs.Resume.{Resumed, turnedBack, endedNumber, searchFor, runAndSave, resume, markSize, listedIn}
 
 module _ (mol : Molecule) (mark : List ℕ) where
-  pub search-fresh : length mark ≡ 0 → startRings mol ≡ searchFor mol mark
+  pub search-fresh : wellFormed mol ≡ true → length mark ≡ 0 → accepted (freshSearch 0 0 0) ≡ searchFor mol mark
   unfolding searchFor
-  search-fresh e = rw (eq-eqb (length mark) 0 e)
+  search-fresh formed e = rw (eq-eqb (length mark) 0 e, rings-started mol formed)
 
   pub search-restored : (length mark ≡ 0 → ⊥) → restoreMark mol mark ≡ searchFor mol mark
   unfolding searchFor

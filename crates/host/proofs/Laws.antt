@@ -109,8 +109,7 @@ made-is x e = ap (λ (a : Answer). record { answer = a; search = x .search }) e
 
 begun-fresh : (mol : Molecule) (mark : List ℕ) → wellFormed mol ≡ true → length mark ≡ 0 → Begun mol mark (searchFor mol mark .search)
 begun-fresh mol mark formed none =
-    let starts : startRings mol ≡ accepted (freshSearch 0 0 0) = unfold startRings in (rw formed) in
-    rw (sym (search-fresh mol mark none) ∙ starts)
+    rw (sym (search-fresh mol mark formed none))
     (record {
       kept = fresh-restorable mol 0 0 0 formed (unfold kindKept in refl);
       listed-is = sym (listed-short mark (omega arith)) ∙ (unfold freshSearch searchAt fresh in refl);
@@ -130,6 +129,14 @@ begun mol mark formed e = go (ℕ-discrete (length mark) 0)
     go : Dec (length mark ≡ 0) → Begun mol mark (searchFor mol mark .search)
     go (yes none) = begun-fresh mol mark formed none
     go (no some) = begun-restored mol mark some e
+
+-- an accepted sheet keeps rule 9, and the search that is made on it keeps rule 12
+module _ (sheet : List ℕ) (read : Sheet) (is-read : read ≡ readSheet sheet) (taken : read .answer ≡ Accepted) where
+  pub read-formed : wellFormed (read .molecule) ≡ true
+  read-formed = rw is-read (accepted-well-formed sheet (rw is-read at taken))
+
+  pub made-kept : (mark : List ℕ) (made : Made) → made ≡ searchFor (read .molecule) mark → made .answer ≡ Accepted → restorable (read .molecule) (made .search) ≡ true
+  made-kept mark made is-made e = rw is-made (begun (read .molecule) mark read-formed (rw is-made at e) .kept)
 
 -- ---- its run and its save
 
@@ -163,6 +170,9 @@ module _ (mol : Molecule) (q : Search) (formed : wellFormed mol ≡ true) (kept 
 
   after-kept : restorable mol after ≡ true
   after-kept = rw after-is (run-restorable mol q formed kept budget (length rings))
+
+  pub ran-kept : (r : Ran) → r ≡ runSearch mol q budget rings → restorable mol (r .search) ≡ true
+  ran-kept r e = rw e after-kept
 
   after-full : length (after .prefix) ≡ 128
   after-full =

@@ -1,5 +1,8 @@
 // The entry for the C host, declared in include/ringlist.h.
 ghost use mathlib.Core.Path.{_≡_};
+ghost use mathlib.Core.Bool.{true};
+ghost use Rattle.molecule.specs.Record.{wellFormed};
+ghost use Rattle.search.specs.Place.{restorable};
 ghost use Rattle.host.specs.Resume.{endedNumber, searchFor, runAndSave, resume, markSize, listedIn};
 use fields::Number;
 use molecule::Molecule;
@@ -21,24 +24,30 @@ fn ended_number(e: Ended) -> u32
 
 // The search that a mark names; no bytes mean a fresh ring search.
 fn search_for(m: Molecule, mark: &[u8]) -> Made
+    requires { ⌜ wellFormed m ≡ true ⌝ }
     ensures { λ r. ⌜ r ≡ searchFor m (now (mark .entry)) ⌝ }
 {
     if mark.len() == 0 {
-        return openness::start_rings(m);
+        let fresh = openness::fresh_search(0, 0, 0);
+        return Made {
+            answer: Answer::Accepted,
+            search: fresh,
+        };
     }
-    marks::restore(m, mark)
+    marks::restore_checked(m, mark)
 }
 
 // Runs a search and saves the one that the run returns.
 fn run_and_save(m: Molecule, q: Search, budget: u64, rings: &mut [u8], next_mark: &mut [u8]) -> u32
+    requires { ⌜ (wellFormed m ≡ true) × (restorable m q ≡ true) ⌝ }
     ensures { λ r. ⌜ r ≡ runAndSave m q budget (now (rings .entry)) (now («next_mark» .entry)) .number ⌝ }
     ensures { λ _. ⌜ now (rings .exit) ≡ runAndSave m q budget (now (rings .entry)) (now («next_mark» .entry)) .rings ⌝ }
     ensures { λ _. ⌜ now («next_mark» .exit) ≡ runAndSave m q budget (now (rings .entry)) (now («next_mark» .entry)) .nextMark ⌝ }
 {
-    let ran = run::run(m, q, budget, rings);
+    let ran = run::run_checked(m, q, budget, rings);
     let search = ran.search;
     let ended = ran.ended;
-    marks::save(m, search, next_mark);
+    marks::save_checked(m, search, next_mark);
     ended_number(ended)
 }
 

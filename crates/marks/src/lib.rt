@@ -98,7 +98,21 @@ fn put_mark(m: Molecule, q: Search, out: &mut [u8])
     put_feed(out, 90 + 4 * len);
 }
 
-// Saves a search as a mark: rules 9, 12, 13. Only the mark's bytes are written.
+// Saves a search that rules 9 and 12 allow as a mark: rule 13. Only the mark's bytes are written.
+pub fn save_checked(m: Molecule, q: Search, out: &mut [u8]) -> Saved
+    requires { ⌜ (wellFormed m ≡ true) × (restorable m q ≡ true) ⌝ }
+    ensures { λ r. ⌜ (r ≡ saveAnswer m q (now (out .entry))) × (now (out .exit) ≡ saveOutput m q (now (out .entry))) ⌝ }
+{
+    let len = q.len;
+    let size = 91 + 4 * len;
+    if out.len() < size {
+        return Saved::Refused(Refusal::MarkRoom);
+    }
+    put_mark(m, q, out);
+    Saved::Written(size)
+}
+
+// Saves a search as a mark: rules 9, 12, 13.
 pub fn save(m: Molecule, q: Search, out: &mut [u8]) -> Saved
     ensures { λ r. ⌜ (r ≡ saveAnswer m q (now (out .entry))) × (now (out .exit) ≡ saveOutput m q (now (out .entry))) ⌝ }
 {
@@ -108,13 +122,7 @@ pub fn save(m: Molecule, q: Search, out: &mut [u8]) -> Saved
     if !openness::check_search(m, q) {
         return Saved::Refused(Refusal::Search);
     }
-    let len = q.len;
-    let size = 91 + 4 * len;
-    if out.len() < size {
-        return Saved::Refused(Refusal::MarkRoom);
-    }
-    put_mark(m, q, out);
-    Saved::Written(size)
+    save_checked(m, q, out)
 }
 
 // ---- reading
@@ -251,13 +259,11 @@ fn place_kept(m: Molecule, q: Search) -> bool
     openness::next_kept(n, len, q.next)
 }
 
-// Restores a search from a mark: rules 9, 14, 15, 16, 17.
-pub fn restore(m: Molecule, bytes: &[u8]) -> Made
+// Restores a search from a mark, on a molecule that rule 9 allows: rules 14, 15, 16, 17.
+pub fn restore_checked(m: Molecule, bytes: &[u8]) -> Made
+    requires { ⌜ wellFormed m ≡ true ⌝ }
     ensures { λ r. ⌜ r ≡ restoreMark m (now (bytes .entry)) ⌝ }
 {
-    if !molecule::well_formed(m) {
-        return openness::turned_back(Refusal::Record);
-    }
     if !layout_kept(bytes) {
         return openness::turned_back(Refusal::MarkBytes);
     }
@@ -279,4 +285,14 @@ pub fn restore(m: Molecule, bytes: &[u8]) -> Made
         answer: Answer::Accepted,
         search: q,
     }
+}
+
+// Restores a search from a mark: rules 9, 14, 15, 16, 17.
+pub fn restore(m: Molecule, bytes: &[u8]) -> Made
+    ensures { λ r. ⌜ r ≡ restoreMark m (now (bytes .entry)) ⌝ }
+{
+    if !molecule::well_formed(m) {
+        return openness::turned_back(Refusal::Record);
+    }
+    restore_checked(m, bytes)
 }

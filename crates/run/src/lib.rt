@@ -321,7 +321,17 @@ fn refused(q: Search, r: Refusal) -> Ran
     }
 }
 
-// Runs a search: rule 9, then rule 12, then trials until done, limit, spent or full.
+// The run of a search that rule 12 allows on a molecule that rule 9 allows: trials until done, limit, spent or full.
+pub fn run_checked(m: Molecule, q: Search, budget: u64, out: &mut [u8]) -> Ran
+    requires { ⌜ (wellFormed m ≡ true) × (restorable m q ≡ true) ⌝ }
+    ensures { λ r. ⌜ (r ≡ runSearch m q budget (now (out .entry))) × (now (out .exit) ≡ runOutput m q budget (now (out .entry))) ⌝ }
+{
+    let rows = m.rows;
+    let table = atomset::words_of(&rows);
+    run_trials(&table, m.atoms, q, budget, out)
+}
+
+// Runs a search: rule 9, then rule 12, then the run.
 pub fn run(m: Molecule, q: Search, budget: u64, out: &mut [u8]) -> Ran
     ensures { λ r. ⌜ (r ≡ runSearch m q budget (now (out .entry))) × (now (out .exit) ≡ runOutput m q budget (now (out .entry))) ⌝ }
 {
@@ -331,7 +341,5 @@ pub fn run(m: Molecule, q: Search, budget: u64, out: &mut [u8]) -> Ran
     if !openness::check_search(m, q) {
         return refused(q, Refusal::Search);
     }
-    let rows = m.rows;
-    let table = atomset::words_of(&rows);
-    run_trials(&table, m.atoms, q, budget, out)
+    run_checked(m, q, budget, out)
 }

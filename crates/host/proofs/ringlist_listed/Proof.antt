@@ -9,11 +9,8 @@ use Rattle.host.proofs.ringlist_listed.Tie as tie
 returns : tie.Need-returns
 returns c = listed-short (c .before .before .args .mark .now) (c .if1 .taken)
 
-value-at-requires : tie.Need-value-at-requires
-value-at-requires c κs = search needs
-
 returns-2 : tie.Need-returns-2
 returns-2 c = c .value-at .ensures ∙ listed-read (c .before .before .before .args .mark .now) (c .before .if1 .left)
 
 pub ringlist-listed-spec : {M : Type 1} → statement M
-ringlist-listed-spec = tie.close (tie.spec returns value-at-requires returns-2)
+ringlist-listed-spec = tie.close (tie.spec returns (λ c κs. search needs) returns-2)

@@ -9,12 +9,6 @@ use Rattle.host.proofs.ringlist_mark_length.Tie as tie
 returns : tie.Need-returns
 returns c = size-short (c .before .before .args .mark .now) (c .if1 .taken)
 
-number-at-requires : tie.Need-number-at-requires
-number-at-requires c κs = search needs
-
-enum-known-field : tie.Need-enum-known-field
-enum-known-field c = search needs
-
 enum-told : tie.Need-enum-told
 enum-told c = search needs
 
@@ -34,15 +28,4 @@ returns-4 : tie.Need-returns-4
 returns-4 c = size-read (c .before .before .before .before .before .before .before .args .mark .now) (c .before .before .before .before .before .if1 .left) (c .before .before .before .before .number-at .result) (c .before .before .before .before .number-at .ensures) (c .before .before .field .given .0 .0) (c .before .before .field .given .1) (c .if2 .left)
 
 pub ringlist-mark-length-spec : {M : Type 1} → statement M
-ringlist-mark-length-spec =
-    tie.close
-    (tie.spec
-    returns
-    number-at-requires
-    enum-known-field
-    enum-told
-    returns-2
-    mul-size
-    add-size
-    returns-3
-    returns-4)
+ringlist-mark-length-spec = tie.close (tie.spec returns (λ c κs. search needs) (λ c. search needs) enum-told returns-2 mul-size add-size returns-3 returns-4)

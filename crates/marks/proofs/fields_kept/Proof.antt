@@ -24,20 +24,11 @@ loop-holds c = (omega arith, place-first (c .before .args .at) (c .before .args 
 number-at-requires : tie.Need-number-at-requires Inv-loop μ-loop
 number-at-requires c κs = let room = place-fits (c .before .before .before .args .at) (c .before .before .before .args .columns) (c .before .before .before .args .k) (length (c .before .before .before .args .bytes .now)) (c .before .loop .i) (c .before .loop .place) (c .before .before .before .pre) (c .loop-test .taken) (c .before .loop .inv .1) in omega arith
 
-is-value-requires : tie.Need-is-value-requires Inv-loop μ-loop
-is-value-requires c κs = tt
-
 returns : tie.Need-returns Inv-loop μ-loop
 returns c = kept-fails (c .before .before .before .before .before .before .args .columns) (c .before .before .before .before .before .before .args .bytes .now) (c .before .before .before .before .before .before .args .at) (c .before .before .before .before .before .before .args .k) (c .before .before .before .before .loop .i) (c .before .before .before .before .loop .place) (c .before .before .before .loop-test .taken) (c .before .before .before .before .loop .inv .1) (sym (ap isValue (c .before .before .number-at .ensures)) ∙ sym (c .before .is-value .ensures) ∙ not-true _ (c .if1 .taken))
 
 add-place : tie.Need-add-place Inv-loop μ-loop
 add-place c = let room = place-fits (c .before .before .before .before .before .before .args .at) (c .before .before .before .before .before .before .args .columns) (c .before .before .before .before .before .before .args .k) (length (c .before .before .before .before .before .before .args .bytes .now)) (c .before .before .before .before .loop .i) (c .before .before .before .before .loop .place) (c .before .before .before .before .before .before .pre) (c .before .before .before .loop-test .taken) (c .before .before .before .before .loop .inv .1) in omega arith
-
-add-i : tie.Need-add-i Inv-loop μ-loop
-add-i c = omega arith
-
-loop-less : tie.Need-loop-less Inv-loop μ-loop
-loop-less c = omega arith
 
 loop-again : tie.Need-loop-again Inv-loop μ-loop
 loop-again c = (omega arith, place-on (c .before .before .before .before .before .before .args .at) (c .before .before .before .before .before .before .args .columns) (c .before .before .before .before .loop .i) (c .before .before .before .before .loop .place) (c .before .before .before .before .loop .inv .1), kept-more (c .before .before .before .before .before .before .args .columns) (c .before .before .before .before .before .before .args .bytes .now) (c .before .before .before .before .before .before .args .at) (c .before .before .before .before .loop .i) (c .before .before .before .before .loop .place) (c .before .before .before .before .loop .inv .2) (c .before .before .before .before .loop .inv .1) (sym (ap isValue (c .before .before .number-at .ensures)) ∙ sym (c .before .is-value .ensures) ∙ not-false _ (c .if1 .left)))
@@ -46,17 +37,4 @@ returns-2 : tie.Need-returns-2 Inv-loop μ-loop
 returns-2 c = kept-done (c .before .before .before .args .columns) (c .before .before .before .args .bytes .now) (c .before .before .before .args .at) (c .before .loop .i) (c .before .before .before .args .k) (c .before .loop .inv .0) (c .loop-test .left) (c .before .loop .inv .2)
 
 pub fields-kept-spec : {M : Type 1} → statement M
-fields-kept-spec =
-    tie.close
-    (tie.spec
-    Inv-loop
-    μ-loop
-    loop-holds
-    number-at-requires
-    is-value-requires
-    returns
-    add-place
-    add-i
-    loop-less
-    loop-again
-    returns-2)
+fields-kept-spec = tie.close (tie.spec Inv-loop μ-loop loop-holds number-at-requires (λ c κs. tt) returns add-place (λ c. omega arith) (λ c. omega arith) loop-again returns-2)

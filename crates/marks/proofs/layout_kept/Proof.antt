@@ -21,59 +21,26 @@ atoms c = sym (c .before .fields-kept3 .ensures) ∙ not-false _ (c .if8 .left)
 returns : tie.Need-returns
 returns c = layout-short (c .before .before .args .bytes .now) (c .if1 .taken)
 
-fields-kept-requires : tie.Need-fields-kept-requires
-fields-kept-requires c κs = search needs
-
 returns-2 : tie.Need-returns-2
 returns-2 c = layout-head (c .before .before .before .before .args .bytes .now) (c .before .before .if1 .left) (sym (c .before .fields-kept .ensures) ∙ not-true _ (c .if2 .taken))
-
-shared-slice-read-if3 : tie.Need-shared-slice-read-if3
-shared-slice-read-if3 c = search needs
 
 returns-3 : tie.Need-returns-3
 returns-3 c = layout-first (c .before .before .before .before .before .before .args .bytes .now) (c .before .before .before .before .if1 .left) (head (c .before .before)) (c .if3 .taken)
 
-fields-kept-requires-2 : tie.Need-fields-kept-requires-2
-fields-kept-requires-2 c κs = search needs
-
 returns-4 : tie.Need-returns-4
 returns-4 c = layout-counts (c .before .before .before .before .before .before .before .before .args .bytes .now) (c .before .before .before .before .before .before .if1 .left) (head (c .before .before .before .before)) (c .before .before .if3 .left) (sym (c .before .fields-kept2 .ensures) ∙ not-true _ (c .if4 .taken))
-
-shared-slice-read-if5 : tie.Need-shared-slice-read-if5
-shared-slice-read-if5 c = search needs
 
 returns-5 : tie.Need-returns-5
 returns-5 c = layout-second (c .before .before .before .before .before .before .before .before .before .before .args .bytes .now) (c .before .before .before .before .before .before .before .before .if1 .left) (head (c .before .before .before .before .before .before)) (c .before .before .before .before .if3 .left) (counts (c .before .before)) (c .if5 .taken)
 
-small-at-requires : tie.Need-small-at-requires
-small-at-requires c κs = search needs
-
 returns-6 : tie.Need-returns-6
 returns-6 c = layout-most (c .before .before .before .before .before .before .before .before .before .before .before .before .args .bytes .now) (c .before .before .before .before .before .before .before .before .before .before .if1 .left) (head (c .before .before .before .before .before .before .before .before)) (c .before .before .before .before .before .before .if3 .left) (counts (c .before .before .before .before)) (c .before .before .if5 .left) (c .before .small-at .result) (c .before .small-at .ensures) (c .if6 .taken)
-
-mul-if7 : tie.Need-mul-if7
-mul-if7 c = search needs
-
-add-if7 : tie.Need-add-if7
-add-if7 c = search needs
 
 returns-7 : tie.Need-returns-7
 returns-7 c = layout-size (c .before .before .before .before .before .before .before .before .before .before .before .before .before .args .bytes .now) (c .before .before .before .before .before .before .before .before .before .before .before .if1 .left) (head (c .before .before .before .before .before .before .before .before .before)) (c .before .before .before .before .before .before .before .if3 .left) (counts (c .before .before .before .before .before)) (c .before .before .before .if5 .left) (c .before .before .small-at .result) (c .before .before .small-at .ensures) (c .before .if6 .left) (c .if7 .taken)
 
-fields-kept-requires-3 : tie.Need-fields-kept-requires-3
-fields-kept-requires-3 c κs = search needs
-
 returns-8 : tie.Need-returns-8
 returns-8 c = layout-atoms (c .before .before .before .before .before .before .before .before .before .before .before .before .before .before .before .args .bytes .now) (c .before .before .before .before .before .before .before .before .before .before .before .before .before .if1 .left) (head (c .before .before .before .before .before .before .before .before .before .before .before)) (c .before .before .before .before .before .before .before .before .before .if3 .left) (counts (c .before .before .before .before .before .before .before)) (c .before .before .before .before .before .if5 .left) (c .before .before .before .before .small-at .result) (c .before .before .before .before .small-at .ensures) (c .before .before .before .if6 .left) (c .before .before .if7 .left) (sym (c .before .fields-kept3 .ensures) ∙ not-true _ (c .if8 .taken))
-
-mul-result : tie.Need-mul-result
-mul-result c = search needs
-
-add-result : tie.Need-add-result
-add-result c = search needs
-
-shared-slice-read-result : tie.Need-shared-slice-read-result
-shared-slice-read-result c = search needs
 
 returns-9 : tie.Need-returns-9
 returns-9 c = layout-last (c .before .before .before .before .before .before .before .before .before .before .before .before .before .before .before .before .args .bytes .now) (c .before .before .before .before .before .before .before .before .before .before .before .before .before .before .if1 .left) (head (c .before .before .before .before .before .before .before .before .before .before .before .before)) (c .before .before .before .before .before .before .before .before .before .before .if3 .left) (counts (c .before .before .before .before .before .before .before .before)) (c .before .before .before .before .before .before .if5 .left) (c .before .before .before .before .before .small-at .result) (c .before .before .before .before .before .small-at .ensures) (c .before .before .before .before .if6 .left) (c .before .before .before .if7 .left) (atoms (c .before))
@@ -82,23 +49,6 @@ pub layout-kept-spec : {M : Type 1} → statement M
 layout-kept-spec =
     tie.close
     (tie.spec
-    returns
-    fields-kept-requires
-    returns-2
-    shared-slice-read-if3
-    returns-3
-    fields-kept-requires-2
-    returns-4
-    shared-slice-read-if5
-    returns-5
-    small-at-requires
-    returns-6
-    mul-if7
-    add-if7
-    returns-7
-    fields-kept-requires-3
-    returns-8
-    mul-result
-    add-result
-    shared-slice-read-result
-    returns-9)
+    returns (λ c κs. search needs) returns-2 (λ c. search needs) returns-3 (λ c κs. search needs) returns-4 (λ c. search needs) returns-5
+    (λ c κs. search needs) returns-6 (λ c. search needs) (λ c. search needs) returns-7 (λ c κs. search needs) returns-8 (λ c. search needs)
+    (λ c. search needs) (λ c. search needs) returns-9)

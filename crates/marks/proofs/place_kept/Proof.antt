@@ -20,9 +20,6 @@ opened c =
     let words = c .before .before .before .before .words-of in
     ap (λ F. isOpen F (take (q .len) (q .prefix))) (sym (family-same (start .args .m) (start .pre .0) (words .result) (words .ensures) (q .kind) (q .s) (q .t))) ∙ sym (c .is-open .ensures)
 
-words-of-requires : tie.Need-words-of-requires
-words-of-requires c κs = search needs
-
 is-open-requires : tie.Need-is-open-requires
 is-open-requires c κs =
     let start = c .before .before .before .before .before .before in
@@ -39,5 +36,4 @@ returns-2 : tie.Need-returns-2
 returns-2 c = c .next-kept .ensures ∙ place-next (c .before .before .before .before .before .before .before .before .before .args .m) (c .before .before .before .before .before .before .before .before .before .args .q) (c .before .before .before .before .before .before .before .before .before .pre .3) (c .before .before .before .before .before .before .before .before .before .pre .2) (opened (c .before .before) ∙ not-false _ (c .before .if1 .left))
 
 pub place-kept-spec : {M : Type 1} → statement M
-place-kept-spec =
-    tie.close (tie.spec words-of-requires is-open-requires returns next-kept-requires returns-2)
+place-kept-spec = tie.close (tie.spec (λ c κs. search needs) is-open-requires returns next-kept-requires returns-2)

@@ -19,23 +19,11 @@ abbrev μ-loop : tie.MeasureT-loop
 loop-holds : tie.Need-loop-holds Inv-loop μ-loop
 loop-holds c = (omega arith, place-first (c .before .before .args .at) 4, refl, fields-none (c .before .before .args .out .now) (c .before .before .args .atoms .now) (c .before .before .args .at) 4 (c .before .before .pre))
 
-shared-slice-read-wide : tie.Need-shared-slice-read-wide Inv-loop μ-loop
-shared-slice-read-wide c = omega arith
-
-wide-requires : tie.Need-wide-requires Inv-loop μ-loop
-wide-requires c κs = tt
-
 put-field-requires : tie.Need-put-field-requires Inv-loop μ-loop
 put-field-requires c κs = let room = place-fits (c .before .before .before .before .before .before .before .args .at) 4 (length (c .before .before .before .before .before .before .before .args .atoms .now)) (length (c .before .before .before .before .before .before .before .args .out .now)) (c .before .before .before .before .loop .i) (c .before .before .before .before .loop .place) (c .before .before .before .before .before .before .before .pre) (c .before .before .before .loop-test .taken) (c .before .before .before .before .loop .inv .1) in omega arith
 
 add-place : tie.Need-add-place Inv-loop μ-loop
 add-place c = let room = place-fits (c .before .before .before .before .before .before .before .before .before .before .args .at) 4 (length (c .before .before .before .before .before .before .before .before .before .before .args .atoms .now)) (length (c .before .before .before .before .before .before .before .before .before .before .args .out .now)) (c .before .before .before .before .before .before .before .loop .i) (c .before .before .before .before .before .before .before .loop .place) (c .before .before .before .before .before .before .before .before .before .before .pre) (c .before .before .before .before .before .before .loop-test .taken) (c .before .before .before .before .before .before .before .loop .inv .1) in omega arith
-
-add-i : tie.Need-add-i Inv-loop μ-loop
-add-i c = omega arith
-
-loop-less : tie.Need-loop-less Inv-loop μ-loop
-loop-less c = omega arith
 
 loop-again : tie.Need-loop-again Inv-loop μ-loop
 loop-again c =
@@ -59,15 +47,5 @@ pub put-atoms-spec : {M : Type 1} → statement M
 put-atoms-spec =
     tie.close
     (tie.spec
-    Inv-loop
-    μ-loop
-    loop-holds
-    shared-slice-read-wide
-    wide-requires
-    put-field-requires
-    add-place
-    add-i
-    loop-less
-    loop-again
-    same-length
+    Inv-loop μ-loop loop-holds (λ c. omega arith) (λ c κs. tt) put-field-requires add-place (λ c. omega arith) (λ c. omega arith) loop-again same-length
     returns)

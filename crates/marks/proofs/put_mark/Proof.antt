@@ -16,24 +16,6 @@ use Rattle.marks.proofs.put_mark.Tie as tie
 size : (c : tie.Start) → length (take (c .args .q .len) (c .args .q .prefix)) ≡ c .args .q .len
 size c = length-take-le (c .args .q .len) (c .args .q .prefix) (omega (arith, c .pre))
 
-slice-aggregate-put-fields : tie.Need-slice-aggregate-put-fields
-slice-aggregate-put-fields c = search needs
-
-put-fields-requires : tie.Need-put-fields-requires
-put-fields-requires c κs = search needs
-
-put-feed-requires : tie.Need-put-feed-requires
-put-feed-requires c κs = search needs
-
-slice-aggregate-put-fields-2 : tie.Need-slice-aggregate-put-fields-2
-slice-aggregate-put-fields-2 c = search needs
-
-put-fields-requires-2 : tie.Need-put-fields-requires-2
-put-fields-requires-2 c κs = search needs
-
-put-feed-requires-2 : tie.Need-put-feed-requires-2
-put-feed-requires-2 c κs = search needs
-
 array-share-prefix-prefix : tie.Need-array-share-prefix-prefix
 array-share-prefix-prefix c = omega (arith, c .before .before .before .before .before .before .before .before .before .before .before .before .before .before .before .before .before .before .before .before .before .pre)
 
@@ -42,18 +24,6 @@ slice-aggregate-put-atoms c = sym (size (c .before .before .before .before .befo
 
 put-atoms-requires : tie.Need-put-atoms-requires
 put-atoms-requires c κs = omega (arith, c .before .before .before .before .before .before .before .before .before .before .before .before .before .before .before .before .before .before .before .before .before .before .pre, size (c .before .before .before .before .before .before .before .before .before .before .before .before .before .before .before .before .before .before .before .before .before .before), c .before .before .before .before .before .before .before .before .before .before .before .before .before .before .before .before .before .put-fields .kept .0, c .before .before .before .before .before .before .before .before .before .before .before .before .before .put-feed .kept .0, c .before .before .before .before .before .before .before .before .put-fields2 .kept .0, c .before .before .before .before .put-feed2 .kept .0)
-
-mul-put-feed : tie.Need-mul-put-feed
-mul-put-feed c = search needs
-
-add-put-feed : tie.Need-add-put-feed
-add-put-feed c = search needs
-
-put-feed-requires-3 : tie.Need-put-feed-requires-3
-put-feed-requires-3 c κs = search needs
-
-same-length : tie.Need-same-length
-same-length c = search needs
 
 returns : tie.Need-returns
 unfolding beginning markText
@@ -78,17 +48,6 @@ pub put-mark-spec : {M : Type 1} → statement M
 put-mark-spec =
     tie.close
     (tie.spec
-    slice-aggregate-put-fields
-    put-fields-requires
-    put-feed-requires
-    slice-aggregate-put-fields-2
-    put-fields-requires-2
-    put-feed-requires-2
-    array-share-prefix-prefix
-    slice-aggregate-put-atoms
-    put-atoms-requires
-    mul-put-feed
-    add-put-feed
-    put-feed-requires-3
-    same-length
-    returns)
+    (λ c. search needs) (λ c κs. search needs) (λ c κs. search needs) (λ c. search needs) (λ c κs. search needs) (λ c κs. search needs)
+    array-share-prefix-prefix slice-aggregate-put-atoms put-atoms-requires (λ c. search needs) (λ c. search needs) (λ c κs. search needs)
+    (λ c. search needs) returns)

@@ -5,24 +5,6 @@ use Rattle.run.proofs.Gaps.{gap-whole, gap-range, gap-lowest}
 use Rattle.run.proofs.gap.Statement.{statement}
 use Rattle.run.proofs.gap.Tie as tie
 
-union-requires : tie.Need-union-requires
-union-requires c κs = search needs
-
-sub-range : tie.Need-sub-range
-sub-range c = search needs
-
-range-requires : tie.Need-range-requires
-range-requires c κs = search needs
-
-intersection-requires : tie.Need-intersection-requires
-intersection-requires c κs = search needs
-
-is-empty-requires : tie.Need-is-empty-requires
-is-empty-requires c κs = search needs
-
-sub-result : tie.Need-sub-result
-sub-result c = search needs
-
 returns : tie.Need-returns
 returns c = gap-whole (c .before .before .before .before .before .before .before .args .found) (c .before .before .before .before .union .result) (c .before .before .before .range .result) (c .before .before .intersection .result) (c .before .before .before .before .before .before .before .args .c) (c .before .before .before .before .before .before .before .args .n) (c .before .before .before .before .before .before .before .pre .0) (c .before .before .before .before .union .ensures) (c .before .before .before .range .ensures) (c .before .before .intersection .ensures) (c .before .before .before .before .before .before .before .pre .1) (c .before .is-empty .ensures .none (c .if1 .taken))
 
@@ -39,13 +21,5 @@ pub gap-spec : {M : Type 1} → statement M
 gap-spec =
     tie.close
     (tie.spec
-    union-requires
-    sub-range
-    range-requires
-    intersection-requires
-    is-empty-requires
-    sub-result
-    returns
-    lowest-requires
-    sub-result-2
-    returns-2)
+    (λ c κs. search needs) (λ c. search needs) (λ c κs. search needs) (λ c κs. search needs) (λ c κs. search needs) (λ c. search needs) returns
+    lowest-requires sub-result-2 returns-2)

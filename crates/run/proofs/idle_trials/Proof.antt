@@ -20,14 +20,8 @@ returns-2 c = idle-none (c .before .before .before .args .found) (c .before .bef
 returns-3 : tie.Need-returns-3
 returns-3 c = idle-none (c .before .before .before .before .args .found) (c .before .before .before .before .args .stale) (c .before .before .before .before .args .at) (c .before .before .before .before .args .n) (c .before .before .before .before .args .left)
 
-at-limit-requires : tie.Need-at-limit-requires
-at-limit-requires c κs = search needs
-
 returns-4 : tie.Need-returns-4
 returns-4 c = idle-none (c .before .before .before .before .before .before .args .found) (c .before .before .before .before .before .before .args .stale) (c .before .before .before .before .before .before .args .at) (c .before .before .before .before .before .before .args .n) (c .before .before .before .before .before .before .args .left)
-
-gap-requires : tie.Need-gap-requires
-gap-requires c κs = search needs
 
 returns-5 : tie.Need-returns-5
 returns-5 c = idle-none (c .before .before .before .before .before .before .before .before .args .found) (c .before .before .before .before .before .before .before .before .args .stale) (c .before .before .before .before .before .before .before .before .args .at) (c .before .before .before .before .before .before .before .before .args .n) (c .before .before .before .before .before .before .before .before .args .left)
@@ -45,15 +39,4 @@ returns-7 c =
     (record { fresh = c .before .before .before .before .before .before .before .before .before .if1 .left; long = c .before .before .before .before .before .before .before .if2 .left; gap = c .before .before .before .gap .ensures; trials-most = room; extensions-other = extensions; listed-other = counts .1 })
 
 pub idle-trials-spec : {M : Type 1} → statement M
-idle-trials-spec =
-    tie.close
-    (tie.spec
-    returns
-    returns-2
-    returns-3
-    at-limit-requires
-    returns-4
-    gap-requires
-    returns-5
-    returns-6
-    returns-7)
+idle-trials-spec = tie.close (tie.spec returns returns-2 returns-3 (λ c κs. search needs) returns-4 (λ c κs. search needs) returns-5 returns-6 returns-7)

@@ -8,11 +8,8 @@ use Rattle.run.proofs.is_done.Tie as tie
 returns : tie.Need-returns
 returns c = simp (ne-eqb (c .before .args .len) 0 (c .if1 .taken))
 
-add-result : tie.Need-add-result
-add-result c = search needs
-
 returns-2 : tie.Need-returns-2
 returns-2 c = simp (eq-eqb (c .before .args .len) 0 (c .if1 .left), add-one)
 
 pub is-done-spec : {M : Type 1} → statement M
-is-done-spec = tie.close (tie.spec returns add-result returns-2)
+is-done-spec = tie.close (tie.spec returns (λ c. search needs) returns-2)

@@ -16,32 +16,11 @@ Inv-loop part₀ prefix len c i₀ part i = (i ≤ len) × (length part ≡ leng
 abbrev μ-loop : tie.MeasureT-loop
 μ-loop part₀ prefix len c i₀ part i = len - i
 
-add-part : tie.Need-add-part Inv-loop μ-loop
-add-part c = omega arith
-
-cast-part : tie.Need-cast-part Inv-loop μ-loop
-cast-part c = omega arith
-
-slice-write-part : tie.Need-slice-write-part Inv-loop μ-loop
-slice-write-part c = omega arith
-
 loop-holds : tie.Need-loop-holds Inv-loop μ-loop
 loop-holds c = (omega arith, refl, record-begins (c .args .prefix .now) (c .args .len) (c .args .part .now) (omega arith))
 
-element-copy-out-part : tie.Need-element-copy-out-part Inv-loop μ-loop
-element-copy-out-part c = omega arith
-
-add-part-2 : tie.Need-add-part-2 Inv-loop μ-loop
-add-part-2 c = omega arith
-
 slice-write-part-2 : tie.Need-slice-write-part-2 Inv-loop μ-loop
 slice-write-part-2 c = omega (arith, length-set (c .before .before .before .args .part .now) 0 (c .before .before .before .args .len + 1))
-
-add-i : tie.Need-add-i Inv-loop μ-loop
-add-i c = omega arith
-
-loop-less : tie.Need-loop-less Inv-loop μ-loop
-loop-less c = omega arith
 
 loop-again : tie.Need-loop-again Inv-loop μ-loop
 loop-again c =
@@ -52,12 +31,6 @@ loop-again c =
       length-set (loop .part) (loop .i + 1) (getD (start .args .prefix .now) (loop .i) 0) ∙ loop .inv .1,
       record-goes-on (start .args .prefix .now) (start .args .len) (start .pre .3) (start .pre .0) (set (start .args .part .now) 0 (start .args .len + 1)) (loop .part) (loop .i) (c .before .loop-test .taken) room (loop .inv .2),
     )
-
-cast-part-2 : tie.Need-cast-part-2 Inv-loop μ-loop
-cast-part-2 c = omega arith
-
-add-part-3 : tie.Need-add-part-3 Inv-loop μ-loop
-add-part-3 c = omega arith
 
 slice-write-part-3 : tie.Need-slice-write-part-3 Inv-loop μ-loop
 slice-write-part-3 c = omega (arith, length-set (c .before .before .args .part .now) 0 (c .before .before .args .len + 1))
@@ -79,20 +52,5 @@ pub put-record-spec : {M : Type 1} → statement M
 put-record-spec =
     tie.close
     (tie.spec
-    Inv-loop
-    μ-loop
-    add-part
-    cast-part
-    slice-write-part
-    loop-holds
-    element-copy-out-part
-    add-part-2
-    slice-write-part-2
-    add-i
-    loop-less
-    loop-again
-    cast-part-2
-    add-part-3
-    slice-write-part-3
-    same-length
-    returns)
+    Inv-loop μ-loop (λ c. omega arith) (λ c. omega arith) (λ c. omega arith) loop-holds (λ c. omega arith) (λ c. omega arith) slice-write-part-2
+    (λ c. omega arith) (λ c. omega arith) loop-again (λ c. omega arith) (λ c. omega arith) slice-write-part-3 same-length returns)

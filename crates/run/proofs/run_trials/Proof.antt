@@ -149,12 +149,6 @@ stops c =
 
 -- ---- the needs
 
-spot-of-requires : tie.Need-spot-of-requires Inv-loop μ-loop
-spot-of-requires c κs = tt
-
-no-plan-requires : tie.Need-no-plan-requires Inv-loop μ-loop
-no-plan-requires c κs = tt
-
 loop-holds : tie.Need-loop-holds Inv-loop μ-loop
 loop-holds c = let start = c .before .before .before .before in rw (c .before .spot-of .ensures) (starts (start .args .n) (start .args .table .now) (start .args .q) (start .args .budget) (start .args .out .now) (c .no-plan .result) (start .pre))
 
@@ -176,9 +170,6 @@ add-made c = omega (arith, c .before .idle-trials .ensures .affordable, c .befor
 
 is-done-requires : tie.Need-is-done-requires Inv-loop μ-loop
 is-done-requires c κs = again c .before .before .before .before .before .pre .words .few
-
-at-limit-requires : tie.Need-at-limit-requires Inv-loop μ-loop
-at-limit-requires c κs = tt
 
 plan-at-requires : tie.Need-plan-at-requires Inv-loop μ-loop
 plan-at-requires c κs =
@@ -202,9 +193,6 @@ sub-put-record c = in-room (again (c .before .before .before .before .before .be
 part-put-record-start : tie.Need-part-put-record-start Inv-loop μ-loop
 part-put-record-start c = in-room (again (c .before .before .before .before .before .before .before .before .before)) .0
 
-part-put-record-end : tie.Need-part-put-record-end Inv-loop μ-loop
-part-put-record-end c = omega arith
-
 put-record-requires : tie.Need-put-record-requires Inv-loop μ-loop
 put-record-requires c κs =
     let loop = again (c .before .before .before .before .before .before .before .before .before .before .before) .loop in
@@ -226,9 +214,6 @@ act-requires c κs = (again (c .before .before .before .before .before .before .
 add-made-2 : tie.Need-add-made-2 Inv-loop μ-loop
 add-made-2 c = omega (arith, left (c .before .before .before .before .before .before), again (c .before .before .before .before .before .before .before .before .before .before .before) .before .before .before .before .before .fits .budget)
 
-is-stale-requires : tie.Need-is-stale-requires Inv-loop μ-loop
-is-stale-requires c κs = tt
-
 loop-less : tie.Need-loop-less Inv-loop μ-loop
 loop-less c = omega (arith, left (c .before .before .before .before .before .before .before))
 
@@ -238,9 +223,6 @@ loop-again c =
     (c .before .before .before .before .before .before .if4 .found) (planned (c .before .before .before .before .before .before)) (c .before .before .before .before .if5 .out) (c .before .before .before .before .if5 .used) (written (c .before .before .before .before))
     (c .before .before .before .before .before .lists-at .result) (c .before .before .opens-at .result) (c .before .before .before .before .before .lists-at .ensures) (c .before .before .opens-at .ensures)
     (c .before .act .last .0) (c .before .act .result) (c .before .act .ensures) (c .is-stale .result) (c .is-stale .ensures)
-
-stopped-requires : tie.Need-stopped-requires Inv-loop μ-loop
-stopped-requires c κs = tt
 
 same-length : tie.Need-same-length Inv-loop μ-loop
 same-length c = in-room (again (c .before .before .before)) .1
@@ -252,33 +234,6 @@ pub run-trials-spec : {M : Type 1} → statement M
 run-trials-spec =
     tie.close
     (tie.spec
-    Inv-loop
-    μ-loop
-    spot-of-requires
-    no-plan-requires
-    loop-holds
-    sub-idle-trials
-    idle-trials-requires
-    skipped-requires
-    add-made
-    is-done-requires
-    at-limit-requires
-    plan-at-requires
-    lists-at-requires
-    sub-if6
-    add-if6
-    sub-put-record
-    part-put-record-start
-    part-put-record-end
-    put-record-requires
-    add-used
-    add-used-2
-    opens-at-requires
-    act-requires
-    add-made-2
-    is-stale-requires
-    loop-less
-    loop-again
-    stopped-requires
-    same-length
-    returns)
+    Inv-loop μ-loop (λ c κs. tt) (λ c κs. tt) loop-holds sub-idle-trials idle-trials-requires skipped-requires add-made is-done-requires (λ c κs. tt)
+    plan-at-requires lists-at-requires sub-if6 add-if6 sub-put-record part-put-record-start (λ c. omega arith) put-record-requires add-used add-used-2
+    opens-at-requires act-requires add-made-2 (λ c κs. tt) loop-less loop-again (λ c κs. tt) same-length returns)

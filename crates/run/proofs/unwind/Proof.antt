@@ -18,29 +18,11 @@ abbrev μ-loop : tie.MeasureT-loop
 loop-holds : tie.Need-loop-holds Inv-loop μ-loop
 loop-holds c = (c .pre .0 .within, refl)
 
-add-if1 : tie.Need-add-if1 Inv-loop μ-loop
-add-if1 c = omega arith
-
 returns : tie.Need-returns Inv-loop μ-loop
 returns c = record { within = c .before .before .loop .inv .0; place-is = unwound-left (c .before .before .before .args .n) (c .before .before .loop .prefix) (c .before .before .loop .len) (c .before .before .loop .c) (c .before .before .loop .inv .0) (c .before .loop-test .taken) (c .if1 .taken) ∙ c .before .before .loop .inv .1 }
 
-sub-len : tie.Need-sub-len Inv-loop μ-loop
-sub-len c = omega arith
-
-element-copy-out-wide : tie.Need-element-copy-out-wide Inv-loop μ-loop
-element-copy-out-wide c = omega arith
-
-wide-requires : tie.Need-wide-requires Inv-loop μ-loop
-wide-requires c κs = tt
-
 add-c : tie.Need-add-c Inv-loop μ-loop
 add-c c = omega (arith, c .wide .ensures .1)
-
-element-write-prefix : tie.Need-element-write-prefix Inv-loop μ-loop
-element-write-prefix c = omega arith
-
-loop-less : tie.Need-loop-less Inv-loop μ-loop
-loop-less c = omega arith
 
 loop-again : tie.Need-loop-again Inv-loop μ-loop
 loop-again c =
@@ -57,16 +39,5 @@ pub unwind-spec : {M : Type 1} → statement M
 unwind-spec =
     tie.close
     (tie.spec
-    Inv-loop
-    μ-loop
-    loop-holds
-    add-if1
-    returns
-    sub-len
-    element-copy-out-wide
-    wide-requires
-    add-c
-    element-write-prefix
-    loop-less
-    loop-again
-    returns-2)
+    Inv-loop μ-loop loop-holds (λ c. omega arith) returns (λ c. omega arith) (λ c. omega arith) (λ c κs. tt) add-c (λ c. omega arith) (λ c. omega arith)
+    loop-again returns-2)
