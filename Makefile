@@ -15,9 +15,9 @@ test: tests
 tests:
 	rt version
 	rt fmt --check
+	rt check flat host ringlist
 	rt staticlib flat
 	rt staticlib host
-	rt check ringlist
 	tests/run_tests.sh
 
 bench:

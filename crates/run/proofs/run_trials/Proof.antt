@@ -43,9 +43,16 @@ atoms : (c : tie.Start Inv-loop μ-loop) → family c .atoms ≡ c .args .n
 atoms c = by-atoms (c .args .n) (c .args .table .now) (c .args .q .kind) (c .args .q .s) (c .args .q .t)
 
 -- the loop's facts hold again after the trials that are skipped
+skipping :
+    (c : tie.After-skipped Inv-loop μ-loop) →
+    Turning (family (c .before .before .before .before .before .before .before)) (c .before .before .before .before .before .before .before .args .budget) (c .before .before .before .before .before .before .before .args .out .now) (stateOf (c .before .before .before .before .before .before .before .args .q)) (c .before .before .loop .out) (c .before .before .loop .prefix) (c .skipped .result) (c .before .before .loop .found) (c .before .before .loop .stale) (c .before .before .loop .used) (c .before .before .loop .made + c .before .idle-trials .result)
+skipping c =
+    let start = c .before .before .before .before .before .before .before in
+    let loop = c .before .before .loop in
+    rw (c .skipped .ensures) (skips (family start) (lawful start) (start .args .n) (atoms start) (start .pre .words .few) (start .args .budget) (start .args .out .now) (stateOf (start .args .q)) (loop .out) (loop .prefix) (loop .found) (loop .used) (loop .stale) (loop .at) (loop .made) (c .before .idle-trials .result) (loop .inv .going .in-budget) (loop .inv) (c .before .idle-trials .ensures))
+
 abbrev again : tie.After-skipped Inv-loop μ-loop → tie.At-loop Inv-loop μ-loop
 again c =
-    let start = c .before .before .before .before .before .before .before in
     let loop = c .before .before .loop in
     record {
       before = c .before .before .before;
@@ -57,7 +64,7 @@ again c =
         stale = loop .stale;
         used = loop .used;
         made = loop .made + c .before .idle-trials .result;
-        inv = rw (c .skipped .ensures) (skips (family start) (lawful start) (start .args .n) (atoms start) (start .pre .words .few) (start .args .budget) (start .args .out .now) (stateOf (start .args .q)) (loop .out) (loop .prefix) (loop .found) (loop .used) (loop .stale) (loop .at) (loop .made) (c .before .idle-trials .result) (loop .inv .going .in-budget) (loop .inv) (c .before .idle-trials .ensures));
+        inv = skipping c;
       };
     }
 
