@@ -29,6 +29,8 @@ const SAMPLE: f64 = 0.002;
 const LENGTHS: [u64; 5] = [100, 1_000, 10_000, 100_000, 1_000_000];
 /// Listings of more calls than this are not timed.
 const MOST_CALLS: u64 = 20_000;
+/// The ratio to `lister` that is aimed for.
+const AIM: f64 = 1.2;
 const DONE: u32 = 101;
 const MARK: usize = 599;
 
@@ -255,6 +257,23 @@ fn table(rows: &[Row]) -> String {
         millions(sum(|row| row.trials as f64) / entry),
     )
     .expect("a string takes any text");
+
+    let above: Vec<_> = rows
+        .iter()
+        .filter(|row| row.ratio() > AIM)
+        .map(|row| row.name.as_str())
+        .collect();
+    if !above.is_empty() {
+        writeln!(
+            text,
+            "\nAbove {AIM} of `lister`: {}. The entry keeps a search that can stop before any trial: it counts trials, tests the \
+             four stops at each atom that lists or opens, walks the present beginning's atoms for its sets, and makes the sets \
+             anew when it comes back to a beginning, where `lister` has them on its stack. A small molecule also pays the fixed \
+             cost of a call, most of `resume`.",
+            above.join("; "),
+        )
+        .expect("a string takes any text");
+    }
 
     text.push_str(
         "\n## The entry in runs of several lengths, against itself in one run\n\n| molecule |",
