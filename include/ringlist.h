@@ -22,7 +22,10 @@ extern "C" {
               feed each, 9 bytes.
    mark       the mark that the call before wrote, mark_len bytes exactly;
               mark_len 0 starts a fresh ring search. A mark belongs to the
-              sheet that it was made with.
+              sheet that it was made with. Of that only n, m and that its
+              place is open are checked: a mark of another sheet with the same
+              n and m may be accepted, and this sheet's rings are then listed
+              from that place on. Keep the two together.
    budget     the most trials that this call makes. It may be 0.
    rings      the ring output, rings_len bytes.
    next_mark  the mark output, next_mark_len bytes, at least 599, the length of
@@ -45,8 +48,10 @@ extern "C" {
    Next mark. It stands at the start of the output, 91 + 4 * (atoms in the
    present beginning) bytes, that is ringlist_mark_length(next_mark,
    next_mark_len); the bytes past it keep their values. It is text of three
-   lines; line 2 holds trials, extensions and rings listed so far, 20 columns
-   each.
+   lines. Line 1: kind (0 rings, 1 paths), s and t (0 and 0 for rings), n, m,
+   the number of atoms in the present beginning, and the next atom, 4 columns
+   each. Line 2: trials, extensions and rings listed so far, 20 columns each.
+   Line 3: the atoms of the beginning, 4 columns each.
 
    Returned when the call was accepted:
      101  done: all rings have been listed.
@@ -79,7 +84,9 @@ extern "C" {
    No other number comes back.
 
    A mark of kind 1 lists the chordless paths from s to t in the same way, as
-   records of 2 atoms or more.
+   records of 2 atoms or more. Such a search starts from the mark with kind 1,
+   s, t, n, m, 0 and 1 in line 1, three counts 0 in line 2, and an empty
+   line 3.
 
    The functions have no state of their own: they may be called at once from
    several threads, with outputs that do not overlap. They call nothing but
