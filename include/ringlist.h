@@ -21,11 +21,10 @@ extern "C" {
               then m lines of two atoms; two fields of 4 columns and a line
               feed each, 9 bytes.
    mark       the mark that the call before wrote, mark_len bytes exactly;
-              mark_len 0 starts a fresh ring search. A mark belongs to the
-              sheet that it was made with. Of that only n, m and that its
-              place is open are checked: a mark of another sheet with the same
-              n and m may be accepted, and this sheet's rings are then listed
-              from that place on. Keep the two together.
+              mark_len 0 starts a fresh ring search. A mark belongs to any
+              sheet with its n and m; that is checked (15), and that its place
+              is open there (17), and no more. So hand it only to the sheet
+              that it was made with.
    budget     the most trials that this call makes. It may be 0.
    rings      the ring output, rings_len bytes.
    next_mark  the mark output, next_mark_len bytes, at least 599, the length of
@@ -54,14 +53,16 @@ extern "C" {
    Line 3: the atoms of the beginning, 4 columns each.
 
    Returned when the call was accepted:
-     101  done: all rings have been listed.
+     101  done: all rings that follow the mark have been listed; from a fresh
+          search, all rings.
      102  limit: a count stands at 9,999,999,999,999,999,999.
      103  spent: the budget is used up.
      104  full: the next ring needs more bytes than are left.
    After 103 and 104 call again with the next mark. A call with a budget of at
    least 2 * n * n and an output of at least n + 1 bytes (129 always will do)
-   lists at least one ring, or ends done or at the limit. A call after 101 or
-   102 returns the same again, with no rings and the same mark.
+   lists at least one ring, or ends done or at the limit. A call
+   that is handed the mark written with 101 or 102, and is not refused, returns
+   the same number again, with no rings and the same mark.
 
    Returned when it was refused, by the first rule that is broken in the order
    1 to 8, 14 to 17, 13. A refused call writes to neither output.
@@ -89,9 +90,8 @@ extern "C" {
    line 3.
 
    The functions have no state of their own: they may be called at once from
-   several threads, with outputs that do not overlap. They call nothing but
-   memcpy and memset, take no memory from the heap, and use less than 32
-   kilobytes of stack. */
+   several threads, with outputs that do not overlap. They
+   take no memory from the heap and use less than 32 kilobytes of stack. */
 uint32_t ringlist_resume(const uint8_t *sheet, size_t sheet_len,
                          const uint8_t *mark, size_t mark_len,
                          uint64_t budget,
@@ -105,7 +105,7 @@ uint32_t ringlist_resume(const uint8_t *sheet, size_t sheet_len,
 size_t ringlist_mark_length(const uint8_t *mark, size_t mark_len);
 
 /* The listed count of a mark, in columns 41 to 60 of its second line. 0 where
-   the buffer has fewer than 91 bytes, as no mark has, or those columns hold no
+   the buffer has fewer than 91 bytes (so for mark_len 0), or those columns hold no
    number up to 9,999,999,999,999,999,999. */
 uint64_t ringlist_listed(const uint8_t *mark, size_t mark_len);
 
