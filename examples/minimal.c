@@ -17,5 +17,5 @@ int main(void) {
         mark_len = ringlist_mark_length(to, 599);
         now = !now;
     } while (stop > 102);
-    return 0;
+    return fflush(stdout) != 0 || ferror(stdout) || ferror(stdin);
 }

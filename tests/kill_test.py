@@ -1,7 +1,8 @@
 #!/usr/bin/env python3
 """Kills the example host (examples/host.c) at random moments and lets it go on,
 until the listing is done; its output must then be that of ringlist, byte for
-byte. Before that, what the host says to files that it cannot use.
+byte. Before that, what the host says to files that it cannot use, to a second
+host on the same output, and to a full disk.
 
     kill_test.py HOST RINGLIST EXAMPLES FOLDER [KILLS]
 
@@ -11,6 +12,7 @@ them: without the temporary file, with half of it, with more behind the output.
 """
 import os
 import random
+import resource
 import signal
 import subprocess
 import sys
@@ -28,6 +30,17 @@ PLAN = [
     ("buckminsterfullerene", 1000000, 20, 0.15),
 ]
 
+HEAD = 42  # bytes of the first line of a state
+WRONG = b"not what this host wrote for this sheet"
+
+
+def checksum(sheet):
+    """FNV-1a, 64 bits."""
+    value = 14695981039346656037
+    for byte in sheet:
+        value = (value ^ byte) * 1099511628211 % 2 ** 64
+    return value
+
 
 class Listing:
     """One listing: its command, and the files that it keeps."""
@@ -40,9 +53,15 @@ class Listing:
             if os.path.exists(name):
                 os.remove(name)
         self.command = [host, sheet, self.state, self.out, str(budget)]
+        self.sum = checksum(contents(sheet))
 
     def start(self):
         return subprocess.Popen(self.command, stdout=subprocess.PIPE, stderr=subprocess.PIPE)
+
+    def files(self):
+        """What is in the three files; None for one that is not there."""
+        return [contents(name) if os.path.exists(name) else None
+                for name in (self.state, self.out, self.new)]
 
     def finish(self):
         """Runs to the end and returns what it says."""
@@ -52,22 +71,29 @@ class Listing:
             sys.exit("kill_test: %s: %d %r" % (self.command, process.returncode, errors))
         return said
 
-    def stop(self):
-        """The number of the last stop, or 0 where no slice has finished."""
+    def head(self):
+        """Bytes of the output and last stop as the state says them; 0 and 0
+        where there is no state yet."""
+        if not os.path.exists(self.state):
+            return 0, 0
         state = contents(self.state)
-        return int(state[20:24]) if state else 0
+        count, stop, mark = state[:20], state[20:24], state[HEAD:]
+        if not (count.strip().isdigit() and stop.strip().isdigit()
+                and state[24:HEAD] == b" %016x\n" % self.sum
+                and (len(mark) >= 91 if int(stop) else not mark and not int(count))):
+            sys.exit("kill_test: %s: not a whole state: %r" % (self.command, state))
+        return int(count), int(stop)
 
     def check(self, expected, when):
-        """STATE belongs to a beginning of the output, of whole lines."""
+        """STATE belongs to a beginning of the output, of whole lines. Returns
+        whether the output goes on behind it."""
         out = contents(self.out)
-        state = contents(self.state)
-        if os.path.exists(self.state) and len(state) < 25 + 91:
-            sys.exit("kill_test: %s: half a state after %s" % (self.command, when))
-        count = int(state[:20]) if state else 0
+        count = self.head()[0]
         if len(out) < count or out[:count] != expected[:count]:
             sys.exit("kill_test: %s: wrong output after %s" % (self.command, when))
         if count > 0 and out[count - 1:count] != b"\n":
             sys.exit("kill_test: %s: half a line after %s" % (self.command, when))
+        return len(out) > count
 
     def disturb(self, rng):
         """What another moment of a crash may leave."""
@@ -91,36 +117,44 @@ def contents(name):
         return b""
 
 
+def put(name, text):
+    with open(name, "wb") as file:
+        file.write(text)
+
+
 def kill_once(listing, rng, longest):
-    """Starts the host and kills it; whether it was running, and whether it had
-    finished a slice since its start."""
-    before = contents(listing.state)
+    """Starts the host and kills it; returns whether it was running."""
     process = listing.start()
     time.sleep(rng.random() * longest)
     process.send_signal(signal.SIGKILL)
     process.communicate()
-    return process.returncode == -signal.SIGKILL, contents(listing.state) != before
+    return process.returncode == -signal.SIGKILL
 
 
 def one_listing(listing, kills, longest, expected, rng):
     """Kills until `kills` have hit; a listing that is done begins anew. Returns
-    the kills that hit, those of them with a finished slice, and listings."""
-    hits, moved, done = 0, 0, 0
+    the kills that hit, those of them with a finished slice since the start,
+    those that left work of an unfinished slice behind which was not there
+    before the start (output that the state does not count, or a temporary
+    file), and listings."""
+    hits, moved, torn, done = 0, 0, 0, 0
     while hits < kills:
-        hit, forward = kill_once(listing, rng, longest)
-        if hit:
+        state, out, new = listing.files()
+        if kill_once(listing, rng, longest):
             hits += 1
-            moved += forward
-            listing.check(expected, "kill %d" % hits)
+            longer = listing.check(expected, "kill %d" % hits)
+            state_now, out_now, new_now = listing.files()
+            moved += listing.head()[1] > 0 and state_now != state
+            torn += (longer and out_now != out) or (new_now is not None and new_now != new)
             listing.disturb(rng)
-        if listing.stop() in (101, 102):
+        if listing.head()[1] in (101, 102):
             end(listing, expected)
             done += 1
             listing = Listing(listing.command[0], listing.command[1],
                               os.path.dirname(listing.state), int(listing.command[4]))
             longest /= 2
     end(listing, expected)
-    return hits, moved, done + 1
+    return hits, moved, torn, done + 1
 
 
 def end(listing, expected):
@@ -133,45 +167,138 @@ def end(listing, expected):
         sys.exit("kill_test: %s: a start after the end changed something" % listing.command)
 
 
+def says(message, listing, command=None, limit=None):
+    """The host ends with exit code 1 and the message on standard error. It
+    leaves all files as they are; with a limit, the longest file that it may
+    write, it need not."""
+    def limit_files():
+        signal.signal(signal.SIGXFSZ, signal.SIG_IGN)
+        resource.setrlimit(resource.RLIMIT_FSIZE, (limit, limit))
+
+    before = listing.files()
+    made = subprocess.run(command or listing.command, stdout=subprocess.PIPE,
+                          stderr=subprocess.PIPE,
+                          preexec_fn=None if limit is None else limit_files)
+    if made.returncode != 1 or message not in made.stderr or made.stdout:
+        sys.exit("kill_test: %r expected: %r" % (message, made))
+    if limit is None and listing.files() != before:
+        sys.exit("kill_test: %r: the files have changed" % made)
+
+
 def wrong_files(host, examples, folder):
-    """Refusals and wrong files: exit code 1, the reason on standard error."""
+    """Refusals and wrong files."""
     sheet = os.path.join(folder, "sheet")
     cubane = os.path.join(examples, "cubane.sheet")
+    gonane = os.path.join(examples, "gonane.sheet")
 
-    def says(message, command):
-        made = subprocess.run(command, stdout=subprocess.PIPE, stderr=subprocess.PIPE)
-        if made.returncode != 1 or message not in made.stderr or made.stdout:
-            sys.exit("kill_test: %s: %r" % (command, made))
-
+    # A refused sheet: with no file yet, and with an empty output.
     for rule, text in [(1, b""), (1, b"   1   2\n" * 7282), (2, b"x" * 9), (3, b" 129   0\n"),
                        (4, b"   41025\n"), (5, b"   4   1\n"), (6, b"   4   1\n   0   1\n"),
                        (7, b"   4   1\n   1   1\n"), (8, b"   4   2\n   1   2\n   2   1\n")]:
-        with open(sheet, "wb") as file:
-            file.write(text)
-        says(b"refused %d\n" % rule, Listing(host, sheet, folder, 5).command)
+        put(sheet, text)
+        listing = Listing(host, sheet, folder, 5)
+        says(b"refused %d\n" % rule, listing)
+        put(listing.out, b"")
+        says(b"refused %d\n" % rule, listing)
+    says(b"No such file", Listing(host, sheet + "s", folder, 5))
+
+    # A finished listing, and states that it did not leave.
     listing = Listing(host, cubane, folder, 5)
     listing.finish()
-    state, out = contents(listing.state), contents(listing.out)
-    mark = state[:20] + b" 103" + state[24:]
-    for message, wrong in [(b"refused 14\n", mark[:-1]),
-                           (b"refused 15\n", mark.replace(b"   8  12", b"   8  13")),
-                           (b"refused 16\n", mark.replace(b"\n   0", b"\n   2", 1)),
-                           (b"refused 17\n", mark.replace(b"   0   9\n", b"   0  10\n")),
-                           (b"not what this host wrote", b"x" + state),
-                           (b"not what this host wrote", state[:25]),
-                           (b"not what this host wrote", state + b" " * 599)]:
-        with open(listing.state, "wb") as file:
-            file.write(wrong)
-        says(message, listing.command)
-        if contents(listing.state) != wrong or contents(listing.out) != out:
-            sys.exit("kill_test: a refusal wrote to the files")
-    with open(listing.state, "wb") as file:
-        file.write(state)
-    os.truncate(listing.out, len(out) - 1)
-    says(b"not what this host wrote", listing.command)
-    says(b"No such file", Listing(host, sheet + "s", folder, 5).command)
-    for command in ([host], [host, cubane, "a", "b", "0"], [host, cubane, "a", "b", "5x"]):
-        says(b"usage", command)
+    state, out, _ = listing.files()
+    open_state = state[:20] + b" 103" + state[24:]  # as if not finished
+    fresh = b"%20d%4d" % (0, 0) + state[24:HEAD]
+    for message, wrong in [(b"refused 14\n", open_state[:-1]),
+                           (b"refused 15\n", open_state.replace(b"   8  12", b"   8  13")),
+                           (b"refused 16\n", open_state.replace(b"\n   0", b"\n   2", 1)),
+                           (b"refused 17\n", open_state.replace(b"   0   9\n", b"   0  10\n")),
+                           (b"refused 17\n", state.replace(b"   0   9\n", b"   0  10\n")),
+                           (WRONG, b""), (WRONG, b"\n"), (WRONG, state[:HEAD - 1]),
+                           (WRONG, state[:HEAD]), (WRONG, state + b" " * 599),
+                           (WRONG, b"x" + state), (WRONG, state[1:]),
+                           (WRONG, state[:19] + b"x" + state[20:]),
+                           (WRONG, b"+" + state[1:]), (WRONG, b"0" + state[1:]),
+                           (WRONG, b"\t" + state[1:]), (WRONG, b"9" * 20 + state[20:]),
+                           (WRONG, state[:20] + b"   0" + state[24:]),
+                           (WRONG, state[:20] + b" 100" + state[24:]),
+                           (WRONG, state[:20] + b" 105" + state[24:]),
+                           (WRONG, state[:20] + b"-101" + state[24:]),
+                           (WRONG, state[:20] + b" 102" + state[24:]),
+                           (WRONG, state[:HEAD].replace(b" 101", b"   0")),
+                           (WRONG, fresh + state[HEAD:]),
+                           (WRONG, state[:24] + b" %016X\n" % listing.sum + state[HEAD:]),
+                           (WRONG, state[:24] + b" %016x\n" % (listing.sum ^ 1) + state[HEAD:])]:
+        put(listing.state, wrong)
+        says(message, listing)
+    os.remove(listing.state)
+    says(b"OUT is not empty and there is no STATE", listing)
+    put(sheet, b"x" * 9)
+    says(b"host: ", listing, [host, sheet] + listing.command[2:])
+    put(listing.state, state)
+    put(listing.out, out[:-1])
+    says(b"OUT is shorter than STATE says", listing)
+    os.remove(listing.out)
+    says(b"No such file", listing)
+    put(listing.out, out)
+
+    # Another sheet: of a finished listing; and, with as many atoms and bonds (cuneane, an isomer
+    # of cubane), of one that is not finished, which the right checksum would let through.
+    says(WRONG, listing, [host, gonane] + listing.command[2:])
+    put(sheet, contents(cubane).replace(b"   1   5\n", b"   1   3\n")
+        .replace(b"   2   3\n", b"   2   5\n"))
+    says(WRONG, listing, [host, sheet] + listing.command[2:])
+    listing = Listing(host, cubane, folder, 5)
+    says(b"File too large", listing, limit=200)
+    if listing.head()[1] not in (103, 104):
+        sys.exit("kill_test: the listing should not be finished")
+    says(WRONG, listing, [host, sheet] + listing.command[2:])
+    state = contents(listing.state)
+    isomer = Listing(host, sheet, folder, 5)
+    put(isomer.state, state[:24] + b" %016x\n" % isomer.sum + state[HEAD:])
+    put(isomer.out, out)
+    isomer.finish()
+
+    # Words that are no budget, one file for two, and a name with no room for ".new".
+    listing = Listing(host, cubane, folder, 5)
+    put(listing.out, b"")
+    words = listing.command[:4]
+    for command in ([host], words, words + [""], words + ["0"], words + ["5x"], words + ["-1"],
+                    words + ["+1"], words + [" 1"], words + ["18446744073709551616"],
+                    words + ["5", "5"], words[:3] + [listing.state, "5"]):
+        says(b"usage: host SHEET STATE OUT BUDGET", listing, command)
+    long = folder + "/" * (4093 - len(folder + "state")) + "state"
+    says(b"File name too long", listing, [host, cubane, long, listing.out, "5"])
+
+
+def second_host(host, examples, folder):
+    """A locked output is an error; the lock goes with the process that has it."""
+    listing = Listing(host, os.path.join(examples, "buckminsterfullerene.sheet"), folder, 20000)
+    first = listing.start()
+    while listing.head()[1] == 0 and first.poll() is None:
+        time.sleep(0.01)
+    first.send_signal(signal.SIGSTOP)
+    os.waitid(os.P_PID, first.pid, os.WSTOPPED | os.WEXITED | os.WNOWAIT)
+    says(b"another host is at work on it", listing)
+    first.send_signal(signal.SIGCONT)
+    first.send_signal(signal.SIGKILL)
+    first.communicate()
+    if first.returncode != -signal.SIGKILL:
+        sys.exit("kill_test: the first host should have been at work")
+    says(b"File too large", listing, limit=len(contents(listing.out)))
+
+
+def full_disk(host, ringlist, examples, folder):
+    """A disk that is full at ever later moments, and then is not full."""
+    for name, budget in [("cubane", 1), ("dodecahedrane", 30), ("acene30", 1000000)]:
+        sheet = os.path.join(examples, name + ".sheet")
+        expected = subprocess.run([ringlist], stdin=open(sheet, "rb"), check=True,
+                                  stdout=subprocess.PIPE).stdout
+        listing = Listing(host, sheet, folder, budget)
+        for limit in [0, HEAD - 1, HEAD, HEAD + 91, 220, len(expected) // 2, len(expected) - 1]:
+            if limit < len(expected):
+                says(b"File too large", listing, limit=limit)
+                listing.check(expected, "a file of %d bytes" % limit)
+        end(listing, expected)
 
 
 def main():
@@ -179,9 +306,12 @@ def main():
     share = float(sys.argv[5]) / 240 if len(sys.argv) > 5 else 1
     os.makedirs(folder, exist_ok=True)
     wrong_files(host, examples, folder)
+    second_host(host, examples, folder)
+    full_disk(host, ringlist, examples, folder)
+    print("kill_test: wrong files, a second host and a full disk: as they should be", flush=True)
     rng = random.Random(20)
     texts = {}
-    total = [0, 0, 0]
+    total = [0, 0, 0, 0]
     for name, budget, kills, longest in PLAN:
         sheet = os.path.join(examples, name + ".sheet")
         if name not in texts:
@@ -192,12 +322,14 @@ def main():
         begin = time.time()
         kills = max(1, round(kills * share))
         counts = one_listing(listing, kills, longest, texts[name], rng)
-        print("%-21s budget %8d: %3d kills, %3d after a finished slice, %2d listings, %5.1f s"
+        print("%-21s budget %8d: %3d kills, %3d after a finished slice, %3d within one, "
+              "%2d listings, %5.1f s"
               % ((name, budget) + counts + (time.time() - begin,)), flush=True)
         total = [a + b for a, b in zip(total, counts)]
-    print("kill_test: %d kills of a running host, %d of them after a slice that it finished; "
-          "%d whole listings, all as ringlist's" % tuple(total))
-    if share >= 1 and (total[0] < 200 or total[1] < 60):
+    print("kill_test: %d kills of a running host, %d of them after a slice that it finished, %d that "
+          "left output or a temporary file of an unfinished one; %d whole listings, all as ringlist's"
+          % tuple(total))
+    if share >= 1 and (total[0] < 200 or total[1] < 60 or total[2] < 1):
         sys.exit("kill_test: too few kills")
 
 

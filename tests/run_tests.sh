@@ -5,15 +5,13 @@
 set -euo pipefail
 cd "$(dirname "$0")/.."
 root=$PWD
+die() { echo "run_tests.sh: $*" >&2; exit 1; }
 
 flat=$root/target/staticlib/libflat.a
 host=$root/target/staticlib/libhost.a
 ringlist=$root/target/bin/ringlist
 for made in "$flat" "$host" "$ringlist"; do
-    if [ ! -f "$made" ]; then
-        echo "run_tests.sh: $made is missing; build it first" >&2
-        exit 1
-    fi
+    [ -f "$made" ] || die "$made is missing; build it first"
 done
 
 # need COMMAND PACKAGE: installs the package where the command is missing
@@ -24,7 +22,7 @@ need() {
         apt-get update -q >/dev/null || true
         apt-get install -y -q "$2" >/dev/null || true
     fi
-    command -v "$1" >/dev/null || { echo "run_tests.sh: $1 is missing and could not be installed" >&2; exit 1; }
+    command -v "$1" >/dev/null || die "$1 is missing and could not be installed"
 }
 need cc gcc
 need cargo cargo
@@ -42,7 +40,7 @@ rm -rf "$out/sheets"
 mkdir "$out/sheets"
 python3 examples/make_sheets.py "$out/sheets"
 for sheet in "$out"/sheets/*.sheet examples/*.sheet; do
-    cmp "$out/sheets/${sheet##*/}" "examples/${sheet##*/}"
+    cmp "$out/sheets/${sheet##*/}" "examples/${sheet##*/}" || die "${sheet##*/} is not what make_sheets.py makes"
 done
 
 echo "== C tests"
@@ -56,11 +54,14 @@ $compile examples/minimal.c "$host" -o "$out/minimal"
 
 echo "== The host of twenty lines: the rings that ringlist prints, without its last line"
 for sheet in examples/*.sheet; do
-    "$out/minimal" <"$sheet" >"$out/minimal.text"
-    "$ringlist" <"$sheet" | sed '$d' | cmp - "$out/minimal.text"
+    "$out/minimal" <"$sheet" >"$out/minimal.text" || die "minimal on $sheet: exit code $?"
+    "$ringlist" <"$sheet" | sed '$d' | cmp - "$out/minimal.text" || die "minimal on $sheet: not the rings of ringlist"
 done
-if "$out/minimal" </dev/null 2>"$out/minimal.text"; then exit 1; fi
-echo "refused 1" | cmp - "$out/minimal.text"
+if "$out/minimal" </dev/null 2>"$out/minimal.text"; then die "minimal on no sheet: exit code 0"; fi
+echo "refused 1" | cmp - "$out/minimal.text" || die "minimal on no sheet: not refused by rule 1"
+if "$out/minimal" <examples/cubane.sheet >/dev/full; then die "minimal on a full disk: exit code 0"; fi
+sed -n '/^```c$/,/^```$/p' README.md | sed '1d;$d' >"$out/minimal.text"
+sed 1d examples/minimal.c | cmp - "$out/minimal.text" || die "README.md does not have examples/minimal.c as it is"
 
 echo "== Rust tests"
 (cd tests/rust && cargo test --release --offline)
@@ -68,13 +69,19 @@ echo "== Rust tests"
 echo "== Killing the example host"
 python3 tests/kill_test.py "$out/host" "$ringlist" examples "$out/kill"
 
-echo "== C tests and hosts under valgrind"
-$checker "$out/flat_test"
-$checker "$out/host_test" without-stack
-$checker "$out/minimal" <examples/dodecahedrane.sheet >/dev/null
+echo "== C tests, ringlist and hosts under valgrind"
+$checker "$out/flat_test" || die "flat_test under valgrind: exit code $?"
+$checker "$out/host_test" without-stack || die "host_test under valgrind: exit code $?"
+$checker "$ringlist" <examples/dodecahedrane.sheet >"$out/checked.text" || die "ringlist under valgrind: exit code $?"
+"$ringlist" <examples/dodecahedrane.sheet | cmp - "$out/checked.text" || die "ringlist under valgrind: another output"
+$checker "$out/minimal" <examples/dodecahedrane.sheet >"$out/minimal.text" || die "minimal under valgrind: exit code $?"
+sed '$d' "$out/checked.text" | cmp - "$out/minimal.text" || die "minimal under valgrind: another output"
 rm -f "$out/state" "$out/rings"
-$checker "$out/host" examples/cubane.sheet "$out/state" "$out/rings" 50
-$checker "$out/host" examples/cubane.sheet "$out/state" "$out/rings" 50
+for run in first second; do
+    $checker "$out/host" examples/cubane.sheet "$out/state" "$out/rings" 50 ||
+        die "host under valgrind, $run run: exit code $?"
+    "$ringlist" <examples/cubane.sheet | cmp - "$out/rings" || die "host under valgrind, $run run: another output"
+done
 
 echo "== Rust tests under valgrind, one case in 200"
 rust=$(rustc -vV | sed -n 's/^host: //p')
