@@ -1,7 +1,6 @@
 -- Rings and paths are families that the theory of a search is about.
 -- Sizes and ranges come from the definitions; no ring, and no path, begins another.
 use Prim.Native.Nat.{ℕ}
-use mathlib.Core.Path.{_≡_}
 use Rattle.graph.specs.Chordless.{Adjacency}
 use Rattle.graph.proofs.Below.{clash}
 use Rattle.enumeration.specs.Words.{begins}

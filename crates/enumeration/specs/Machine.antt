@@ -1,7 +1,7 @@
 -- The search, trial by trial (document 01), for any family.
-use Prim.Native.Nat.{ℕ, zero, suc}
+use Prim.Native.Nat.{ℕ, suc}
 use mathlib.Core.Bool.{Bool, true, false, _&&_, cond}
-use mathlib.Core.List.{List, [], _∷_, _++_, reverse}
+use mathlib.Core.List.{List, [], _∷_, reverse}
 use lib.Dec.{eqb}
 use Rattle.enumeration.specs.Words.{Family, isOpen}
 

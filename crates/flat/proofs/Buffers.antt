@@ -1,11 +1,11 @@
 -- Buffers after a copy: a whole array filled, a whole list copied word by word, and a record's bytes behind its head.
 -- From the laws of `take`, `drop` and `++`.
-use Prim.Native.Nat.{ℕ, zero, suc, _+_, _-_, _≤_, _<_}
+use Prim.Native.Nat.{ℕ, _+_, _-_, _≤_, _<_}
 use native.Mathlib.Numerals.{add-one}
 use native.Mathlib.Omega.{arith}
 use mathlib.Core.Path.{_≡_, refl, ap, ap₂, sym, _∙_}
 use mathlib.Core.List.{List, [], _∷_, _++_, append-nil}
-use lib.ListN.{length, take, drop, getD, set, length-drop, length-take, length-append, drop-of-length-le}
+use lib.ListN.{length, take, drop, getD, set, length-take, length-append, drop-of-length-le}
 use lib.Seq.{take-all, take-at, drop-at, take-suc, take-suc-set}
 use borrow.Author.Tests.{eq-eqb, ne-eqb}
 use borrow.Rule.Slice.PartMut.{putMid, postOf}

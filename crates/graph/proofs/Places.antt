@@ -1,8 +1,8 @@
 -- Atom lists place by place: atoms in range, and a path as a ring that never closes.
 -- Both follow from the laws of `allBelow`.
 use Prim.Native.Nat.{ℕ, zero, suc, _≤_, _<_}
-use mathlib.Core.Path.{_≡_, refl, ap, ap₂, sym, _∙_}
-use mathlib.Core.Bool.{Bool, true, false, _&&_, _||_, not, Bool·beq, and-false, or-false}
+use mathlib.Core.Path.{_≡_, refl, ap, ap₂}
+use mathlib.Core.Bool.{Bool, true, _&&_, not, Bool·beq, and-false, or-false}
 use mathlib.Core.List.{List}
 use lib.ListN.{length}
 use lib.Dec.{leb, eqb, eqb·suc-zero}

@@ -1,7 +1,7 @@
 -- Rings and paths of document 01 ("Rings, paths and the list") over n atoms, numbered from 1, and any adjacency.
 -- An atom list is any list of numbers; its places count from 0.
-use Prim.Native.Nat.{ℕ, zero, suc, _-_}
-use mathlib.Core.Bool.{Bool, true, _&&_, _||_, not, Bool·beq}
+use Prim.Native.Nat.{ℕ, suc, _-_}
+use mathlib.Core.Bool.{Bool, _&&_, _||_, not, Bool·beq}
 use mathlib.Core.List.{List}
 use lib.ListN.{length, getD}
 use lib.Dec.{leb, ltb, eqb}

@@ -34,7 +34,7 @@ use Rattle.history.proofs.Joined.{standing-joined, history-joined}
 use Rattle.host.specs.Resume.{searchFor, listedIn}
 use Rattle.host.specs.Calls.{HostCall, returned, isRefused, Kept, keeping, keptAfter, keptBy, HostAllowed, HostHistory, callsIn, allCallsIn, returnedDone, ringsOf, HostGoesOn, HostDemand, HostFromMark}
 use Rattle.host.proofs.Answers.{search-restored}
-use Rattle.host.proofs.OneCall.{Mirror, mark-counts, no-room, not-refused, ran-mirror, call-history, call-stands, call-progress}
+use Rattle.host.proofs.OneCall.{Agrees, mark-counts, no-room, not-refused, ran-agrees, call-history, call-stands, call-progress}
 
 -- what a call does, refused or not
 abbrev does : HostCall → List Call
@@ -46,15 +46,15 @@ unfolding isRefused
 refused-number c e = ne-eqb (returned c .number) 101 (λ z. omega (arith, ltb-true (returned c .number) 101 e))
 
 module _ (sheet : List ℕ) (R : Molecule) (kind s t : ℕ) (good : wellFormed R ≡ true) (kept : kindKept (R .atoms) kind s t ≡ true) (origin : State) (sound : Valid (familyOf R kind s t) origin) (unmarked : Standing → Type 0) (read : readSheet sheet .answer ≡ Accepted) (is-record : readSheet sheet .molecule ≡ R) where
-  -- what some calls lead to: they are a history, and what is kept mirrors what stands after them
+  -- what some calls lead to: they are a history, and what is kept agrees with what stands after them
   record Led (said : Bool) (k : Kept) (x : Standing) (calls : List Call) : Type 0 where
     pub history : History R x calls
-    pub mirror : Mirror R kind s t origin unmarked said k (standing x calls)
+    pub agrees : Agrees R kind s t origin unmarked said k (standing x calls)
 
-  module _ (said : Bool) (k : Kept) (x : Standing) (v : Mirror R kind s t origin unmarked said k x) (c : HostCall) where
+  module _ (said : Bool) (k : Kept) (x : Standing) (v : Agrees R kind s t origin unmarked said k x) (c : HostCall) where
     refused-led : isRefused c ≡ true → Led (said || eqb (returned c .number) 101) (keptAfter k c) x (does c)
     unfolding keptAfter standing
-    refused-led e = rw (refused-number c e, or-false said, e) (record { history = tt; mirror = v })
+    refused-led e = rw (refused-number c e, or-false said, e) (record { history = tt; agrees = v })
 
     handed-led : c .sheet ≡ sheet → c .mark ≡ k .mark → Dec (599 ≤ length (c .next)) → Led (said || eqb (returned c .number) 101) (keptAfter k c) x (does c)
     handed-led e f (no h) = refused-led (no-room sheet R kind s t good kept origin sound unmarked read is-record said k x v c e f (omega arith))
@@ -63,27 +63,27 @@ module _ (sheet : List ℕ) (R : Molecule) (kind s t : ℕ) (good : wellFormed R
         rw (not-refused sheet R kind s t good kept origin sound unmarked read is-record said k x v c e f h)
         (record {
           history = call-history sheet R kind s t good kept origin sound unmarked read is-record said k x v c e f h;
-          mirror = rw stands (ran-mirror sheet R kind s t good kept origin sound unmarked read is-record said k x v c e f h);
+          agrees = rw stands (ran-agrees sheet R kind s t good kept origin sound unmarked read is-record said k x v c e f h);
         })
 
     allowed-led : HostAllowed sheet k c → Led (said || eqb (returned c .number) 101) (keptAfter k c) x (does c)
     allowed-led (inl e) = refused-led e
     allowed-led (inr h) = handed-led (h .0) (h .1) (decLe 599 (length (c .next)))
 
-  list-led : (calls : List HostCall) (said : Bool) (k : Kept) (x : Standing) → Mirror R kind s t origin unmarked said k x → HostHistory sheet k calls → Led (said || returnedDone calls) (keptBy k calls) x (allCallsIn calls)
+  list-led : (calls : List HostCall) (said : Bool) (k : Kept) (x : Standing) → Agrees R kind s t origin unmarked said k x → HostHistory sheet k calls → Led (said || returnedDone calls) (keptBy k calls) x (allCallsIn calls)
   unfolding returnedDone keptBy allCallsIn standing
-  list-led [] said k x v h = rw (or-false said) (record { history = tt; mirror = v })
+  list-led [] said k x v h = rw (or-false said) (record { history = tt; agrees = v })
   list-led (c ∷ calls) said k x v h =
       let one = allowed-led said k x v c (h .0) in
-      let rest = list-led calls (said || eqb (returned c .number) 101) (keptAfter k c) (standing x (does c)) (one .mirror) (h .1) in
+      let rest = list-led calls (said || eqb (returned c .number) 101) (keptAfter k c) (standing x (does c)) (one .agrees) (h .1) in
       rw (← or-assoc said (eqb (returned c .number) 101) (returnedDone calls))
       (record {
         history = history-joined R (does c) (allCallsIn calls) x (one .history) (rest .history);
-        mirror = rw (standing-joined (does c) (allCallsIn calls) x) (rest .mirror);
+        agrees = rw (standing-joined (does c) (allCallsIn calls) x) (rest .agrees);
       })
 
   -- calls from what is kept and stands now
-  host-on : (said : Bool) (k : Kept) (x : Standing) → Mirror R kind s t origin unmarked said k x → HostGoesOn sheet R k
+  host-on : (said : Bool) (k : Kept) (x : Standing) → Agrees R kind s t origin unmarked said k x → HostGoesOn sheet R k
   host-on said k x v =
       let on = goes-on R kind s t good kept origin sound said (v .count) x (v .reached) in
       record {
@@ -104,11 +104,11 @@ module _ (sheet : List ℕ) (read : readSheet sheet .answer ≡ Accepted) (R : M
   freshOne = fresh-sound R 0 0 0 formed ringKinds
 
   -- a host that keeps no mark has a fresh ring search
-  abbrev FreshMirror : Bool → Kept → Standing → Type 0
-  FreshMirror = Mirror R 0 0 0 fresh (λ x. x ≡ start 0 0 0)
+  abbrev AgreesFresh : Bool → Kept → Standing → Type 0
+  AgreesFresh = Agrees R 0 0 0 fresh (λ x. x ≡ start 0 0 0)
 
-  fresh-mirror : FreshMirror false (keeping []) (start 0 0 0)
-  fresh-mirror = record {
+  fresh-agrees : AgreesFresh false (keeping []) (start 0 0 0)
+  fresh-agrees = record {
     count = 0;
     reached = fresh-reached R 0 0 0 formed ringKinds;
     named = unfold keeping searchFor in (rings-start R formed);
@@ -117,7 +117,7 @@ module _ (sheet : List ℕ) (read : readSheet sheet .answer ≡ Accepted) (R : M
     records-kept = unfold keeping start in refl;
   }
 
-  module _ (calls : List HostCall) (k : Kept) (x : Standing) (d : Demand R 0 0 0 (allCallsIn calls) x) (v : FreshMirror (returnedDone calls) k x) where
+  module _ (calls : List HostCall) (k : Kept) (x : Standing) (d : Demand R 0 0 0 (allCallsIn calls) x) (v : AgreesFresh (returnedDone calls) k x) where
     same-list : members (familyOf R 0 0 0) ≡ ringsOf R
     same-list = ap members (rings-listed R 0 0)
 
@@ -143,8 +143,8 @@ module _ (sheet : List ℕ) (read : readSheet sheet .answer ≡ Accepted) (R : M
 
   fresh-host : (calls : List HostCall) → HostHistory sheet (keeping []) calls → HostDemand sheet R calls (keptBy (keeping []) calls) (standing (start 0 0 0) (allCallsIn calls))
   fresh-host calls h =
-      let led = list-led sheet R 0 0 0 formed ringKinds fresh freshOne (λ x. x ≡ start 0 0 0) read is-record calls false (keeping []) (start 0 0 0) fresh-mirror h in
-      demand-of calls (keptBy (keeping []) calls) (standing (start 0 0 0) (allCallsIn calls)) (rings-demand3 R formed (allCallsIn calls) (led .history)) (led .mirror) (led .history)
+      let led = list-led sheet R 0 0 0 formed ringKinds fresh freshOne (λ x. x ≡ start 0 0 0) read is-record calls false (keeping []) (start 0 0 0) fresh-agrees h in
+      demand-of calls (keptBy (keeping []) calls) (standing (start 0 0 0) (allCallsIn calls)) (rings-demand3 R formed (allCallsIn calls) (led .history)) (led .agrees) (led .history)
 
 -- Over every sheet that is accepted, and every list of calls from C on it, the first of them without a mark
 pub host-demand3 :
@@ -161,15 +161,15 @@ module _ (sheet : List ℕ) (read : readSheet sheet .answer ≡ Accepted) (R : M
   abbrev kinds : kindKept (R .atoms) (q .kind) (q .s) (q .t) ≡ true
   kinds = restorable-facts R q passes .kind-kept
 
-  abbrev MarkMirror : Bool → Kept → Standing → Type 0
-  MarkMirror = Mirror R (q .kind) (q .s) (q .t) (stateOf q) (λ x. ⊥)
+  abbrev AgreesFromMark : Bool → Kept → Standing → Type 0
+  AgreesFromMark = Agrees R (q .kind) (q .s) (q .t) (stateOf q) (λ x. ⊥)
 
   -- it has bytes
   some : length mark ≡ 0 → ⊥
   some z = omega (arith, mark-length R q, ap length (restored-saves R mark q e))
 
-  mark-mirror : MarkMirror false (keeping mark) (from q)
-  mark-mirror = record {
+  mark-agrees : AgreesFromMark false (keeping mark) (from q)
+  mark-agrees = record {
     count = 0;
     reached = first-reached R q (formed sheet read R is-record) passes (restored-restorable R mark q e .2);
     named = unfold keeping from in (sym (search-restored R mark some) ∙ e);
@@ -178,7 +178,7 @@ module _ (sheet : List ℕ) (read : readSheet sheet .answer ≡ Accepted) (R : M
     records-kept = unfold keeping from in refl;
   }
 
-  module _ (calls : List HostCall) (k : Kept) (x : Standing) (d : FromMark R q (allCallsIn calls) x) (v : MarkMirror (returnedDone calls) k x) where
+  module _ (calls : List HostCall) (k : Kept) (x : Standing) (d : FromMark R q (allCallsIn calls) x) (v : AgreesFromMark (returnedDone calls) k x) where
     marked : ((k .mark ≡ []) × ⊥) ⊎ (k .mark ≡ markText R (x .search)) → k .mark ≡ markText R (x .search)
     marked (inl f) = absurd (f .1)
     marked (inr f) = f
@@ -200,8 +200,8 @@ module _ (sheet : List ℕ) (read : readSheet sheet .answer ≡ Accepted) (R : M
 
   mark-host : (calls : List HostCall) → HostHistory sheet (keeping mark) calls → HostFromMark sheet R q calls (keptBy (keeping mark) calls) (standing (from q) (allCallsIn calls))
   mark-host calls h =
-      let led = list-led sheet R (q .kind) (q .s) (q .t) (formed sheet read R is-record) kinds (stateOf q) (restorable-valid R q passes) (λ x. ⊥) read is-record calls false (keeping mark) (from q) mark-mirror h in
-      from-mark-of calls (keptBy (keeping mark) calls) (standing (from q) (allCallsIn calls)) (from-mark R mark q e (allCallsIn calls) (led .history)) (led .mirror) (led .history)
+      let led = list-led sheet R (q .kind) (q .s) (q .t) (formed sheet read R is-record) kinds (stateOf q) (restorable-valid R q passes) (λ x. ⊥) read is-record calls false (keeping mark) (from q) mark-agrees h in
+      from-mark-of calls (keptBy (keeping mark) calls) (standing (from q) (allCallsIn calls)) (from-mark R mark q e (allCallsIn calls) (led .history)) (led .agrees) (led .history)
 
 -- Over every sheet that is accepted, every mark that its record restores, and every list of calls from C that begins with that mark
 pub host-from-mark :

@@ -63,7 +63,7 @@ stop-done Full = refl
 
 -- What the host keeps and what stands: the mark names the search, its listed count is known, the records are the sheet.
 -- `unmarked` says what stands while no mark has been kept
-pub record Mirror (R : Molecule) (kind s t : ℕ) (origin : State) (unmarked : Standing → Type 0) (said : Bool) (k : Kept) (x : Standing) : Type 0 where
+pub record Agrees (R : Molecule) (kind s t : ℕ) (origin : State) (unmarked : Standing → Type 0) (said : Bool) (k : Kept) (x : Standing) : Type 0 where
   pub count : ℕ
   pub reached : Reached R kind s t origin said count x
   pub named : searchFor R (k .mark) ≡ accepted (x .search)
@@ -102,7 +102,7 @@ abbrev opening : Molecule → List ℕ → List Call
 opening R mark = cond (eqb (length mark) 0) [] (restores R mark ∷ [])
 
 module _ (sheet : List ℕ) (R : Molecule) (kind s t : ℕ) (good : wellFormed R ≡ true) (kept : kindKept (R .atoms) kind s t ≡ true) (origin : State) (sound : Valid (familyOf R kind s t) origin) (unmarked : Standing → Type 0) where
-  module _ (read : readSheet sheet .answer ≡ Accepted) (is-record : readSheet sheet .molecule ≡ R) (said : Bool) (k : Kept) (x : Standing) (v : Mirror R kind s t origin unmarked said k x) (c : HostCall) (same-sheet : c .sheet ≡ sheet) (same-mark : c .mark ≡ k .mark) where
+  module _ (read : readSheet sheet .answer ≡ Accepted) (is-record : readSheet sheet .molecule ≡ R) (said : Bool) (k : Kept) (x : Standing) (v : Agrees R kind s t origin unmarked said k x) (c : HostCall) (same-sheet : c .sheet ≡ sheet) (same-mark : c .mark ≡ k .mark) where
     abbrev outcome : Outcome
     outcome = run (familyOf R kind s t) (c .budget) (length (c .rings)) (stateAt R kind s t origin (v .count))
 
@@ -186,9 +186,9 @@ module _ (sheet : List ℕ) (R : Molecule) (kind s t : ℕ) (good : wellFormed R
       unfolding keptAfter
       kept-is = rw (not-refused, new-records, mark-is)
 
-      -- what is kept then mirrors what stands after the run
-      pub ran-mirror : Mirror R kind s t origin unmarked (said || eqb (returned c .number) 101) (keptAfter k c) ran-to
-      ran-mirror =
+      -- what is kept then agrees with what stands after the run
+      pub ran-agrees : Agrees R kind s t origin unmarked (said || eqb (returned c .number) 101) (keptAfter k c) ran-to
+      ran-agrees =
           rw (kept-is, number-is, ← stop-done (outcome .stop))
           (record {
             count = ran-reached .0;
@@ -203,7 +203,7 @@ module _ (sheet : List ℕ) (R : Molecule) (kind s t : ℕ) (good : wellFormed R
       pub call-progress :
           Progress (x .search) (runSearch R (x .search) (c .budget) (c .rings)) →
           (listedIn (k .mark) < listedIn (keptAfter k c .mark)) ⊎ (returned c .number ≡ 101) ⊎ (returned c .number ≡ 102)
-      call-progress (inl h) = inl (omega (arith, v .listed-known, ran-mirror .listed-known, ap (λ (q : Search). q .listed) ran-is))
+      call-progress (inl h) = inl (omega (arith, v .listed-known, ran-agrees .listed-known, ap (λ (q : Search). q .listed) ran-is))
       call-progress (inr (inl e)) = inr (inl (told .number-is ∙ ap endedNumber e))
       call-progress (inr (inr e)) = inr (inr (told .number-is ∙ ap endedNumber (e .0)))
 

@@ -1,10 +1,10 @@
 -- The judge's tests of two places, by what the code found there.
 -- `joined` goes by its cases; a pair of atoms by whether they are equal and bonded.
-use Prim.Native.Nat.{ℕ, zero, suc, _+_, _-_, _≤_, _<_}
+use Prim.Native.Nat.{ℕ, suc, _+_, _-_, _≤_, _<_}
 use native.Mathlib.Numerals.{add-one}
 use native.Mathlib.Omega.{arith}
 use mathlib.Core.Path.{_≡_, refl, ap, sym, _∙_}
-use mathlib.Core.Bool.{Bool, true, false, _&&_, _||_, not, Bool·beq, and-false}
+use mathlib.Core.Bool.{Bool, true, false, not, Bool·beq, and-false}
 use mathlib.Core.List.{List}
 use lib.ListN.{length}
 use Rattle.graph.specs.Every.{allBelow}

@@ -1,5 +1,5 @@
 -- What the parts of the judge decide. Nothing to believe: they are parts of `induces` and `isRing`.
-use Prim.Native.Nat.{ℕ, zero, suc, _-_}
+use Prim.Native.Nat.{ℕ, suc, _-_}
 use mathlib.Core.Bool.{Bool, _&&_, not, Bool·beq}
 use mathlib.Core.List.{List}
 use lib.ListN.{length}

@@ -1,7 +1,7 @@
 // The judge of document 01: whether an atom list is a ring, or a path from s to t.
 ghost use mathlib.Core.Path.{_≡_};
 ghost use mathlib.Core.Bool.{true};
-ghost use Prim.Native.Nat.{ℕ, _≤_, _<_};
+ghost use Prim.Native.Nat.{_≤_, _<_};
 ghost use lib.ListN.{length};
 ghost use Rattle.graph.specs.Chordless.{inRange, induces, alongRing, isPath};
 ghost use Rattle.molecule.specs.Record.{bonded};

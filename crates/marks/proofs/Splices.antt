@@ -20,12 +20,6 @@ pub splice-none : (l : List ℕ) (at : ℕ) → spliced at [] l ≡ l
 unfolding spliced
 splice-none l at = rw (append-nil (take at l), add-zero) (take-append-drop at l)
 
-pub splice-length : (l text : List ℕ) (at : ℕ) → at + length text ≤ length l → length (spliced at text l) ≡ length l
-unfolding spliced
-splice-length l text at h =
-    let front : length (take at l) ≡ at = length-take-le at l (omega arith) in
-    rw (length-append, length-append, front, length-drop) (omega arith)
-
 pub splice-start : (l text : List ℕ) → spliced 0 text l ≡ text ++ drop (length text) l
 unfolding spliced
 splice-start l text = rw zero-add

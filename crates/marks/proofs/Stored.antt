@@ -96,26 +96,3 @@ module _ (mol : Molecule) (q : Search) where
   pub place-next : length (q .prefix) ≡ 128 → q .len ≤ 127 → isOpen (family mol q) (beginning q) ≡ true → nextKept (mol .atoms) (q .len) (q .next) ≡ placeKept (family mol q) (beginning q) (q .next)
   unfolding placeKept nextKept
   place-next full short e = rw (e, family-atoms mol (q .kind) (q .s) (q .t), empty-length (beginning q), beginning-length q full short)
-
--- ---- rule 16 by parts
-
-or-none : (b : Bool) → b ≡ b || false
-or-none true = refl
-or-none false = refl
-
-module _ (n kind s t : ℕ) where
-  pub kind-rings-s : kind ≡ 0 → (s ≡ 0 → ⊥) → false ≡ kindKept n kind s t
-  unfolding kindKept
-  kind-rings-s e h = rw (e, ne-eqb s 0 h)
-
-  pub kind-rings-t : kind ≡ 0 → s ≡ 0 → eqb t 0 ≡ kindKept n kind s t
-  unfolding kindKept
-  kind-rings-t e h = rw (e, h) (or-none (eqb t 0))
-
-  pub kind-none : (kind ≡ 0 → ⊥) → (kind ≡ 1 → ⊥) → false ≡ kindKept n kind s t
-  unfolding kindKept
-  kind-none e h = rw (ne-eqb kind 0 e, ne-eqb kind 1 h)
-
-  pub kind-paths : kind ≡ 1 → endsKept n s t ≡ kindKept n kind s t
-  unfolding kindKept
-  kind-paths e = rw e

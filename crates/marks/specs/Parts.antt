@@ -1,11 +1,8 @@
 -- What the parts of saving and restoring hold. Nothing to believe: the contracts of both are the definitions of marks.
-use Prim.Native.Nat.{ℕ, suc, min, _+_}
-use mathlib.Core.Bool.{Bool, _&&_, _||_}
+use Prim.Native.Nat.{ℕ, min, _+_}
 use mathlib.Core.List.{List, _++_}
 use lib.ListN.{length, take, drop}
-use lib.Dec.{eqb}
 use Rattle.fields.specs.Field.{valueAt}
-use Rattle.molecule.specs.Record.{isAtom}
 use Rattle.search.specs.declared.Search.{Search}
 
 -- a list with a text over its bytes from a place on

@@ -1,14 +1,14 @@
 -- The bonds of a record that rule 9 allows: symmetric, and no atom is bonded to itself.
 -- From the rules of the rows, at the row and the column of two atoms.
-use Prim.Native.Nat.{ℕ, zero, suc, _-_, _*_, _≤_, _<_}
+use Prim.Native.Nat.{ℕ, _-_, _*_, _≤_}
 use native.Mathlib.Omega.{arith}
-use mathlib.Core.Path.{_≡_, refl, ap, sym, _∙_}
-use mathlib.Core.Bool.{Bool, true, false, _&&_}
+use mathlib.Core.Path.{_≡_, refl, _∙_}
+use mathlib.Core.Bool.{true, false, _&&_}
 use mathlib.Core.List.{List}
 use mathlib.Core.Logic.{⊎-elim}
 use lib.Dec.{leb, eqb}
 use borrow.Author.Tests.{le-leb, leb-true}
-use Rattle.graph.proofs.Below.{and-parts, and-both, same-test, either, apart}
+use Rattle.graph.proofs.Below.{and-parts, and-both, same-test, either}
 use Rattle.molecule.specs.declared.Molecule.{Molecule}
 use Rattle.molecule.specs.Record.{cell, isAtom, bonded, onesOf, symmetric, loopless, within, wellFormed}
 use Rattle.molecule.proofs.Rules.{Mirror, Sound, sound-of-rules}

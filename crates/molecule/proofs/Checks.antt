@@ -1,20 +1,18 @@
 -- The record check's tests, bit by bit and byte by byte.
 -- Each law turns what the code found at one place into the value of the definition there.
-use Prim.Native.Nat.{ℕ, zero, suc, _+_, _-_, _*_, _/_, _%_, _^_, _≤_, _<_}
-use native.Mathlib.Nat.{zero-div, zero-mod, add-zero}
+use Prim.Native.Nat.{ℕ, _+_, _-_, _*_, _/_, _%_, _^_, _≤_, _<_}
+use native.Mathlib.Nat.{zero-div, add-zero}
 use native.Mathlib.Numerals.{add-one}
 use native.Mathlib.Omega.{arith}
-use mathlib.Core.Path.{_≡_, refl, ap, sym, _∙_}
-use mathlib.Core.Bool.{Bool, true, false, _&&_, _||_, not}
-use mathlib.Core.List.{List, [], _∷_}
+use mathlib.Core.Path.{_≡_}
+use mathlib.Core.Bool.{true}
+use mathlib.Core.List.{List}
 use lib.ListN.{length, getD, drop, drop-of-length-le}
 use lib.Seq.{drop-cons}
-use lib.Dec.{leb, ltb, eqb}
 use lib.Count.{ones}
 use borrow.Author.Tests.{eq-eqb, ne-eqb}
-use Rattle.graph.specs.Every.{allBelow}
 use Rattle.graph.proofs.Below.{allBelow-of}
-use Rattle.molecule.specs.Record.{bit, cell, onesOf}
+use Rattle.molecule.specs.Record.{onesOf}
 use Rattle.molecule.specs.Parts.{mirrored, bitSound, byteSound}
 
 module _ (rows : List ℕ) (n at : ℕ) where

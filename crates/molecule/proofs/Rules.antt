@@ -1,13 +1,12 @@
 -- The tests of the record check together are the rules of the rows: every bit that is set is within n, off the diagonal and mirrored.
 -- A place of the rows is a row and a column, and the other way round.
-use Prim.Native.Nat.{ℕ, zero, suc, _+_, _-_, _*_, _/_, _%_, _^_, _≤_, _<_}
+use Prim.Native.Nat.{ℕ, _+_, _-_, _*_, _/_, _%_, _≤_, _<_}
 use native.Mathlib.Omega.{arith}
 use mathlib.Core.Path.{_≡_, refl, ap, sym, _∙_}
-use mathlib.Core.Bool.{Bool, true, false, _&&_, _||_, not, Bool·beq}
+use mathlib.Core.Bool.{Bool, true, _&&_, _||_, not, Bool·beq}
 use mathlib.Core.List.{List}
-use mathlib.Core.Logic.{⊎-elim}
 use lib.ListN.{getD}
-use lib.Dec.{leb, ltb, eqb}
+use lib.Dec.{ltb, eqb}
 use borrow.Author.Tests.{lt-ltb, ltb-true, le-leb, ne-eqb, eqb-false, not-true}
 use Rattle.graph.specs.Every.{allBelow}
 use Rattle.graph.proofs.Below.{allBelow-at, allBelow-of, and-parts, and-both, same-test, beq-true, beq-same, false-of, not-of, apart, implies-intro, implies-elim}

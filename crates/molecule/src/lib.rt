@@ -1,8 +1,7 @@
 // The molecule record of document 01 and its check, rule 9.
 ghost use mathlib.Core.Path.{_≡_};
-ghost use Prim.Native.Nat.{ℕ, _+_, _*_, _/_, _%_, _≤_, _<_};
-ghost use lib.ListN.{length, drop};
-ghost use Rattle.graph.specs.Every.{allBelow};
+ghost use Prim.Native.Nat.{_+_, _*_, _/_, _%_, _<_};
+ghost use lib.ListN.{length};
 ghost use Rattle.molecule.specs.Record.{isAtom, cell, freshMolecule, onesOf, wellFormed};
 ghost use Rattle.molecule.specs.Parts.{mirrored, bitSound, byteSound, rowsSound};
 

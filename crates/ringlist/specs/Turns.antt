@@ -18,7 +18,7 @@ use Rattle.search.specs.declared.Ended.the-variants.{Stopped, Refused}
 use Rattle.search.specs.Place.{familyOf, stateOf, freshSearch}
 use Rattle.search.specs.Entries.{runSearch}
 use Rattle.history.specs.Calls.{Call, start, standing, History}
-use Rattle.report.specs.Lines.{linesOf}
+use Rattle.report.specs.Lines.{linesOf, countLine}
 use Rattle.ringlist.specs.declared.Turn.{Turn}
 
 -- the trials of one run, more than 2 × 128 × 128
@@ -62,3 +62,7 @@ pub record Ready (m : Molecule) (q : Search) (out text : List ℕ) : Type 0 wher
 pub record Finished (m : Molecule) (q : Search) : Type 0 where
   pub stands : Stands m q
   pub over : (isDone (m .atoms) (stateOf q) ≡ true) ⊎ (atLimit (stateOf q) ≡ true)
+
+-- The line of its counts
+abbrev pub countsOf : Search → List ℕ
+countsOf q = countLine (q .listed) (q .extensions) (q .trials)

@@ -4,8 +4,10 @@ ghost use mathlib.Core.Path.{_≡_};
 ghost use mathlib.Core.Bool.{true};
 ghost use Prim.Native.Nat.{_*_, _≤_};
 ghost use lib.ListN.{length};
+ghost use lib.Dec.{ltb};
+ghost use Rattle.report.specs.Lines.{printed, printedOn};
 ghost use Rattle.molecule.specs.Record.{wellFormed};
-ghost use Rattle.ringlist.specs.Turns.{stopIsLast, isLast, Stands, Turned, Ready, Finished};
+ghost use Rattle.ringlist.specs.Turns.{stopIsLast, isLast, Stands, Turned, Ready, Finished, countsOf};
 use enumeration::Stop;
 use libc::STDIN_FILENO;
 use libc::STDOUT_FILENO;
@@ -103,9 +105,16 @@ fn print_refusal(number: u32) {
     io::write_all(STDOUT_FILENO, &text[..size]);
 }
 
+// The line of a search's counts at the start of `text`.
+fn counts_text(q: Search, text: &mut [u8]) -> usize
+    ensures { λ r. ⌜ (r ≡ printed 61 (countsOf q) (now (text .entry))) × (now (text .exit) ≡ printedOn 61 (countsOf q) (now (text .entry))) ⌝ }
+{
+    report::count_line(q.listed, q.extensions, q.trials, text)
+}
+
 fn print_counts(q: Search) {
     let mut text = [0u8; 61];
-    let size = report::count_line(q.listed, q.extensions, q.trials, &mut text);
+    let size = counts_text(q, &mut text);
     io::write_all(STDOUT_FILENO, &text[..size]);
 }
 
@@ -138,10 +147,17 @@ fn print_sheet(bytes: &[u8]) {
     }
 }
 
+// Whether input of so many bytes is too long for any sheet that is read.
+fn too_long(size: usize) -> bool
+    ensures { λ r. ⌜ r ≡ ltb 65529 size ⌝ }
+{
+    65_529 < size
+}
+
 fn main() {
     let mut bytes = io::large_buffer();
     let size = io::read_full(STDIN_FILENO, &mut bytes);
-    if 65_529 < size {
+    if too_long(size) {
         print_refusal(1);
         return;
     }

@@ -14,7 +14,7 @@ use Rattle.molecule.specs.declared.Molecule.{Molecule}
 use Rattle.molecule.specs.Record.{wellFormed}
 use Rattle.search.specs.declared.Search.{Search}
 use Rattle.search.specs.declared.Ran.{Ran}
-use Rattle.search.specs.Place.{family, stateOf, restorable}
+use Rattle.search.specs.Place.{stateOf, restorable}
 use Rattle.search.specs.Entries.{outcome, refusedRun, ran, runSearch, runOutput}
 use Rattle.search.proofs.Readings.{restorable-facts}
 use Rattle.search.proofs.Views.{restorable-valid, restorable-bounded}

@@ -9,7 +9,7 @@ use search::Search;
 ghost use mathlib.Core.Path.{_≡_};
 ghost use mathlib.Core.Bool.{true, false, _&&_, _||_};
 ghost use mathlib.Core.List.{[], _∷_, _++_};
-ghost use Prim.Native.Nat.{ℕ, suc, _+_, _≤_, _<_};
+ghost use Prim.Native.Nat.{suc, _+_, _≤_, _<_};
 ghost use lib.ListN.{length, take, drop};
 ghost use lib.Dec.{eqb};
 ghost use Rattle.enumeration.specs.Run.{limit, recordOf};
@@ -17,7 +17,6 @@ ghost use Rattle.atomset.specs.Set.{has};
 ghost use Rattle.molecule.specs.Record.{wellFormed};
 ghost use Rattle.search.specs.Place.{restorable};
 ghost use Rattle.search.specs.Entries.{refusedRun, ran, runSearch, runOutput};
-ghost use Rattle.openness.specs.Plan.{familyBy, Beginning, Planned};
 ghost use Rattle.run.specs.Parts.{Standing, Counting, Acted, Unwound, Stale, Gap, Idle, skip, spotOf, stoppedAt, Ready, outcomeBy, runOnto};
 
 // The place of a search but for its beginning's atoms, and its counts.

@@ -121,11 +121,6 @@ restored-restorable mol bytes q e =
 pub restorable-prefix : (mol : Molecule) (q : Search) → wellFormed mol ≡ true → restorable mol q ≡ true → length (q .prefix) ≡ 128 → (i : ℕ) → getD (q .prefix) i 0 ≤ 128
 restorable-prefix mol q formed kept full i = omega (arith, prefix-most mol q kept full i, rule9 mol formed .atoms-high)
 
-pub restored-prefix : (mol : Molecule) (bytes : List ℕ) (q : Search) → restoreMark mol bytes ≡ accepted q → (q .len ≤ 127) × ((i : ℕ) → getD (q .prefix) i 0 ≤ 128)
-restored-prefix mol bytes q e =
-    let f = restored-restorable mol bytes q e in
-    (restorable-facts mol q (f .1) .short, restorable-prefix mol q (f .0) (f .1) (f .2))
-
 -- Rule 12: a search is allowed exactly when it could be restored from some mark on this molecule
 pub rule12 : (mol : Molecule) (q : Search) → wellFormed mol ≡ true → length (q .prefix) ≡ 128 → (restorable mol q ≡ true) ↔ ((bytes : List ℕ) × (restoreMark mol bytes ≡ accepted q))
 rule12 mol q formed full = (λ kept. (markText mol q, saved-restores mol q formed kept full), λ r. restored-restorable mol (r .0) q (r .1) .1)

@@ -1,6 +1,6 @@
 -- What starting and running return and leave in the output (document 01, "The search, trial by trial" and "Turned back by number").
 use Prim.Native.Nat.{ℕ}
-use mathlib.Core.Bool.{Bool, _&&_, cond}
+use mathlib.Core.Bool.{_&&_, cond}
 use mathlib.Core.List.{List, _++_}
 use lib.ListN.{length, drop}
 use lib.Dec.{eqb}

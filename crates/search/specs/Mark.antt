@@ -1,11 +1,10 @@
 -- Marks (document 01): the text of a search on a molecule, and what bytes restore to.
 use Prim.Native.Nat.{ℕ, zero, suc, _+_, _*_}
-use mathlib.Core.Bool.{Bool, true, false, _&&_, cond}
+use mathlib.Core.Bool.{Bool, _&&_, cond}
 use mathlib.Core.List.{List, [], _∷_, _++_, reverse}
-use lib.ListN.{length, getD, take, drop}
-use lib.Dec.{leb, ltb, eqb}
+use lib.ListN.{length, getD, drop}
+use lib.Dec.{leb, eqb}
 use Rattle.graph.specs.Every.{allBelow}
-use Rattle.enumeration.specs.Machine.{State}
 pub use Rattle.fields.specs.Field.{fieldAt, isValue, valueOf, valueAt}
 use Rattle.fields.specs.Field.{fieldText}
 use Rattle.refusal.specs.declared.Refusal.the-variants as refusal

@@ -1,20 +1,20 @@
 -- An accepted sheet: every rule is kept, the record satisfies rule 9, and its atoms, bonds and pairs are the sheet's.
 -- From the answer back through the tests, and from the table of its bonds.
-use Prim.Native.Nat.{ℕ, suc, _+_, _-_, _*_, _%_, _≤_, _<_}
+use Prim.Native.Nat.{ℕ, suc, _-_, _*_, _≤_}
 use native.Mathlib.Omega.{arith}
 use mathlib.Core.Path.{_≡_, refl, ap, sym, _∙_}
-use mathlib.Core.Bool.{Bool, true, false, _&&_, _||_, cond}
+use mathlib.Core.Bool.{Bool, true, false, _&&_, cond}
 use mathlib.Core.List.{List}
 use mathlib.Core.Logic.{_⊎_, inl, inr, ⊎-elim, _↔_}
 use lib.ListN.{length}
 use lib.Dec.{leb, eqb}
-use borrow.Author.Tests.{leb-true, eqb-true, eq-eqb, eqb-false}
+use borrow.Author.Tests.{leb-true, eqb-true, eq-eqb}
 use Rattle.graph.proofs.Below.{apart, either, and-parts}
 use Rattle.refusal.specs.declared.Refusal.{Refusal}
-use Rattle.refusal.specs.declared.Answer.the-variants.{Accepted, Refused}
+use Rattle.refusal.specs.declared.Answer.the-variants.{Accepted}
 use Rattle.molecule.specs.declared.Molecule.{Molecule}
-use Rattle.molecule.specs.Record.{cell, bonded, onesOf, wellFormed}
-use Rattle.molecule.proofs.Rules.{Mirror, Sound, bytes-of-sound, rule-in-range}
+use Rattle.molecule.specs.Record.{bonded, onesOf, wellFormed}
+use Rattle.molecule.proofs.Rules.{Sound, bytes-of-sound, rule-in-range}
 use Rattle.molecule.proofs.Bonds.{bonded-cell, bonded-facts}
 use Rattle.sheet.specs.declared.Sheet.{Sheet}
 use Rattle.sheet.specs.Bonds.{Bond, atomsKept, noneToItself, samePair, noneTwice, rowsOf}

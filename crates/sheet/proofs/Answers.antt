@@ -3,17 +3,16 @@
 use Prim.Native.Nat.{ℕ, suc, _+_, _-_, _*_, _/_, _%_, _≤_, _<_}
 use native.Mathlib.Omega.{arith}
 use mathlib.Core.Path.{_≡_, refl, ap, sym, _∙_}
-use mathlib.Core.Bool.{Bool, true, false, _&&_, not}
+use mathlib.Core.Bool.{Bool, true, false, not}
 use mathlib.Core.List.{List}
 use lib.ListN.{length, replicate}
-use lib.Dec.{leb, eqb}
 use borrow.Author.Tests.{le-leb, lt-leb, eq-eqb, ne-eqb}
 use Rattle.graph.specs.Every.{allBelow}
 use Rattle.graph.proofs.Loops.{all-fails, all-more}
 use Rattle.refusal.specs.declared.Refusal.the-variants as refusal
 use Rattle.molecule.specs.Record.{cell}
 use Rattle.sheet.specs.Bonds.{Bond, atomsKept, noneToItself, samePair, noneTwice, withCell, withBond, rowsOf}
-use Rattle.sheet.specs.Read.{lengthKept, linesKept, lineKept, lineOf, atomsOf, bondsOf, bondOf, turnedBack, accepted, readBonds, readSheet}
+use Rattle.sheet.specs.Read.{lengthKept, linesKept, lineKept, atomsOf, bondsOf, bondOf, turnedBack, accepted, readBonds, readSheet}
 use Rattle.sheet.proofs.Stored.{left, right, bond-read}
 use Rattle.sheet.proofs.Tables.{Kept, kept-fewer, tables, new-bond}
 use Rattle.sheet.specs.Parts.{storedBond}

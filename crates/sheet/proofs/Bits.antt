@@ -1,15 +1,14 @@
 -- A byte with one bit set: which bits it has, how many, and that it is still a byte.
 -- By halving: bit k + 1 of a number is bit k of its half.
-use Prim.Native.Nat.{ℕ, zero, suc, _+_, _-_, _*_, _/_, _%_, _^_, _≤_, _<_}
+use Prim.Native.Nat.{ℕ, zero, suc, _+_, _-_, _*_, _/_, _%_, _^_, _<_}
 use native.Mathlib.Nat.{pow-suc, pow-zero, div-one, div-div-eq-div-mul, mul-comm, one-mul}
 use native.Mathlib.Omega.{arith}
 use mathlib.Core.Path.{_≡_, refl, ap, sym, _∙_}
 use mathlib.Core.Bool.{Bool, true, false, _||_, cond, or-false, or-true}
-use mathlib.Core.Logic.{⊎-elim, _⊎_, inl, inr}
 use lib.Dec.{eqb, eqb·suc-suc, eqb·zero-suc, eqb·suc-zero}
 use lib.Pow.{shl-exact}
 use lib.Count.{ones, ones-step}
-use borrow.Author.Tests.{eq-eqb, ne-eqb, eqb-true, eqb-false}
+use borrow.Author.Tests.{eq-eqb, ne-eqb, eqb-false}
 use Rattle.molecule.specs.Record.{bit}
 use Rattle.sheet.specs.Bonds.{withBit}
 

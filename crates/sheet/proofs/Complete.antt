@@ -1,24 +1,22 @@
 -- Every n and list of bonds that keep the rules have a sheet, and it reads to exactly that record: no reader that refuses all would do.
 -- Line i of the text is what its two numbers are written as, and a written field reads back.
-use Prim.Native.Nat.{ℕ, zero, suc, _+_, _-_, _*_, _/_, _%_, _^_, _≤_, _<_}
+use Prim.Native.Nat.{ℕ, zero, suc, _+_, _-_, _*_, _/_, _%_, _≤_, _<_}
 use native.Mathlib.Nat.{add-zero, mul-mod-right, mul-div-right}
 use native.Mathlib.Omega.{arith}
 use mathlib.Core.Path.{_≡_, refl, ap, ap₂, sym, _∙_}
-use mathlib.Core.Bool.{Bool, true, _&&_}
+use mathlib.Core.Bool.{true}
 use mathlib.Core.List.{List, [], _∷_, _++_, append-assoc}
 use lib.ListN.{length, getD, take, drop, length-append}
 use lib.Seq.{take-at, drop-at, drop-append-add, getD-append-add, getD-drop}
-use lib.Dec.{leb, eqb}
-use borrow.Author.Tests.{le-leb, eq-eqb}
 use Rattle.graph.specs.Every.{allBelow}
 use Rattle.graph.proofs.Below.{and-parts, allBelow-at, allBelow-of}
 use Rattle.fields.specs.declared.Number.the-variants.{Value}
-use Rattle.fields.specs.Field.{readField, fieldText, fieldAt, limit}
+use Rattle.fields.specs.Field.{readField, fieldText, fieldAt}
 use Rattle.fields.proofs.Laws.{written-reads-back, field-length}
 use Rattle.molecule.specs.Record.{isAtom}
 use Rattle.molecule.proofs.Bonds.{atom-bounds}
 use Rattle.sheet.specs.Bonds.{Bond, atomsKept, noneToItself, noneTwice}
-use Rattle.sheet.specs.Read.{lengthKept, linesKept, lineKept, lineOf, atomsOf, bondsOf, bondOf, accepted, readBonds, readSheet}
+use Rattle.sheet.specs.Read.{lineKept, lineOf, atomsOf, bondsOf, bondOf, accepted, readBonds, readSheet}
 use Rattle.sheet.specs.Text.{linesText, sheetText, bondAt}
 use Rattle.sheet.proofs.Lines.{line-good, line-values}
 use Rattle.sheet.proofs.Answers.{bonds-read, sheet-read}

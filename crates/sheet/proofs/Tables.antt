@@ -1,20 +1,19 @@
 -- The rows of listed bonds: a cell is set exactly when a bond joins its two atoms, and each bond adds two ones.
 -- By induction on the number of bonds, from the laws of one cell.
 use Prim.Native.Nat.{ℕ, zero, suc, _+_, _-_, _*_, _/_, _%_, _^_, _≤_, _<_}
-use native.Mathlib.Decide.{ℕ-discrete}
-use native.Mathlib.Nat.{zero-div, zero-mod, eq-or-lt-of-le}
+use native.Mathlib.Nat.{zero-div, eq-or-lt-of-le}
 use native.Mathlib.Omega.{arith}
-use mathlib.Core.Path.{_≡_, refl, ap, ap₂, sym, _∙_}
-use mathlib.Core.Bool.{Bool, true, false, _&&_, _||_, not, cond, or-false, or-true, or-comm, and-comm, or-assoc}
+use mathlib.Core.Path.{_≡_, refl, ap, sym, _∙_}
+use mathlib.Core.Bool.{true, false, _&&_, _||_, not, or-true, or-comm, and-comm, or-assoc}
 use mathlib.Core.List.{List}
 use mathlib.Core.Logic.{_⊎_, inl, inr, ⊎-elim, _↔_}
-use lib.ListN.{length, getD, replicate, length-replicate, getD-replicate, List·getD-eq-default}
-use lib.Dec.{leb, eqb, eqb·suc-suc}
+use lib.ListN.{getD, replicate, length-replicate}
+use lib.Dec.{eqb, eqb·suc-suc}
 use lib.Count.{ones}
-use borrow.Author.Tests.{eq-eqb, ne-eqb, eqb-true, eqb-false, not-true}
+use borrow.Author.Tests.{ne-eqb, eqb-false, not-true}
 use Rattle.graph.specs.Every.{allBelow}
-use Rattle.graph.proofs.Below.{clash, false-of, either, and-left, and-right, and-both, and-parts, same-test, not-of, allBelow-at, allBelow-of}
-use Rattle.molecule.specs.Record.{bit, cell, isAtom, onesOf}
+use Rattle.graph.proofs.Below.{clash, false-of, either, and-left, and-right, and-parts, same-test, not-of, allBelow-at, allBelow-of}
+use Rattle.molecule.specs.Record.{cell, isAtom, onesOf}
 use Rattle.molecule.proofs.Bonds.{atom-bounds}
 use Rattle.sheet.specs.Bonds.{Bond, atomsKept, noneToItself, samePair, noneTwice, withCell, withBond, rowsOf}
 use Rattle.sheet.proofs.Stored.{within, differs, atoms-kept-is, none-to-itself-is}

@@ -11,7 +11,7 @@ use Rattle.chordless.specs.Reach.{there, through}
 use Rattle.chordless.proofs.Shortest.{walk-within}
 use Rattle.atomset.specs.Set.{has}
 use Rattle.sweep.specs.declared.Front.{Front}
-use Rattle.sweep.specs.Swept.{Symmetric, Reaches, Swept, Advanced, Stepped}
+use Rattle.sweep.specs.Swept.{Symmetric, Reaches, Swept, Stepped}
 
 pub or-cases : (p q : Bool) → p || q ≡ true → (p ≡ true) ⊎ (q ≡ true)
 or-cases true q e = inl refl

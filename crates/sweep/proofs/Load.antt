@@ -10,7 +10,7 @@ use Rattle.graph.specs.Chordless.{Adjacency}
 use Rattle.atomset.specs.Set.{has}
 use Rattle.atomset.proofs.Members.{has-range}
 use Rattle.sweep.specs.declared.Front.{Front}
-use Rattle.sweep.specs.Swept.{Advanced, Stepped}
+use Rattle.sweep.specs.Swept.{Stepped}
 
 -- what an atom, seen or not, pending or not, adds
 abbrev pub cost : Bool → Bool → ℕ

@@ -1,6 +1,6 @@
 -- `openness::pair_opens` meets its contract: the tests of v, and then one sweep, by `pair-told`.
 -- Where v is not above s, or not bonded to it, nothing opens.
-use mathlib.Core.Path.{sym, ap, ap₂, _∙_}
+use mathlib.Core.Path.{sym, ap₂, _∙_}
 use mathlib.Core.Bool.{Bool, _&&_, not}
 use borrow.Author.Tests.{not-true, not-false}
 use Rattle.atomset.specs.Set.{has}
