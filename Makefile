@@ -13,14 +13,16 @@ test: tests
 
 # What the tests link and run is proved and built first; the verdict then starts from nothing.
 tests:
+	@tests/tools.sh
 	rt version
 	rt fmt --check
-	rt check flat host ringlist
+	rt check ringlist judge marks history
 	rt staticlib flat
 	rt staticlib host
 	tests/run_tests.sh
 
 bench:
+	@tests/tools.sh
 	rt staticlib flat
 	rt staticlib host
 	cd tests/rust && CARGO_TARGET_DIR=../../target/tests/cargo cargo run --release --offline --quiet --bin bench_host

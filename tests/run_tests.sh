@@ -14,20 +14,6 @@ for made in "$flat" "$host" "$ringlist"; do
     [ -f "$made" ] || die "$made is missing; build it first"
 done
 
-# need COMMAND PACKAGE: installs the package where the command is missing
-need() {
-    command -v "$1" >/dev/null && return
-    if [ "$(id -u)" = 0 ] && command -v apt-get >/dev/null; then
-        echo "== $1 is missing: installing $2"
-        apt-get update -q >/dev/null || true
-        apt-get install -y -q "$2" >/dev/null || true
-    fi
-    command -v "$1" >/dev/null || die "$1 is missing and could not be installed"
-}
-need cc gcc
-need cargo cargo
-need python3 python3
-need valgrind valgrind
 checker="valgrind --error-exitcode=9 -q"
 
 out=$root/target/tests

@@ -662,7 +662,7 @@ pub fn any_judged(rng: &mut Rng) -> Molecule {
 pub fn any_searched(rng: &mut Rng) -> Molecule {
     match rng.below(24) {
         0 => {
-            let whole = rng.pick(&[cube, document, two_to_three])();
+            let whole = rng.pick::<fn() -> Molecule>(&[cube, document, two_to_three])();
             renamed(rng, &whole)
         }
         1 => {

@@ -13,6 +13,32 @@ pub mod rng;
 pub mod spoil;
 pub mod stepper;
 
+/// A value of which the compiler knows nothing more, for benches; the standard
+/// library has one from Rust 1.66 on.
+pub fn black_box<T>(value: T) -> T {
+    // SAFETY: the value is read once and then forgotten where it was.
+    unsafe {
+        let copy = std::ptr::read_volatile(&value);
+        std::mem::forget(value);
+        copy
+    }
+}
+
+/// Runs the parts of a test side by side, each by its name and seed, and sums
+/// what they return.
+pub fn sum_of_parts(parts: &[(&'static str, u64)], run: fn(&'static str, u64) -> u64) -> u64 {
+    std::thread::scope(|scope| {
+        let started: Vec<_> = parts
+            .iter()
+            .map(|&(name, seed)| (name, scope.spawn(move || run(name, seed))))
+            .collect();
+        started
+            .into_iter()
+            .map(|(name, part)| part.join().unwrap_or_else(|_| panic!("{name} failed")))
+            .sum()
+    })
+}
+
 /// The divisor FLAT_SAMPLE (1 when unset), for slow runs such as under valgrind.
 pub fn sample() -> u64 {
     match std::env::var("FLAT_SAMPLE") {

@@ -125,7 +125,7 @@ pub fn put(mark: &mut [u8], at: usize, columns: usize, text: &str) {
 /// counts.
 pub fn place(which: usize) -> (usize, usize) {
     match which {
-        0..7 => (4 * which, 4),
+        0..=6 => (4 * which, 4),
         _ => (FIRST + 20 * (which - 7), 20),
     }
 }

@@ -10,10 +10,10 @@ use flat_tests::model::machine::Search;
 use flat_tests::model::mark::{self, LONGEST_MARK};
 use flat_tests::model::{self, lister, Record};
 use flat_tests::rng::Rng;
-use flat_tests::{sampled, spoil};
+use flat_tests::{sample, sampled, spoil, sum_of_parts};
 
 /// Up to this many atoms the model answers from the brute-force list.
-const BRUTE: u64 = 10;
+const BRUTE: u64 = 12;
 
 /// Calls on one molecule.
 const CALLS: u64 = 12;
@@ -54,7 +54,8 @@ impl Subject<'_> {
 }
 
 /// The empty beginning and up to 40 others, of rings and of paths.
-fn places(rng: &mut Rng, record: &Record) -> Vec<(Task, Vec<u8>)> {
+fn places(rng: &mut Rng, listed: &Listed) -> Vec<(Task, Vec<u8>)> {
+    let record = listed.record();
     let n = record.atoms;
     let mut tasks = vec![Task::Rings];
     if n >= 2 {
@@ -65,7 +66,7 @@ fn places(rng: &mut Rng, record: &Record) -> Vec<(Task, Vec<u8>)> {
     for task in tasks {
         // A large molecule may have too many members to list.
         let members = if n <= BRUTE {
-            list::members(record, task)
+            listed.members(task).to_vec()
         } else if record.bonds <= n + 6 {
             lister::list(record, task).members()
         } else {
@@ -189,28 +190,22 @@ fn any_subject(rng: &mut Rng) -> Molecule {
     }
 }
 
-/// Four parts, so that they can run side by side.
+/// Four parts side by side, at least 300,000 calls.
 #[test]
-fn random_calls_1() {
-    random_calls("random_calls_1", 0x48_4F53_5431);
+fn random_calls() {
+    let parts = [
+        ("random_calls 1", 0x48_4F53_5431),
+        ("random_calls 2", 0x48_4F53_5432),
+        ("random_calls 3", 0x48_4F53_5433),
+        ("random_calls 4", 0x48_4F53_5434),
+    ];
+    let calls = sum_of_parts(&parts, random_calls_of);
+    println!("{calls} calls in all");
+    assert!(sample() > 1 || calls >= 300_000, "only {calls} calls");
 }
 
-#[test]
-fn random_calls_2() {
-    random_calls("random_calls_2", 0x48_4F53_5432);
-}
-
-#[test]
-fn random_calls_3() {
-    random_calls("random_calls_3", 0x48_4F53_5433);
-}
-
-#[test]
-fn random_calls_4() {
-    random_calls("random_calls_4", 0x48_4F53_5434);
-}
-
-fn random_calls(name: &'static str, seed: u64) {
+/// The calls of one seed, and their number.
+fn random_calls_of(name: &'static str, seed: u64) -> u64 {
     let molecules = sampled(7_000);
     let mut entry = Entry::new(seed);
     let mut other = Vec::new();
@@ -227,7 +222,7 @@ fn random_calls(name: &'static str, seed: u64) {
                 &reached
             },
             sheet: molecule.sheet(),
-            places: places(&mut rng, &record),
+            places: places(&mut rng, &listed),
         };
         calls_on(&mut entry, &subject, &other, &mut rng);
         other = subject.mark(&mut rng);
@@ -238,6 +233,7 @@ fn random_calls(name: &'static str, seed: u64) {
     entry.at_least(1_000, &[102, 13, 14, 15]);
     entry.at_least(300, &[16, 17]);
     entry.at_least(500, &[1, 2, 3, 4, 5, 6, 7, 8]);
+    entry.calls()
 }
 
 /// Rules broken together: the sheet's come first, then the mark's, then the

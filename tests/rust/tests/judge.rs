@@ -263,7 +263,7 @@ fn rings_by_library(record: &Record) -> Vec<Vec<u8>> {
         for v in 1..=record.atoms as u8 {
             let bonded = list
                 .last()
-                .is_none_or(|&last| record.bonded(last.into(), v.into()));
+                .map_or(true, |&last| record.bonded(last.into(), v.into()));
             if bonded && !list.contains(&v) {
                 list.push(v);
                 extend(record, list, rings);

@@ -217,19 +217,26 @@ fn example_sheets() {
         assert_eq!(from_example(name).sheet(), bytes, "bonds sorted");
         let whole = host::list(&bytes, &[], || (1_000_000, 65_536));
         assert_whole(&record, Task::Rings, &whole);
+        // Up to dodecahedrane also by brute force.
+        if record.atoms <= 20 {
+            let members = list::members(&record, Task::Rings);
+            assert!(list_of(&whole.sheet) == members, "{name}");
+        }
     }
     // Rings that are known by other means.
-    let rings = |name| lister::list(&examples::record(name), Task::Rings).listed;
+    let rings = |name| examples::counts(&examples::record(name))[0];
     assert_eq!(rings("prismane"), 2 + 3);
     assert_eq!(rings("cubane"), 6 + 4);
     assert_eq!(rings("adamantane"), 4 + 3);
     assert_eq!(rings("gonane"), 4);
     assert_eq!(rings("acene30"), 30);
+    assert_eq!(rings("dodecahedrane"), 168);
+    assert_eq!(rings("buckminsterfullerene"), 255_242);
+    // Made in another way, and numbered in another way.
     let cage = generate::buckminsterfullerene().record();
-    assert_eq!(
-        rings("buckminsterfullerene"),
-        lister::list(&cage, Task::Rings).listed
-    );
+    assert_eq!(examples::counts(&cage)[0], 255_242);
+    let cage = examples::breadth_first(&cage);
+    assert_eq!(examples::counts(&cage), [255_242, 1_188_441, 71_306_520]);
 }
 
 /// Several listings side by side, in threads of little stack: the entry keeps

@@ -276,15 +276,16 @@ fn random_marks(name: &'static str, seed: u64) {
         let record = generate::any_searched(&mut rng).record();
         let n = record.atoms;
         let (listed, reached) = (Listed::new(&record), Reached::new(&record));
-        let lists: &dyn Lists = if n <= 10 { &listed } else { &reached };
+        let lists: &dyn Lists = if n <= 12 { &listed } else { &reached };
         let task = any_task(&mut rng, n);
         let members = lister::list(&record, task).members();
         for kind in 0..MARKS {
             let search = any_place(&mut rng, n, task, &members);
             let mut mark = mark::write(&record, &search);
             spoil::mark(&mut rng, n, kind, &mut mark);
-            let Ok(search) = compare(&mut calls, lists, &mark) else {
-                continue;
+            let search = match compare(&mut calls, lists, &mark) {
+                Ok(search) => search,
+                Err(_) => continue,
             };
             if !rng.one_in(4) {
                 continue;
@@ -476,7 +477,7 @@ fn limits() {
             loop {
                 for which in 0..3 {
                     // Of a sample, one place in a few.
-                    if !place.trials.is_multiple_of(sample().min(6)) {
+                    if place.trials % sample().min(6) != 0 {
                         continue;
                     }
                     for below in [0, 1, 2, 6] {

@@ -68,7 +68,7 @@ fn rule_12() {
         let on = On::lawful(&lists);
         let high = [1 << 8, 1 << 16, 1 << 32, 1 << 63];
         for (number, right) in places(&record, task).into_iter().enumerate() {
-            if !(number as u64).is_multiple_of(sample().min(16)) {
+            if number as u64 % sample().min(16) != 0 {
                 continue;
             }
             accept(&mut calls, on, &right);

@@ -2,7 +2,9 @@
 //! FLAT_BIN_DIR names, or from target/bin at the root of the repository.
 
 use std::fs::File;
-use std::io::{Read, Write};
+use std::io::{ErrorKind, Read, Write};
+use std::os::unix::io::{AsRawFd, OwnedFd};
+use std::os::unix::net::UnixDatagram;
 use std::path::PathBuf;
 use std::process::{Child, Command, ExitStatus, Stdio};
 use std::thread;
@@ -289,6 +291,47 @@ fn closed_output() {
         ends(&mut child);
     }
     let mut child = start(&mut shell("exec \"$0\" > /dev/full"));
-    feed(&mut child, vec![endless], None);
+    feed(&mut child, vec![endless.clone()], None);
     ends(&mut child);
+    // After a write that failed nothing more is printed, not the counts either,
+    // which would be taken. A short text comes whole.
+    assert_eq!(narrowly(&endless).escape_ascii().to_string(), "");
+    let cubane = examples::bytes("cubane");
+    assert!(narrowly(&cubane) == expected(&cubane));
+}
+
+/// What comes of the output through a socket that takes short writes and fails
+/// long ones whole.
+fn narrowly(input: &[u8]) -> Vec<u8> {
+    extern "C" {
+        fn setsockopt(socket: i32, level: i32, name: i32, value: *const i32, len: u32) -> i32;
+    }
+    const SOL_SOCKET: i32 = 1;
+    const SO_SNDBUF: i32 = 7;
+    let (near, far) = UnixDatagram::pair().expect("a pair of sockets");
+    // SAFETY: the socket is open, and the value has the length that is given.
+    let set = unsafe { setsockopt(far.as_raw_fd(), SOL_SOCKET, SO_SNDBUF, &4_096, 4) };
+    assert_eq!(set, 0);
+    let taken = |len: usize| far.send(&vec![b'.'; len]).is_ok();
+    assert!(!taken(20_000) && taken(61), "only the short write is taken");
+    let mut piece = vec![0; 65_536];
+    assert_eq!(near.recv(&mut piece).ok(), Some(61));
+    let mut child = Command::new(program())
+        .stdin(Stdio::piped())
+        .stdout(OwnedFd::from(far))
+        .spawn()
+        .expect("ringlist starts");
+    feed(&mut child, vec![input.to_vec()], None);
+    ends(&mut child);
+    near.set_nonblocking(true).expect("a socket");
+    let mut text = Vec::new();
+    loop {
+        match near.recv(&mut piece) {
+            Ok(len) => text.extend_from_slice(&piece[..len]),
+            Err(error) => {
+                assert_eq!(error.kind(), ErrorKind::WouldBlock);
+                return text;
+            }
+        }
+    }
 }

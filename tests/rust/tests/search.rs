@@ -9,14 +9,14 @@ use flat_tests::model::machine::{Search, Stop};
 use flat_tests::model::mark::{self, LONGEST_MARK};
 use flat_tests::model::{lister, Record};
 use flat_tests::rng::Rng;
-use flat_tests::{sample, sampled, spoil};
+use flat_tests::{sample, sampled, spoil, sum_of_parts};
 
 /// The kinds of budgets and of outputs.
 const BUDGETS: u64 = 10;
 const ROOMS: u64 = 24;
 
 /// Up to this many atoms the model answers from the brute-force list.
-const BRUTE: u64 = 10;
+const BRUTE: u64 = 12;
 
 /// One search: its molecule, what it lists, and all of that.
 struct Subject<'a> {
@@ -290,32 +290,25 @@ fn schedule_from_a_mark(calls: &mut Calls, subject: &Subject, rng: &mut Rng) {
     assert_eq!(course.search.trials - search.trials, course.made);
 }
 
-/// Four parts, so that they can run side by side.
+/// Four parts side by side, at least 20,000 molecules.
 #[test]
-fn random_schedules_1() {
-    random_schedules("random_schedules_1", 0x5345_4152_4331);
+fn random_schedules() {
+    let parts = [
+        ("random_schedules 1", 0x5345_4152_4331),
+        ("random_schedules 2", 0x5345_4152_4332),
+        ("random_schedules 3", 0x5345_4152_4333),
+        ("random_schedules 4", 0x5345_4152_4334),
+    ];
+    let molecules = sum_of_parts(&parts, random_schedules_of);
+    println!("{molecules} molecules in all");
+    assert!(sample() > 1 || molecules >= 20_000, "only {molecules}");
 }
 
-#[test]
-fn random_schedules_2() {
-    random_schedules("random_schedules_2", 0x5345_4152_4332);
-}
-
-#[test]
-fn random_schedules_3() {
-    random_schedules("random_schedules_3", 0x5345_4152_4333);
-}
-
-#[test]
-fn random_schedules_4() {
-    random_schedules("random_schedules_4", 0x5345_4152_4334);
-}
-
-fn random_schedules(name: &'static str, seed: u64) {
-    let molecules = sampled(5_200);
+/// The schedules of one seed, and the number of their molecules.
+fn random_schedules_of(name: &'static str, seed: u64) -> u64 {
     let mut calls = Calls::new(seed);
-    let (mut members, mut longest) = (0, 0);
-    for case in 0..molecules {
+    let (mut molecules, mut members, mut longest) = (0, 0, 0);
+    for case in 0..sampled(5_200) {
         let _case = Case(name, case);
         let mut rng = Rng::of_case(seed, case);
         let record = generate::any_searched(&mut rng).record();
@@ -349,6 +342,7 @@ fn random_schedules(name: &'static str, seed: u64) {
             longest = longest.max(subject.members.iter().map(Vec::len).max().unwrap_or(0));
         }
         assert_eq!(record, kept, "the record was written");
+        molecules += 1;
     }
     println!("{molecules} molecules, {members} members, the longest of {longest} atoms");
     calls.print();
@@ -368,6 +362,7 @@ fn random_schedules(name: &'static str, seed: u64) {
     calls.at_least(150, "start_paths", &[9, 10, 11]);
     assert!(members >= sampled(20_000));
     assert!(sample() > 1 || longest >= 15);
+    molecules
 }
 
 /// Every budget and room of a fresh search, with what follows from there.

@@ -10,7 +10,6 @@
 //! best time counts.
 
 use std::fmt::Write;
-use std::hint::black_box;
 use std::path::PathBuf;
 use std::time::Instant;
 
@@ -18,7 +17,7 @@ use flat_tests::model::list::Task;
 use flat_tests::model::machine::Stop;
 use flat_tests::model::{lister, sheet};
 use flat_tests::rng::Rng;
-use flat_tests::{examples, generate, host, stepper};
+use flat_tests::{black_box, examples, generate, host, stepper};
 
 /// Rounds, of which none begins after so many seconds on one molecule.
 const ROUNDS: usize = 9;
@@ -186,7 +185,7 @@ fn measure(molecule: &Molecule) -> Row {
         }));
         for (length, best) in LENGTHS.iter().zip(&mut row.runs) {
             if *length < trials && trials / length <= MOST_CALLS {
-                let seconds = time(times.div_ceil(4), || {
+                let seconds = time((times + 3) / 4, || {
                     list(sheet, *length, &mut out);
                 });
                 *best = Some(best.unwrap_or(f64::MAX).min(seconds));

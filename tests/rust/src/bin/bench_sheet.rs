@@ -3,11 +3,10 @@
 //! whole sheet and make the whole record; the model takes memory for its
 //! lines and its rows at every call, the library writes into one buffer.
 
-use std::hint::black_box;
 use std::time::Instant;
 
 use flat_tests::rng::Rng;
-use flat_tests::{ffi, generate, model};
+use flat_tests::{black_box, ffi, generate, model};
 
 const WARM_UP: u32 = 1_000;
 const ROUNDS: usize = 21;

@@ -104,7 +104,7 @@ pub fn following<'a>(
 ) -> impl Iterator<Item = &'a Vec<u8>> {
     members.iter().filter(move |member| {
         if member.starts_with(p) {
-            member.get(p.len()).is_some_and(|&v| u64::from(v) >= c)
+            member.get(p.len()).map_or(false, |&v| u64::from(v) >= c)
         } else {
             member.as_slice() > p
         }
@@ -160,7 +160,7 @@ impl Lists for Listed<'_> {
         beginning.is_empty()
             || members
                 .get(after)
-                .is_some_and(|member| member.starts_with(beginning))
+                .map_or(false, |member| member.starts_with(beginning))
     }
 }
 
@@ -230,8 +230,9 @@ impl Lists for Reached<'_> {
 
     /// A shortest path that completes a list without chords brings none in.
     fn is_open(&self, task: Task, beginning: &[u8]) -> bool {
-        let (Some(&first), Some(&last)) = (beginning.first(), beginning.last()) else {
-            return true;
+        let (first, last) = match (beginning.first(), beginning.last()) {
+            (Some(&first), Some(&last)) => (first, last),
+            _ => return true,
         };
         let mut atoms = 1..=self.record.atoms as u8;
         if !beginning.iter().all(|v| atoms.contains(v))

@@ -53,8 +53,9 @@ fn read_line(line: &[u8], columns: usize) -> Option<Vec<u64>> {
 fn read_lines(mark: &[u8]) -> Option<[Vec<u64>; 3]> {
     let lines: Vec<&[u8]> = mark.split(|&byte| byte == b'\n').collect();
     // Nothing comes after the third line feed.
-    let [first, second, third, []] = lines[..] else {
-        return None;
+    let (first, second, third) = match lines[..] {
+        [first, second, third, []] => (first, second, third),
+        _ => return None,
     };
     let first = read_line(first, NARROW).filter(|numbers| numbers.len() == 7)?;
     let second = read_line(second, WIDE).filter(|numbers| numbers.len() == 3)?;
@@ -71,9 +72,7 @@ fn read_lines(mark: &[u8]) -> Option<[Vec<u64>; 3]> {
 pub fn read(lists: &dyn Lists, mark: &[u8]) -> Result<Search, u32> {
     let record = lists.record();
     let [first, second, third] = read_lines(mark).ok_or(14u32)?;
-    let [kind, s, t, n, m, length, c] = first[..] else {
-        unreachable!("seven fields");
-    };
+    let [kind, s, t, n, m, length, c]: [u64; 7] = first.try_into().expect("seven fields");
     if n != record.atoms || m != record.bonds {
         return Err(15);
     }

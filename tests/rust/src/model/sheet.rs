@@ -16,7 +16,7 @@ fn read_line(line: &[u8]) -> Option<(u64, u64)> {
 
 /// The record of a sheet, or the number of the first rule it breaks.
 pub fn read(sheet: &[u8]) -> Result<Record, u32> {
-    if sheet.len() < LINE || !sheet.len().is_multiple_of(LINE) {
+    if sheet.len() < LINE || sheet.len() % LINE != 0 {
         return Err(1);
     }
     let mut lines = Vec::with_capacity(sheet.len() / LINE);
