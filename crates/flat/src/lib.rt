@@ -268,7 +268,7 @@ pub extern "C" fn flat_start_rings(
     if !sizes_kept(rows.len(), numbers.len(), prefix.len()) {
         return 200;
     }
-    let made = openness::start_rings(assemble(atoms, bonds, rows));
+    let made = start::start_rings(assemble(atoms, bonds, rows));
     store_made(made, numbers, prefix)
 }
 
@@ -290,7 +290,7 @@ pub extern "C" fn flat_start_paths(
     if !sizes_kept(rows.len(), numbers.len(), prefix.len()) {
         return 200;
     }
-    let made = openness::start_paths(assemble(atoms, bonds, rows), s, t);
+    let made = start::start_paths(assemble(atoms, bonds, rows), s, t);
     store_made(made, numbers, prefix)
 }
 

@@ -24,7 +24,7 @@ use Rattle.search.specs.declared.Ran.{Ran}
 use Rattle.search.specs.Place.{freshSearch}
 use Rattle.search.specs.Entries.{accepted, runSearch, runOutput}
 use Rattle.search.specs.Mark.{fieldAt, valueAt, saveOutput, restoreMark}
-use Rattle.openness.proofs.Starts.{rings-started}
+use Rattle.start.proofs.Starts.{rings-started}
 use Rattle.host.specs.Resume.{Resumed, turnedBack, endedNumber, searchFor, runAndSave, resume, markSize, listedIn}
 
 module _ (mol : Molecule) (mark : List ℕ) where

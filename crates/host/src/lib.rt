@@ -28,13 +28,13 @@ fn search_for(m: Molecule, mark: &[u8]) -> Made
     ensures { λ r. ⌜ r ≡ searchFor m (now (mark .entry)) ⌝ }
 {
     if mark.len() == 0 {
-        let fresh = openness::fresh_search(0, 0, 0);
+        let fresh = search::fresh_search(0, 0, 0);
         return Made {
             answer: Answer::Accepted,
             search: fresh,
         };
     }
-    marks::restore_checked(m, mark)
+    mark_reader::restore_checked(m, mark)
 }
 
 // Runs a search and saves the one that the run returns.
@@ -44,10 +44,10 @@ fn run_and_save(m: Molecule, q: Search, budget: u64, rings: &mut [u8], next_mark
     ensures { λ _. ⌜ now (rings .exit) ≡ runAndSave m q budget (now (rings .entry)) (now («next_mark» .entry)) .rings ⌝ }
     ensures { λ _. ⌜ now («next_mark» .exit) ≡ runAndSave m q budget (now (rings .entry)) (now («next_mark» .entry)) .nextMark ⌝ }
 {
-    let ran = run::run_checked(m, q, budget, rings);
+    let ran = runner::run_checked(m, q, budget, rings);
     let search = ran.search;
     let ended = ran.ended;
-    marks::save_checked(m, search, next_mark);
+    mark_writer::save_checked(m, search, next_mark);
     ended_number(ended)
 }
 

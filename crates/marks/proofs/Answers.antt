@@ -1,136 +1,23 @@
--- The answers of a restore and of a save, by the rules that lead to each.
+-- The refusals of a save and of a restore by the rules that come first: 9, then 12 for a save.
 -- The definitions go by `cond`, so each answer follows by rewriting the rules.
-use Prim.Native.Nat.{ℕ, _+_, _*_, _≤_, _<_}
-use native.Mathlib.Omega.{arith}
-use mathlib.Core.Path.{_≡_, ap, sym, _∙_}
-use mathlib.Core.Bool.{Bool, true, false}
-use mathlib.Core.List.{List, map, reverse, reverse-reverse}
-use lib.ListN.{length, take, length-reverse}
-use borrow.Author.Tests.{eq-eqb, ne-eqb}
-use Rattle.enumeration.specs.Words.{Family}
-use Rattle.enumeration.specs.Lawful.{Lawful}
+use Prim.Native.Nat.{ℕ}
+use mathlib.Core.Path.{_≡_, sym}
+use mathlib.Core.Bool.{true, false}
+use mathlib.Core.List.{List}
 use Rattle.refusal.specs.declared.Refusal.the-variants as refusal
 use Rattle.molecule.specs.declared.Molecule.{Molecule}
 use Rattle.molecule.specs.Record.{wellFormed}
-use Rattle.molecule.proofs.Bonds.{rule9}
 use Rattle.search.specs.declared.Search.{Search}
-use Rattle.search.specs.declared.Saved.the-variants.{Written, Refused}
-use Rattle.search.specs.Place.{familyOf, family, beginning, held, searchAt, kindKept, placeKept, restorable}
-use Rattle.search.specs.Entries.{accepted, turnedBack}
-use Rattle.search.specs.Mark.{markText, saveAnswer, saveOutput, valueAt, markLength, markBeginning, markSearch, layoutKept, restoreMark}
-use Rattle.search.proofs.Text.{values-four, values-length}
-use Rattle.search.proofs.Lines.{layout-facts}
-use Rattle.search.proofs.Readings.{family-lawful, family-atoms, place-facts, restorable-facts}
-use Rattle.search.proofs.Views.{held-take, held-length, beginning-length}
-use Rattle.search.proofs.MarkLaws.{mark-length, save-record, save-search, save-room, save-writes, save-refused}
-use Rattle.marks.specs.Parts.{spliced, low, searchOf}
-use Rattle.marks.proofs.Splices.{splice-start}
-use Rattle.marks.proofs.Stored.{low-length, stored-open, place-stored}
+use Rattle.search.specs.declared.Saved.the-variants.{Refused}
+use Rattle.search.specs.Place.{restorable}
+use Rattle.search.specs.Entries.{turnedBack}
+use Rattle.search.specs.Mark.{saveAnswer, saveOutput, restoreMark}
+use Rattle.search.proofs.MarkLaws.{save-record, save-search, save-refused}
 
 module _ (mol : Molecule) (bytes : List ℕ) where
   pub restore-record : wellFormed mol ≡ false → turnedBack refusal.Record ≡ restoreMark mol bytes
   unfolding restoreMark
   restore-record e = rw e
-
-  module _ (formed : wellFormed mol ≡ true) where
-    pub restore-bytes : layoutKept bytes ≡ false → turnedBack refusal.MarkBytes ≡ restoreMark mol bytes
-    unfolding restoreMark
-    restore-bytes e = rw (formed, e)
-
-    module _ (layout : layoutKept bytes ≡ true) where
-      pub restore-atoms : (valueAt 4 bytes 12 ≡ mol .atoms → ⊥) → turnedBack refusal.MarkMolecule ≡ restoreMark mol bytes
-      unfolding restoreMark
-      restore-atoms e = rw (formed, layout, ne-eqb (valueAt 4 bytes 12) (mol .atoms) e)
-
-      module _ (atoms : valueAt 4 bytes 12 ≡ mol .atoms) where
-        pub restore-bonds : (valueAt 4 bytes 16 ≡ mol .bonds → ⊥) → turnedBack refusal.MarkMolecule ≡ restoreMark mol bytes
-        unfolding restoreMark
-        restore-bonds e = rw (formed, layout, eq-eqb (valueAt 4 bytes 12) (mol .atoms) atoms, ne-eqb (valueAt 4 bytes 16) (mol .bonds) e)
-
-        module _ (bonds : valueAt 4 bytes 16 ≡ mol .bonds) where
-          pub restore-kind : kindKept (mol .atoms) (valueAt 4 bytes 0) (valueAt 4 bytes 4) (valueAt 4 bytes 8) ≡ false → turnedBack refusal.MarkKind ≡ restoreMark mol bytes
-          unfolding restoreMark
-          restore-kind e = rw (formed, layout, eq-eqb (valueAt 4 bytes 12) (mol .atoms) atoms, eq-eqb (valueAt 4 bytes 16) (mol .bonds) bonds, e)
-
-          module _ (kinds : kindKept (mol .atoms) (valueAt 4 bytes 0) (valueAt 4 bytes 4) (valueAt 4 bytes 8) ≡ true) where
-            abbrev place : Bool
-            place = placeKept (familyOf mol (valueAt 4 bytes 0) (valueAt 4 bytes 4) (valueAt 4 bytes 8)) (markBeginning bytes) (valueAt 4 bytes 24)
-
-            pub restore-place : place ≡ false → turnedBack refusal.MarkPlace ≡ restoreMark mol bytes
-            unfolding restoreMark
-            restore-place e = rw (formed, layout, eq-eqb (valueAt 4 bytes 12) (mol .atoms) atoms, eq-eqb (valueAt 4 bytes 16) (mol .bonds) bonds, kinds, e)
-
-            pub restore-accepts : place ≡ true → accepted (markSearch bytes) ≡ restoreMark mol bytes
-            unfolding restoreMark
-            restore-accepts e = rw (formed, layout, eq-eqb (valueAt 4 bytes 12) (mol .atoms) atoms, eq-eqb (valueAt 4 bytes 16) (mol .bonds) bonds, kinds, e)
-
--- ---- the search that is built from the stored atoms
-
--- the search that a mark names, with its atoms stored as bytes
-abbrev pub built : List ℕ → Search
-built bytes = searchOf bytes (held (map low (markBeginning bytes)))
-
-module _ (mol : Molecule) (bytes : List ℕ) (formed : wellFormed mol ≡ true) where
-  abbrev F : Family
-  F = familyOf mol (valueAt 4 bytes 0) (valueAt 4 bytes 4) (valueAt 4 bytes 8)
-
-  few : F .atoms ≤ 128
-  few = omega (arith, family-atoms mol (valueAt 4 bytes 0) (valueAt 4 bytes 4) (valueAt 4 bytes 8), rule9 mol formed .atoms-high)
-
-  lawful : Lawful F
-  lawful = family-lawful mol (valueAt 4 bytes 0) (valueAt 4 bytes 4) (valueAt 4 bytes 8)
-
-  built-beginning : beginning (built bytes) ≡ map low (markBeginning bytes)
-  unfolding beginning searchOf
-  built-beginning = ap (λ k. take k (held (map low (markBeginning bytes)))) (sym (low-length bytes (markLength bytes))) ∙ held-take (map low (markBeginning bytes))
-
-  built-place : placeKept (family mol (built bytes)) (beginning (built bytes)) (built bytes .next) ≡ placeKept F (markBeginning bytes) (valueAt 4 bytes 24)
-  unfolding searchOf
-  built-place = ap (λ w. placeKept F w (valueAt 4 bytes 24)) built-beginning ∙ place-stored F lawful few (markBeginning bytes) (valueAt 4 bytes 24)
-
-  built-search : placeKept (family mol (built bytes)) (beginning (built bytes)) (built bytes .next) ≡ true → built bytes ≡ markSearch bytes
-  unfolding searchOf markSearch searchAt
-  built-search e =
-      let opened = place-facts F (beginning (built bytes)) (valueAt 4 bytes 24) e .place-open in
-      let same : map low (markBeginning bytes) ≡ markBeginning bytes = stored-open F lawful few (markBeginning bytes) (rw built-beginning at opened) in
-      let size : length (reverse (markBeginning bytes)) ≡ markLength bytes = length-reverse (markBeginning bytes) ∙ ap length (values-four bytes 90 (markLength bytes)) ∙ values-length 4 bytes 90 (markLength bytes) in
-      rw (same, size, reverse-reverse (markBeginning bytes))
-
-  module _ (layout : layoutKept bytes ≡ true) where
-    pub layout-room : 91 + 4 * markLength bytes ≤ length bytes
-    layout-room = omega (arith, layout-facts bytes layout .size)
-
-    pub layout-most : markLength bytes ≤ 127
-    layout-most = layout-facts bytes layout .most
-
-    module _ (q : Search) (is : q ≡ built bytes) where
-      pub built-short : q .len ≤ 127
-      unfolding searchOf
-      built-short = rw is layout-most
-
-      pub built-full : length (q .prefix) ≡ 128
-      unfolding searchOf
-      built-full = rw is (held-length (map low (markBeginning bytes)) (omega (arith, low-length bytes (markLength bytes), layout-most)))
-
-      named-kind : kindKept (mol .atoms) (q .kind) (q .s) (q .t) ≡ kindKept (mol .atoms) (valueAt 4 bytes 0) (valueAt 4 bytes 4) (valueAt 4 bytes 8)
-      unfolding searchOf
-      named-kind = rw is
-
-      named-place : placeKept (family mol q) (beginning q) (q .next) ≡ placeKept F (markBeginning bytes) (valueAt 4 bytes 24)
-      named-place = ap (λ x. placeKept (family mol x) (beginning x) (x .next)) is ∙ built-place
-
-      module _ (atoms : valueAt 4 bytes 12 ≡ mol .atoms) (bonds : valueAt 4 bytes 16 ≡ mol .bonds) where
-        pub built-kind : kindKept (mol .atoms) (q .kind) (q .s) (q .t) ≡ false → turnedBack refusal.MarkKind ≡ restoreMark mol bytes
-        built-kind e = restore-kind mol bytes formed layout atoms bonds (sym named-kind ∙ e)
-
-        module _ (kinds : kindKept (mol .atoms) (q .kind) (q .s) (q .t) ≡ true) where
-          pub built-turned : placeKept (family mol q) (beginning q) (q .next) ≡ false → turnedBack refusal.MarkPlace ≡ restoreMark mol bytes
-          built-turned e = restore-place mol bytes formed layout atoms bonds (sym named-kind ∙ kinds) (sym named-place ∙ e)
-
-          pub built-accepted : placeKept (family mol q) (beginning q) (q .next) ≡ true → accepted q ≡ restoreMark mol bytes
-          built-accepted e = ap accepted (is ∙ built-search (rw is at e)) ∙ restore-accepts mol bytes formed layout atoms bonds (sym named-kind ∙ kinds) (sym named-place ∙ e)
-
--- ---- a save
 
 module _ (mol : Molecule) (q : Search) (out : List ℕ) where
   pub saved-record : wellFormed mol ≡ false → (Refused refusal.Record ≡ saveAnswer mol q out) × (out ≡ saveOutput mol q out)
@@ -139,19 +26,3 @@ module _ (mol : Molecule) (q : Search) (out : List ℕ) where
   module _ (formed : wellFormed mol ≡ true) where
     pub saved-search : restorable mol q ≡ false → (Refused refusal.Search ≡ saveAnswer mol q out) × (out ≡ saveOutput mol q out)
     saved-search e = let a = save-search mol q out formed e in (sym a, sym (save-refused mol q out refusal.Search a))
-
-    module _ (kept : restorable mol q ≡ true) (full : length (q .prefix) ≡ 128) where
-      pub beginning-size : length (beginning q) ≡ q .len
-      beginning-size = beginning-length q full (restorable-facts mol q kept .short)
-
-      pub mark-size : length (markText mol q) ≡ 91 + 4 * q .len
-      mark-size = mark-length mol q ∙ ap (λ k. 91 + 4 * k) beginning-size
-
-      pub saved-room : length out < 91 + 4 * q .len → (Refused refusal.MarkRoom ≡ saveAnswer mol q out) × (out ≡ saveOutput mol q out)
-      saved-room h = let a = save-room mol q out formed kept (omega (arith, mark-size)) in (sym a, sym (save-refused mol q out refusal.MarkRoom a))
-
-      pub saved-written : (last : List ℕ) → 91 + 4 * q .len ≤ length out → last ≡ spliced 0 (markText mol q) out → (Written (91 + 4 * q .len) ≡ saveAnswer mol q out) × (last ≡ saveOutput mol q out)
-      unfolding saveOutput
-      saved-written last h e =
-          let a = save-writes mol q out formed kept (omega (arith, mark-size)) in
-          (rw (← mark-size) (sym a), e ∙ splice-start out (markText mol q) ∙ rw a)

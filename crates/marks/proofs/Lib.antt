@@ -1,4 +1,1 @@
-pub mod Splices
-pub mod Stored
-pub mod Layouts
 pub mod Answers

@@ -4,6 +4,4 @@ pub mod Rings
 pub mod Paths
 pub mod Plans
 pub mod Opens
-pub mod Checks
 pub mod Molecules
-pub mod Starts

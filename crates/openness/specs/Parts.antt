@@ -1,14 +1,12 @@
 -- What the inner functions ask and return. Nothing to believe: the laws of proofs/ relate them to members and open beginnings.
-use Prim.Native.Nat.{ℕ, suc, _≤_, _<_}
+use Prim.Native.Nat.{ℕ, _≤_, _<_}
 use mathlib.Core.Path.{_≡_}
-use mathlib.Core.Bool.{Bool, true, false, _&&_, _||_}
+use mathlib.Core.Bool.{Bool, true, false, _&&_}
 use mathlib.Core.List.{List}
-use lib.ListN.{length, take, getD}
-use lib.Dec.{ltb, eqb}
-use Rattle.graph.specs.Every.{allBelow}
+use lib.ListN.{length, take}
+use lib.Dec.{eqb}
 use Rattle.graph.specs.Chordless.{Adjacency, atomAt}
 use Rattle.enumeration.specs.Words.{Family, isOpen}
-use Rattle.molecule.specs.Record.{isAtom}
 use Rattle.atomset.specs.Set.{has}
 use Rattle.openness.specs.declared.Plan.{Plan}
 use Rattle.openness.specs.Plan.{Words, Tells}
@@ -37,14 +35,3 @@ Everywhere F p plan = (v : ℕ) → Tells F p plan v
 pub record Alone (opening : Bool) (c : ℕ) (plan : Plan) : Type 0 where
   pub no-member : (v : ℕ) → has (plan .members) v ≡ false
   pub one-opens : (v : ℕ) → has (plan .opens) v ≡ (eqb v c && opening)
-
--- the places past a length hold 0
-unfoldable pub paddedAt : List ℕ → ℕ → ℕ → Bool
-paddedAt prefix len i = ltb i len || eqb (getD prefix i 0) 0
-
-unfoldable pub padded : List ℕ → ℕ → Bool
-padded prefix len = allBelow 128 (paddedAt prefix len)
-
--- the next atom is from 1 to n, or n + 1 after an empty beginning
-unfoldable pub nextKept : ℕ → ℕ → ℕ → Bool
-nextKept n len c = isAtom n c || eqb len 0 && eqb c (suc n)

@@ -1,24 +1,15 @@
-// Members and open beginnings by sets of atoms (lemma 2 of document 003), and rule 12.
+// Members and open beginnings by sets of atoms (lemma 2 of document 003).
 ghost use Prim.Native.Nat.{suc, _≤_};
 ghost use mathlib.Core.Path.{_≡_};
-ghost use mathlib.Core.Bool.{true, _&&_};
+ghost use mathlib.Core.Bool.{true};
 ghost use mathlib.Core.List.{[], _∷_};
 ghost use lib.ListN.{length, take};
-ghost use lib.Dec.{leb};
 ghost use Rattle.enumeration.specs.Words.{isOpen};
-ghost use Rattle.enumeration.specs.Run.{limit};
 ghost use Rattle.chordless.specs.Families.{rings, paths};
-ghost use Rattle.molecule.specs.Record.{wellFormed};
 ghost use Rattle.atomset.specs.Set.{linkedBy};
-ghost use Rattle.search.specs.Place.{kindKept, endsKept, freshSearch, restorable};
-ghost use Rattle.search.specs.Entries.{accepted, turnedBack, startRings, startPaths};
+ghost use Rattle.search.specs.Place.{kindKept, endsKept};
 ghost use Rattle.openness.specs.Plan.{familyBy, Words, Planned, Beginning};
-ghost use Rattle.openness.specs.Parts.{Near, AtomsBelow, Opened, Everywhere, Alone, padded, nextKept};
-use molecule::Molecule;
-use refusal::Answer;
-use refusal::Refusal;
-use search::Made;
-use search::Search;
+ghost use Rattle.openness.specs.Parts.{Near, AtomsBelow, Opened, Everywhere, Alone};
 
 // The atoms that make a member of a beginning, and those that open it.
 pub struct Plan {
@@ -257,170 +248,4 @@ pub fn is_open(
         i += 1;
     }
     true
-}
-
-// Whether the places past the length hold 0.
-fn is_padded(prefix: &[u8; 128], len: usize) -> bool
-    ensures { λ r. ⌜ r ≡ padded (now (prefix .entry)) len ⌝ }
-{
-    let mut i = len;
-    while i < 128 {
-        if prefix[i] != 0 {
-            return false;
-        }
-        i += 1;
-    }
-    true
-}
-
-// Rules 10 and 11: whether s and t are atoms, and differ.
-fn ends_kept(n: usize, s: usize, t: usize) -> bool
-    ensures { λ r. ⌜ r ≡ endsKept n s t ⌝ }
-{
-    if !molecule::is_atom(n, s) {
-        return false;
-    }
-    if !molecule::is_atom(n, t) {
-        return false;
-    }
-    s != t
-}
-
-// Rule 16: whether kind, s and t go together.
-pub fn kind_kept(n: usize, kind: usize, s: usize, t: usize) -> bool
-    ensures { λ r. ⌜ r ≡ kindKept n kind s t ⌝ }
-{
-    if kind == 0 {
-        if s != 0 {
-            return false;
-        }
-        return t == 0;
-    }
-    if kind != 1 {
-        return false;
-    }
-    ends_kept(n, s, t)
-}
-
-// Whether the next atom is from 1 to n, or n + 1 after an empty beginning.
-pub fn next_kept(n: usize, len: usize, c: usize) -> bool
-    requires { ⌜ n ≤ 128 ⌝ }
-    ensures { λ r. ⌜ r ≡ nextKept n len c ⌝ }
-{
-    if molecule::is_atom(n, c) {
-        return true;
-    }
-    if len != 0 {
-        return false;
-    }
-    c == n + 1
-}
-
-// Whether no count is above the limit.
-fn counts_kept(trials: u64, extensions: u64, listed: u64) -> bool
-    ensures { λ r. ⌜ r ≡ (leb trials limit && leb extensions limit && leb listed limit) ⌝ }
-{
-    if 9_999_999_999_999_999_999 < trials {
-        return false;
-    }
-    if 9_999_999_999_999_999_999 < extensions {
-        return false;
-    }
-    listed <= 9_999_999_999_999_999_999
-}
-
-// Rule 12: whether the search could be restored from a mark on this molecule.
-pub fn check_search(m: Molecule, q: Search) -> bool
-    requires { ⌜ wellFormed m ≡ true ⌝ }
-    ensures { λ r. ⌜ r ≡ restorable m q ⌝ }
-{
-    let n = m.atoms;
-    let rows = m.rows;
-    let prefix = q.prefix;
-    let len = q.len;
-    if 127 < len {
-        return false;
-    }
-    if !is_padded(&prefix, len) {
-        return false;
-    }
-    if !kind_kept(n, q.kind, q.s, q.t) {
-        return false;
-    }
-    if !next_kept(n, len, q.next) {
-        return false;
-    }
-    if !counts_kept(q.trials, q.extensions, q.listed) {
-        return false;
-    }
-    let table = atomset::words_of(&rows);
-    is_open(&table, n, q.kind, q.s, q.t, &prefix, len)
-}
-
-// The fresh search: no beginning, next atom 1, counts 0.
-pub fn fresh_search(kind: usize, s: usize, t: usize) -> Search
-    ensures { λ r. ⌜ r ≡ freshSearch kind s t ⌝ }
-{
-    Search {
-        kind: kind,
-        s: s,
-        t: t,
-        len: 0,
-        prefix: [0u8; 128],
-        next: 1,
-        trials: 0,
-        extensions: 0,
-        listed: 0,
-    }
-}
-
-// The answer that accepts a search.
-fn made(q: Search) -> Made
-    ensures { λ r. ⌜ r ≡ accepted q ⌝ }
-{
-    Made {
-        answer: Answer::Accepted,
-        search: q,
-    }
-}
-
-// A refusal, which returns the fresh ring search.
-pub fn turned_back(refusal: Refusal) -> Made
-    ensures { λ r. ⌜ r ≡ turnedBack refusal ⌝ }
-{
-    let q = fresh_search(0, 0, 0);
-    Made {
-        answer: Answer::Refused(refusal),
-        search: q,
-    }
-}
-
-// A fresh ring search: rule 9.
-pub fn start_rings(m: Molecule) -> Made
-    ensures { λ r. ⌜ r ≡ startRings m ⌝ }
-{
-    if !molecule::well_formed(m) {
-        return turned_back(Refusal::Record);
-    }
-    made(fresh_search(0, 0, 0))
-}
-
-// A fresh search for the paths from s to t: rules 9, 10, 11.
-pub fn start_paths(m: Molecule, s: usize, t: usize) -> Made
-    ensures { λ r. ⌜ r ≡ startPaths m s t ⌝ }
-{
-    if !molecule::well_formed(m) {
-        return turned_back(Refusal::Record);
-    }
-    let n = m.atoms;
-    if !molecule::is_atom(n, s) {
-        return turned_back(Refusal::PathEnd);
-    }
-    if !molecule::is_atom(n, t) {
-        return turned_back(Refusal::PathEnd);
-    }
-    if s == t {
-        return turned_back(Refusal::SameEnds);
-    }
-    made(fresh_search(1, s, t))
 }

@@ -124,7 +124,7 @@ fn print_rings(m: Molecule)
 {
     let mut out = output();
     let mut text = io::large_buffer();
-    let made = openness::start_rings(m);
+    let made = start::start_rings(m);
     let first = made.search;
     let listing = list_rings(m, first, &mut out, &mut text);
     if listing.whole {

@@ -1,4 +1,7 @@
 // The search of document 01 and the answers of the entries on it. What they mean is in specs/.
+ghost use mathlib.Core.Path.{_≡_};
+ghost use Rattle.search.specs.Place.{freshSearch};
+ghost use Rattle.search.specs.Entries.{accepted, turnedBack};
 use enumeration::Stop;
 use refusal::Answer;
 use refusal::Refusal;
@@ -39,4 +42,42 @@ pub struct Ran {
 pub enum Saved {
     Written(usize),
     Refused(Refusal),
+}
+
+// The fresh search: no beginning, next atom 1, counts 0.
+pub fn fresh_search(kind: usize, s: usize, t: usize) -> Search
+    ensures { λ r. ⌜ r ≡ freshSearch kind s t ⌝ }
+{
+    Search {
+        kind: kind,
+        s: s,
+        t: t,
+        len: 0,
+        prefix: [0u8; 128],
+        next: 1,
+        trials: 0,
+        extensions: 0,
+        listed: 0,
+    }
+}
+
+// The answer that accepts a search.
+pub fn accepted(q: Search) -> Made
+    ensures { λ r. ⌜ r ≡ accepted q ⌝ }
+{
+    Made {
+        answer: Answer::Accepted,
+        search: q,
+    }
+}
+
+// A refusal, which returns the fresh ring search.
+pub fn turned_back(refusal: Refusal) -> Made
+    ensures { λ r. ⌜ r ≡ turnedBack refusal ⌝ }
+{
+    let q = fresh_search(0, 0, 0);
+    Made {
+        answer: Answer::Refused(refusal),
+        search: q,
+    }
 }

@@ -1,0 +1,14 @@
+-- What the parts of restoring hold. Nothing to believe: the contract of a restore is the definition of marks.
+use Prim.Native.Nat.{ℕ, min}
+use mathlib.Core.List.{List}
+use Rattle.fields.specs.Field.{valueAt}
+use Rattle.search.specs.declared.Search.{Search}
+
+-- an atom as a byte holds it: above 255 it is 255
+abbrev pub low : ℕ → ℕ
+low v = min v 255
+
+-- the search that the fields of a mark name, with its atoms in an array
+unfoldable pub searchOf : List ℕ → List ℕ → Search
+searchOf bytes prefix =
+    record { kind = valueAt 4 bytes 0; s = valueAt 4 bytes 4; t = valueAt 4 bytes 8; len = valueAt 4 bytes 20; prefix = prefix; next = valueAt 4 bytes 24; trials = valueAt 20 bytes 29; extensions = valueAt 20 bytes 49; listed = valueAt 20 bytes 69 }

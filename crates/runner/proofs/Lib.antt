@@ -1,0 +1,4 @@
+pub mod Turns
+pub mod Trials
+pub mod Skips
+pub mod Answers

@@ -1,0 +1,165 @@
+-- The rest of the work: a run is what is written and made so far, followed by the run from the present state.
+-- One law for a turn, one for each way out.
+use Prim.Native.Nat.{ℕ, zero, suc, _+_, _-_, _≤_, _<_}
+use native.Mathlib.Omega.{arith}
+use mathlib.Core.Path.{_≡_, refl, ap, sym, _∙_}
+use mathlib.Core.Bool.{Bool, true, false, _||_}
+use mathlib.Core.List.{List, [], _++_, append-assoc, append-nil}
+use lib.ListN.{length, take, drop, length-append, length-drop}
+use lib.Seq.{take-at, drop-at, drop-drop}
+use lib.Dec.{eqb}
+use borrow.Author.Tests.{lt-ltb, le-ltb, eqb-false}
+use Rattle.enumeration.specs.declared.Stop.{Stop}
+use Rattle.enumeration.specs.declared.Stop.the-variants.{Done, Limit, Spent, Full}
+use Rattle.enumeration.specs.Words.{Family}
+use Rattle.enumeration.specs.Machine.{State, isDone, act, trial}
+use Rattle.enumeration.specs.Run.{Outcome, limit, atLimit, lists, stopped, after, run}
+use Rattle.enumeration.specs.Ran.{Bounded}
+use Rattle.enumeration.proofs.Basics.{or-neither}
+use Rattle.search.specs.declared.Search.{Search}
+use Rattle.search.specs.declared.Ended.the-variants.{Stopped}
+use Rattle.search.specs.Place.{searchAt}
+use Rattle.search.specs.Entries.{ran}
+use Rattle.runner.specs.Parts.{runOnto}
+
+-- ---- one step of the definition
+
+module _ (F : Family) (room : ℕ) (st : State) where
+  pub run-done : (budget : ℕ) → isDone (F .atoms) st ≡ true → run F budget room st ≡ stopped st Done
+  unfolding run
+  run-done zero d = rw d
+  run-done (suc budget) d = rw d
+
+  module _ (d : isDone (F .atoms) st ≡ false) where
+    pub run-limit : (budget : ℕ) → atLimit st ≡ true → run F budget room st ≡ stopped st Limit
+    unfolding run
+    run-limit zero l = rw (d, l)
+    run-limit (suc budget) l = rw (d, l)
+
+    module _ (l : atLimit st ≡ false) where
+      pub run-spent : (budget : ℕ) → budget ≡ 0 → run F budget room st ≡ stopped st Spent
+      unfolding run
+      run-spent zero e = rw (d, l)
+      run-spent (suc budget) e = absurd (omega arith)
+
+      pub run-full : (budget : ℕ) → 0 < budget → room < length (lists F st) → run F budget room st ≡ stopped st Full
+      unfolding run
+      run-full zero b h = absurd (omega arith)
+      run-full (suc budget) b h = rw (d, l, lt-ltb room (length (lists F st)) h)
+
+      pub run-turn : (budget : ℕ) → length (lists F st) ≤ room → run F (suc budget) room st ≡ after (lists F st) (run F budget (room - length (lists F st)) (trial F st))
+      unfolding run
+      run-turn budget h = rw (d, l, le-ltb room (length (lists F st)) h)
+
+-- ---- counts
+
+-- no count stands at the limit
+pub record Below (st : State) : Type 0 where
+  pub trials-less : st .trials < limit
+  pub extensions-less : st .extensions < limit
+  pub listed-less : st .listed < limit
+
+less : (x : ℕ) → x ≤ limit → eqb x limit ≡ false → x < limit
+less x h e = omega (arith, eqb-false x limit e)
+
+pub below-limit : (st : State) → Bounded st → atLimit st ≡ false → Below st
+unfolding atLimit
+below-limit st b e = go (or-neither (eqb (st .trials) limit || eqb (st .extensions) limit) (eqb (st .listed) limit) e)
+  where
+    go : ((eqb (st .trials) limit || eqb (st .extensions) limit) ≡ false) × (eqb (st .listed) limit ≡ false) → Below st
+    go r =
+        let q = or-neither (eqb (st .trials) limit) (eqb (st .extensions) limit) (r .0) in
+        record { trials-less = less (st .trials) (b .trials-most) (q .0); extensions-less = less (st .extensions) (b .extensions-most) (q .1); listed-less = less (st .listed) (b .listed-most) (r .1) }
+
+pub act-bounded : (n : ℕ) (member extends : Bool) (st : State) → Below st → Bounded (act n member extends st)
+unfolding act
+act-bounded n true extends st b = record { trials-most = b .trials-less; extensions-most = omega (arith, b .extensions-less); listed-most = b .listed-less }
+act-bounded n false true st b = record { trials-most = b .trials-less; extensions-most = b .extensions-less; listed-most = omega (arith, b .listed-less) }
+act-bounded n false false st b = record { trials-most = b .trials-less; extensions-most = omega (arith, b .extensions-less); listed-most = omega (arith, b .listed-less) }
+
+-- ---- the rest of the work
+
+-- an outcome with `made` trials before it, which wrote `bytes`
+abbrev onto : List ℕ → ℕ → Outcome → Outcome
+onto bytes made o = record { state = o .state; stop = o .stop; bytes = bytes ++ o .bytes; made = made + o .made }
+
+onto-none : (o : Outcome) → o ≡ onto [] 0 o
+onto-none o = let z : 0 + o .made ≡ o .made = omega arith in rw z
+
+onto-after : (bytes more : List ℕ) (made : ℕ) (o : Outcome) → onto bytes made (after more o) ≡ onto (bytes ++ more) (made + 1) o
+onto-after bytes more made o = let m : made + suc (o .made) ≡ made + 1 + o .made = omega arith in rw (m, append-assoc bytes more (o .bytes))
+
+onto-stopped : (bytes : List ℕ) (made : ℕ) (st : State) (why : Stop) → onto bytes made (stopped st why) ≡ record { state = st; stop = why; bytes = bytes; made = made }
+onto-stopped bytes made st why = let m : made + 0 ≡ made = omega arith in rw (m, append-nil bytes)
+
+-- after `made` trials of a run from st₀, which wrote `bytes`, the search stands at st
+pub record Going (F : Family) (budget : ℕ) (out₀ : List ℕ) (st₀ : State) (out : List ℕ) (st : State) (used made : ℕ) : Type 0 where
+  pub bytes : List ℕ
+  pub wrote : out ≡ bytes ++ drop (length bytes) out₀
+  pub used-is : used ≡ length bytes
+  pub in-room : length bytes ≤ length out₀
+  pub in-budget : made ≤ budget
+  pub rest : run F budget (length out₀) st₀ ≡ onto bytes made (run F (budget - made) (length out₀ - length bytes) st)
+
+module _ (F : Family) (budget : ℕ) (out₀ : List ℕ) (st₀ : State) where
+  pub going-starts : Going F budget out₀ st₀ out₀ st₀ 0 0
+  going-starts = record {
+    bytes = [];
+    wrote = refl;
+    used-is = refl;
+    in-room = omega arith;
+    in-budget = omega arith;
+    rest =
+        let b : budget - 0 ≡ budget = omega arith in
+        let r : length out₀ - 0 ≡ length out₀ = omega arith in
+        rw (b, r) (onto-none (run F budget (length out₀) st₀));
+  }
+
+  module _ (out : List ℕ) (st : State) (used made : ℕ) (g : Going F budget out₀ st₀ out st used made) where
+    pub going-length : length out ≡ length out₀
+    going-length = ap length (g .wrote) ∙ length-append (g .bytes) (drop (length (g .bytes)) out₀) ∙ omega (arith, length-drop (length (g .bytes)) out₀, g .in-room)
+
+    pub going-used : used ≤ length out
+    going-used = omega (arith, g .used-is, g .in-room, going-length)
+
+    -- the output after the record of one trial more
+    abbrev pub further : List ℕ → List ℕ
+    further bytes = take used out ++ (bytes ++ drop (length bytes) (drop used out))
+
+    module _ (d : isDone (F .atoms) st ≡ false) (l : atLimit st ≡ false) (b : made < budget) where
+      pub going-turn : (next : List ℕ) → next ≡ further (lists F st) → length (lists F st) ≤ length out - used → Going F budget out₀ st₀ next (trial F st) (used + length (lists F st)) (made + 1)
+      going-turn next e h = record {
+        bytes = g .bytes ++ lists F st;
+        wrote = e ∙ written;
+        used-is = omega (arith, both, g .used-is);
+        in-room = omega (arith, both, g .used-is, going-length, going-used);
+        in-budget = omega arith;
+        rest = g .rest ∙ ap (onto (g .bytes) made) turned ∙ onto-after (g .bytes) (lists F st) made (run F (budget - (made + 1)) (length out₀ - length (g .bytes ++ lists F st)) (trial F st));
+      }
+        where
+          both : length (g .bytes ++ lists F st) ≡ length (g .bytes) + length (lists F st)
+          both = length-append (g .bytes) (lists F st)
+
+          front : take used out ≡ g .bytes
+          front = ap (take used) (g .wrote) ∙ take-at (g .bytes) (drop (length (g .bytes)) out₀) used (sym (g .used-is))
+
+          back : drop used out ≡ drop (length (g .bytes)) out₀
+          back = ap (drop used) (g .wrote) ∙ drop-at (g .bytes) (drop (length (g .bytes)) out₀) used (sym (g .used-is))
+
+          written : further (lists F st) ≡ (g .bytes ++ lists F st) ++ drop (length (g .bytes ++ lists F st)) out₀
+          written = rw (front, back, both, drop-drop (length (lists F st)) (length (g .bytes)) out₀) (sym (append-assoc (g .bytes) (lists F st) (drop (length (g .bytes) + length (lists F st)) out₀)))
+
+          turned : run F (budget - made) (length out₀ - length (g .bytes)) st ≡ after (lists F st) (run F (budget - (made + 1)) (length out₀ - length (g .bytes ++ lists F st)) (trial F st))
+          turned =
+              let one : budget - made ≡ suc (budget - (made + 1)) = omega arith in
+              let left : length out₀ - length (g .bytes ++ lists F st) ≡ length out₀ - length (g .bytes) - length (lists F st) = omega (arith, both) in
+              rw (one, left) (run-turn F (length out₀ - length (g .bytes)) st d l (budget - (made + 1)) (omega (arith, g .used-is, going-length)))
+
+    -- a way out: the outcome of the whole run
+    going-ends : (why : Stop) → run F (budget - made) (length out₀ - used) st ≡ stopped st why → run F budget (length out₀) st₀ ≡ record { state = st; stop = why; bytes = g .bytes; made = made }
+    going-ends why e = g .rest ∙ ap (onto (g .bytes) made) (rw (g .used-is) at e) ∙ onto-stopped (g .bytes) made st why
+
+    pub going-answers :
+        (q at : Search) (why : Stop) → at ≡ searchAt (q .kind) (q .s) (q .t) st → run F (budget - made) (length out₀ - used) st ≡ stopped st why →
+        (record { ended = Stopped why; search = at; used = used; made = made } ≡ ran q (run F budget (length out₀) st₀)) × (out ≡ runOnto (run F budget (length out₀) st₀) out₀)
+    going-answers q at why f e = rw (going-ends why e) (rw (f, g .used-is), g .wrote)

@@ -1,0 +1,120 @@
+// The run of a search past rules 9 and 12 (document 01, "The search, trial by trial"): trials until done, limit, spent or full.
+ghost use mathlib.Core.Path.{_≡_};
+ghost use mathlib.Core.Bool.{true};
+ghost use Prim.Native.Nat.{_≤_};
+ghost use Rattle.atomset.specs.Set.{has};
+ghost use Rattle.molecule.specs.Record.{wellFormed};
+ghost use Rattle.search.specs.Place.{restorable};
+ghost use Rattle.search.specs.Entries.{ran, runSearch, runOutput};
+ghost use Rattle.runner.specs.Parts.{stoppedAt, Ready, outcomeBy, runOnto};
+use enumeration::Stop;
+use molecule::Molecule;
+use openness::Plan;
+use search::Ended;
+use search::Ran;
+use search::Search;
+use trial::Spot;
+
+// No atom makes a member or opens a beginning.
+fn no_plan() -> Plan {
+    let none = atomset::empty();
+    Plan {
+        members: none,
+        opens: none,
+    }
+}
+
+// Whether the beginning with c added is a member, by the plan.
+fn lists_at(found: Plan, c: usize) -> bool
+    requires { ⌜ (1 ≤ c) × (c ≤ 128) ⌝ }
+    ensures { λ r. ⌜ r ≡ has (found .members) c ⌝ }
+{
+    let members = found.members;
+    atomset::contains(members, c)
+}
+
+// Whether it is open, by the plan.
+fn opens_at(found: Plan, c: usize) -> bool
+    requires { ⌜ (1 ≤ c) × (c ≤ 128) ⌝ }
+    ensures { λ r. ⌜ r ≡ has (found .opens) c ⌝ }
+{
+    let opens = found.opens;
+    atomset::contains(opens, c)
+}
+
+// The answer of a run of q that has stopped at a place.
+fn stopped(q: Search, prefix: [u8; 128], at: Spot, stop: Stop, used: usize, made: u64) -> Ran
+    ensures { λ r. ⌜ r ≡ stoppedAt q prefix at stop used made ⌝ }
+{
+    let search = Search {
+        kind: q.kind,
+        s: q.s,
+        t: q.t,
+        len: at.len,
+        prefix: prefix,
+        next: at.next,
+        trials: at.trials,
+        extensions: at.extensions,
+        listed: at.listed,
+    };
+    Ran {
+        ended: Ended::Stopped(stop),
+        search: search,
+        used: used,
+        made: made,
+    }
+}
+
+// The run of a search that rule 12 allows, over the word table of the molecule.
+fn run_trials(table: &[u64; 256], n: usize, q: Search, budget: u64, out: &mut [u8]) -> Ran
+    requires { ⌜ Ready n (now table) q ⌝ }
+    ensures { λ r. ⌜ (r ≡ ran q (outcomeBy n (now (table .entry)) q budget (now (out .entry)))) × (now (out .exit) ≡ runOnto (outcomeBy n (now (table .entry)) q budget (now (out .entry))) (now (out .entry))) ⌝ }
+{
+    let mut prefix = q.prefix;
+    let mut at = trial::spot_of(q);
+    let mut found = no_plan();
+    let mut stale = true;
+    let mut used: usize = 0;
+    let mut made: u64 = 0;
+    let stop = loop {
+        let idle = trial::idle_trials(found, stale, at, n, budget - made);
+        at = trial::skipped(at, idle);
+        made += idle as u64;
+        let len = at.len;
+        let c = at.next;
+        if trial::is_done(len, c, n) {
+            break Stop::Done;
+        }
+        if trial::at_limit(at.trials, at.extensions, at.listed) {
+            break Stop::Limit;
+        }
+        if made == budget {
+            break Stop::Spent;
+        }
+        if stale {
+            found = openness::plan_at(table, n, q.kind, q.s, q.t, &prefix, len, c);
+        }
+        let lists = lists_at(found, c);
+        if lists {
+            if out.len() - used < len + 2 {
+                break Stop::Full;
+            }
+            trial::put_record(&mut out[used..], &prefix, len, c);
+            used += len + 2;
+        }
+        at = trial::act(&mut prefix, at, n, lists, opens_at(found, c));
+        made += 1;
+        stale = trial::is_stale(len, at.len);
+    };
+    stopped(q, prefix, at, stop, used, made)
+}
+
+// The run of a search that rule 12 allows on a molecule that rule 9 allows: trials until done, limit, spent or full.
+pub fn run_checked(m: Molecule, q: Search, budget: u64, out: &mut [u8]) -> Ran
+    requires { ⌜ (wellFormed m ≡ true) × (restorable m q ≡ true) ⌝ }
+    ensures { λ r. ⌜ (r ≡ runSearch m q budget (now (out .entry))) × (now (out .exit) ≡ runOutput m q budget (now (out .entry))) ⌝ }
+{
+    let rows = m.rows;
+    let table = atomset::words_of(&rows);
+    run_trials(&table, m.atoms, q, budget, out)
+}

@@ -1,0 +1,212 @@
+-- The tests of rule 12, by what the code finds; and the rule from its tests.
+-- A failed test refutes the facts that the rule states, and all of them together are those facts.
+use Prim.Native.Nat.{ℕ, suc, _+_, _≤_, _<_}
+use native.Mathlib.Omega.{arith}
+use native.Mathlib.Numerals.{add-one}
+use mathlib.Core.Path.{_≡_, sym, ap, _∙_}
+use mathlib.Core.Bool.{Bool, true, false, _&&_, not, or-false}
+use mathlib.Core.List.{List, []}
+use mathlib.Core.Logic.{_⊎_, inl, inr}
+use lib.ListN.{length, getD}
+use lib.Dec.{leb, ltb, eqb}
+use borrow.Author.Tests.{eq-eqb, ne-eqb, eqb-true, lt-ltb, le-ltb, ltb-true, ltb-false, le-leb, lt-leb, leb-true}
+use Rattle.graph.proofs.Below.{clash, false-of, either, same-test, and-both, and-parts, allBelow-at, allBelow-of}
+use Rattle.graph.proofs.Loops.{all-fails}
+use Rattle.enumeration.specs.Words.{isOpen}
+use Rattle.enumeration.specs.Run.{limit}
+use Rattle.enumeration.proofs.Basics.{or-either, or-left, or-right}
+use Rattle.molecule.specs.declared.Molecule.{Molecule}
+use Rattle.molecule.specs.Record.{isAtom}
+use Rattle.molecule.proofs.Bonds.{atom-bounds}
+use Rattle.search.specs.declared.Search.{Search}
+use Rattle.search.specs.Place.{family, beginning, endsKept, kindKept, restorable}
+use Rattle.search.proofs.Readings.{NextHigh, Restorable, restorable-facts, restorable-of, atom-of}
+use Rattle.search_rules.specs.Parts.{paddedAt, padded, nextKept}
+use Rattle.openness.proofs.Arrays.{taken-length}
+
+-- ---- the places past the length
+
+module _ (prefix : List ℕ) (len i : ℕ) where
+  pub padded-before : i < len → paddedAt prefix len i ≡ true
+  unfolding paddedAt
+  padded-before h = rw (lt-ltb i len h)
+
+  pub padded-zero : len ≤ i → getD prefix i 0 ≡ 0 → paddedAt prefix len i ≡ true
+  unfolding paddedAt
+  padded-zero l e = or-right (ltb i len) (eqb (getD prefix i 0) 0) (eq-eqb (getD prefix i 0) 0 e)
+
+  pub padded-other : len ≤ i → (getD prefix i 0 ≡ 0 → ⊥) → paddedAt prefix len i ≡ false
+  unfolding paddedAt
+  padded-other l d = rw (le-ltb i len l, ne-eqb (getD prefix i 0) 0 d)
+
+  padded-facts : paddedAt prefix len i ≡ true → len ≤ i → getD prefix i 0 ≡ 0
+  unfolding paddedAt
+  padded-facts e l = go (or-either (ltb i len) (eqb (getD prefix i 0) 0) e)
+    where
+      go : (ltb i len ≡ true) ⊎ (eqb (getD prefix i 0) 0 ≡ true) → getD prefix i 0 ≡ 0
+      go (inl b) = absurd (omega (arith, ltb-true i len b))
+      go (inr b) = eqb-true (getD prefix i 0) 0 b
+
+module _ (prefix : List ℕ) (len : ℕ) where
+  pub padded-fails : (i : ℕ) → i < 128 → paddedAt prefix len i ≡ false → padded prefix len ≡ false
+  unfolding padded
+  padded-fails i h e = all-fails 128 (paddedAt prefix len) i h e
+
+  pub padded-of : ((i : ℕ) → i < 128 → paddedAt prefix len i ≡ true) → padded prefix len ≡ true
+  unfolding padded
+  padded-of f = allBelow-of 128 (paddedAt prefix len) f
+
+  padded-at : padded prefix len ≡ true → (i : ℕ) → len ≤ i → i < 128 → getD prefix i 0 ≡ 0
+  unfolding padded
+  padded-at e i l h = padded-facts prefix len i (allBelow-at 128 (paddedAt prefix len) e i h) l
+
+  padded-from : ((i : ℕ) → len ≤ i → i < 128 → getD prefix i 0 ≡ 0) → padded prefix len ≡ true
+  padded-from f = padded-of (λ i h. go i h (either (ltb i len)))
+    where
+      go : (i : ℕ) → i < 128 → (ltb i len ≡ true) ⊎ (ltb i len ≡ false) → paddedAt prefix len i ≡ true
+      go i h (inl b) = padded-before prefix len i (ltb-true i len b)
+      go i h (inr b) = let l = ltb-false i len b in padded-zero prefix len i l (f i l h)
+
+-- ---- kind, s and t
+
+module _ (n s t : ℕ) where
+  pub ends-no-start : isAtom n s ≡ false → endsKept n s t ≡ false
+  unfolding endsKept
+  ends-no-start e = rw e
+
+  module _ (start : isAtom n s ≡ true) where
+    pub ends-no-end : isAtom n t ≡ false → endsKept n s t ≡ false
+    unfolding endsKept
+    ends-no-end e = rw (start, e)
+
+    pub ends-differ : isAtom n t ≡ true → endsKept n s t ≡ not (eqb s t)
+    unfolding endsKept
+    ends-differ e = rw (start, e)
+
+module _ (n kind s t : ℕ) where
+  module _ (zero : kind ≡ 0) where
+    pub kind-no-zero : (s ≡ 0 → ⊥) → kindKept n kind s t ≡ false
+    unfolding kindKept
+    kind-no-zero d = rw (eq-eqb kind 0 zero, ne-eqb s 0 d, ne-eqb kind 1 (omega arith))
+
+    pub kind-zero : s ≡ 0 → kindKept n kind s t ≡ eqb t 0
+    unfolding kindKept
+    kind-zero e = rw (eq-eqb kind 0 zero, eq-eqb s 0 e, ne-eqb kind 1 (omega arith)) (or-false (eqb t 0))
+
+  module _ (other : kind ≡ 0 → ⊥) where
+    pub kind-no-one : (kind ≡ 1 → ⊥) → kindKept n kind s t ≡ false
+    unfolding kindKept
+    kind-no-one d = rw (ne-eqb kind 0 other, ne-eqb kind 1 d)
+
+    pub kind-one : kind ≡ 1 → kindKept n kind s t ≡ endsKept n s t
+    unfolding kindKept
+    kind-one e = rw (ne-eqb kind 0 other, eq-eqb kind 1 e)
+
+-- ---- the next atom
+
+module _ (n len c : ℕ) where
+  pub next-atom : isAtom n c ≡ true → nextKept n len c ≡ true
+  unfolding nextKept
+  next-atom e = rw e
+
+  module _ (none : isAtom n c ≡ false) where
+    pub next-inside : (len ≡ 0 → ⊥) → nextKept n len c ≡ false
+    unfolding nextKept
+    next-inside d = rw (none, ne-eqb len 0 d)
+
+    pub next-after : len ≡ 0 → nextKept n len c ≡ eqb c (n + 1)
+    unfolding nextKept
+    next-after e = rw (none, eq-eqb len 0 e, add-one n)
+
+  next-low : nextKept n len c ≡ true → 1 ≤ c
+  unfolding nextKept
+  next-low e = go (or-either (isAtom n c) (eqb len 0 && eqb c (suc n)) e)
+    where
+      go : (isAtom n c ≡ true) ⊎ ((eqb len 0 && eqb c (suc n)) ≡ true) → 1 ≤ c
+      go (inl h) = atom-bounds n c h .0
+      go (inr h) = omega (arith, eqb-true c (suc n) (and-parts (eqb len 0) (eqb c (suc n)) h .1))
+
+  next-high : (p : List ℕ) → (len ≡ 0 → p ≡ []) → nextKept n len c ≡ true → NextHigh n p c
+  unfolding nextKept
+  next-high p f e = go (or-either (isAtom n c) (eqb len 0 && eqb c (suc n)) e)
+    where
+      go : (isAtom n c ≡ true) ⊎ ((eqb len 0 && eqb c (suc n)) ≡ true) → NextHigh n p c
+      go (inl h) = inl (atom-bounds n c h .1)
+      go (inr h) = let b = and-parts (eqb len 0) (eqb c (suc n)) h in inr (f (eqb-true len 0 (b .0)), eqb-true c (suc n) (b .1))
+
+  next-of : (p : List ℕ) → (p ≡ [] → len ≡ 0) → 1 ≤ c → NextHigh n p c → nextKept n len c ≡ true
+  unfolding nextKept
+  next-of p f l (inl h) = or-left (isAtom n c) (eqb len 0 && eqb c (suc n)) (atom-of n c l h)
+  next-of p f l (inr h) = or-right (isAtom n c) (eqb len 0 && eqb c (suc n)) (and-both (eqb len 0) (eqb c (suc n)) (eq-eqb len 0 (f (h .0))) (eq-eqb c (suc n) (h .1)))
+
+-- ---- the counts
+
+module _ (a b c : ℕ) where
+  pub counts-first : limit < a → (leb a limit && leb b limit && leb c limit) ≡ false
+  counts-first h = rw (lt-leb a limit h)
+
+  module _ (first : a ≤ limit) where
+    pub counts-second : limit < b → (leb a limit && leb b limit && leb c limit) ≡ false
+    counts-second h = rw (le-leb a limit first, lt-leb b limit h)
+
+    pub counts-third : b ≤ limit → (leb a limit && leb b limit && leb c limit) ≡ leb c limit
+    counts-third h = rw (le-leb a limit first, le-leb b limit h)
+
+-- ---- rule 12
+
+module _ (mol : Molecule) (q : Search) where
+  abbrev countsKept : Bool
+  countsKept = leb (q .trials) limit && leb (q .extensions) limit && leb (q .listed) limit
+
+  refute : (Restorable mol q → ⊥) → restorable mol q ≡ false
+  refute f = false-of (restorable mol q) (λ e. f (restorable-facts mol q e))
+
+  pub not-short : 127 < q .len → restorable mol q ≡ false
+  not-short h = refute (λ f. let g = f .short in omega arith)
+
+  pub not-padded : padded (q .prefix) (q .len) ≡ false → restorable mol q ≡ false
+  not-padded e = refute (λ f. clash (padded (q .prefix) (q .len)) (padded-from (q .prefix) (q .len) (f .padded)) e)
+
+  pub not-kind : kindKept (mol .atoms) (q .kind) (q .s) (q .t) ≡ false → restorable mol q ≡ false
+  not-kind e = refute (λ f. clash (kindKept (mol .atoms) (q .kind) (q .s) (q .t)) (f .kind-kept) e)
+
+  pub not-counts : countsKept ≡ false → restorable mol q ≡ false
+  not-counts e =
+      refute
+      (λ f. clash countsKept
+      (and-both (leb (q .trials) limit && leb (q .extensions) limit) (leb (q .listed) limit)
+      (and-both (leb (q .trials) limit) (leb (q .extensions) limit) (le-leb (q .trials) limit (f .trials-most)) (le-leb (q .extensions) limit (f .extensions-most)))
+      (le-leb (q .listed) limit (f .listed-most)))
+      e)
+
+  module _ (full : length (q .prefix) ≡ 128) (short : q .len ≤ 127) where
+    begins-none : beginning q ≡ [] → q .len ≡ 0
+    unfolding beginning
+    begins-none e = sym (taken-length (q .prefix) (q .len) full (omega arith)) ∙ ap length e
+
+    none-begins : q .len ≡ 0 → beginning q ≡ []
+    unfolding beginning
+    none-begins e = rw e
+
+    pub not-next : nextKept (mol .atoms) (q .len) (q .next) ≡ false → restorable mol q ≡ false
+    not-next e = refute (λ f. clash (nextKept (mol .atoms) (q .len) (q .next)) (next-of (mol .atoms) (q .len) (q .next) (beginning q) begins-none (f .next-low) (f .next-high)) e)
+
+    -- every other test passed
+    pub checked-open : padded (q .prefix) (q .len) ≡ true → kindKept (mol .atoms) (q .kind) (q .s) (q .t) ≡ true → nextKept (mol .atoms) (q .len) (q .next) ≡ true → countsKept ≡ true → isOpen (family mol q) (beginning q) ≡ restorable mol q
+    checked-open pad kinds next counts =
+        same-test (isOpen (family mol q) (beginning q)) (restorable mol q)
+        (λ e. let outer = and-parts (leb (q .trials) limit && leb (q .extensions) limit) (leb (q .listed) limit) counts in
+        let inner = and-parts (leb (q .trials) limit) (leb (q .extensions) limit) (outer .0) in
+        restorable-of mol q
+        (record {
+          short = short;
+          padded = padded-at (q .prefix) (q .len) pad;
+          kind-kept = kinds;
+          place-open = e;
+          next-low = next-low (mol .atoms) (q .len) (q .next) next;
+          next-high = next-high (mol .atoms) (q .len) (q .next) (beginning q) none-begins next;
+          trials-most = leb-true (q .trials) limit (inner .0);
+          extensions-most = leb-true (q .extensions) limit (inner .1);
+          listed-most = leb-true (q .listed) limit (outer .1);
+        }))
+        (λ e. restorable-facts mol q e .place-open)
