@@ -29,6 +29,9 @@ for sheet in "$out"/sheets/*.sheet examples/*.sheet; do
     cmp "$out/sheets/${sheet##*/}" "examples/${sheet##*/}" || die "${sheet##*/} is not what make_sheets.py makes"
 done
 
+echo "== The C headers against the functions that the code exports"
+python3 tests/prototypes.py "$out/prototypes"
+
 echo "== C tests"
 compile="cc -std=c11 -Wall -Wextra -Werror -O1 -g -I include"
 $compile tests/c/flat_test.c "$flat" -o "$out/flat_test"
