@@ -21,16 +21,16 @@ import subprocess
 import sys
 import time
 
-# Sheet, budget, kills of 240, and the longest time in seconds that a host is left at first.
+# Sheet, budget, kills of 240, and the longest that a host is left at first, in times of a `short_listing`.
 PLAN = [
-    ("cubane", 1, 30, 0.03),
-    ("adamantane", 1, 30, 0.03),
-    ("gonane", 2, 30, 0.03),
-    ("dodecahedrane", 30, 40, 0.03),
-    ("dodecahedrane", 111, 30, 0.03),
-    ("acene30", 60, 40, 0.03),
-    ("buckminsterfullerene", 200000, 20, 0.10),
-    ("buckminsterfullerene", 1000000, 20, 0.15),
+    ("cubane", 1, 30, 1.5),
+    ("adamantane", 1, 30, 1.5),
+    ("gonane", 2, 30, 1.5),
+    ("dodecahedrane", 30, 40, 1.5),
+    ("dodecahedrane", 111, 30, 1.5),
+    ("acene30", 60, 40, 1.5),
+    ("buckminsterfullerene", 200000, 20, 3),
+    ("buckminsterfullerene", 1000000, 20, 5),
 ]
 
 HANG = 3600  # seconds: only a host that hangs needs so long
@@ -234,21 +234,16 @@ def one_listing(listing, kills, longest, expected, rng):
     those that left work of an unfinished slice behind which was not there
     before the start (output that the state does not count, or a temporary
     file), and listings."""
-    hits, moved, torn, done, idle = 0, 0, 0, 0, 0
+    hits, moved, torn, done = 0, 0, 0, 0
     while hits < kills:
         state, out, new = listing.files()
         if kill_once(listing, rng, longest):
             hits += 1
             longer = listing.check(expected, "kill %d" % hits)
             state_now, out_now, new_now = listing.files()
-            further = listing.head()[1] > 0 and state_now != state
-            moved += further
+            moved += listing.head()[1] > 0 and state_now != state
             torn += (longer and out_now != out) or (new_now is not None and new_now != new)
             listing.disturb(expected, rng)
-            # A slow machine: none of eight hosts has finished a slice.
-            idle = 0 if further else idle + 1
-            if idle == 8:
-                longest, idle = longest * 2, 0
         if listing.head()[1] in LAST:
             end(listing, expected)
             done += 1
@@ -419,6 +414,18 @@ def steps(host, host_steps, ringlist, examples, folder):
           "killed before: all as ringlist's" % (len(seen), len(done)), flush=True)
 
 
+def short_listing(host, examples, folder):
+    """The seconds that the host takes here and now for a listing of one slice:
+    the middle one of five."""
+    taken = []
+    for _ in range(5):
+        listing = Listing(host, os.path.join(examples, "cubane.sheet"), folder, 1000000)
+        begin = time.time()
+        listing.finish()
+        taken.append(time.time() - begin)
+    return sorted(taken)[2]
+
+
 def listed(ringlist, sheet):
     """What ringlist prints."""
     with open(sheet, "rb") as file:
@@ -435,12 +442,13 @@ def main():
     print("kill_test: wrong files, a second host and a full disk: as they should be", flush=True)
     steps(host, host_steps, ringlist, examples, folder)
     rng = random.Random(20)
+    unit = short_listing(host, examples, folder)
     total = [0, 0, 0, 0]
     for name, budget, kills, longest in PLAN:
         sheet = os.path.join(examples, name + ".sheet")
         listing = Listing(host, sheet, folder, budget)
         begin = time.time()
-        counts = one_listing(listing, max(1, round(kills * all_kills / 240)), longest,
+        counts = one_listing(listing, max(1, round(kills * all_kills / 240)), longest * unit,
                              listed(ringlist, sheet), rng)
         print("%-21s budget %8d: %4d kills, %4d after a finished slice, %4d within one, "
               "%3d listings, %6.1f s"
