@@ -16,6 +16,8 @@ tests:
 	@tests/tools.sh
 	rt version
 	rt fmt --check
+	python3 tests/layout.py
+	python3 tests/layout_test.py
 	rt check ringlist judge marks history
 	rt staticlib flat
 	rt staticlib host

@@ -32,10 +32,16 @@ extern "C" {
 
    Taken on trust, and nothing else: the four stretches are real memory of the
    lengths given, readable and, the two outputs, writable for as long as the
-   call lasts; and neither output overlaps any other of the four. The sheet and
-   the mark may overlap each other. Of a stretch of length 0 nothing is read or
-   written, and its pointer may be any, also null. All else is checked: any
-   bytes, lengths and budget are answered as said here.
+   call lasts; neither output overlaps any other of the four; and until the call
+   returns nobody else writes to any of the four, be it another thread, a signal
+   handler, a device, or a process that shares the memory. A call may read a
+   byte of the sheet or the mark more than once, so a change in between can
+   pass the checks with one value and be used with another; nothing that is
+   said here holds then. So a sheet or a mark that may change is copied first,
+   and the copy handed over. The sheet and the mark may overlap each other. Of a
+   stretch of length 0 nothing is read or written, and its pointer may be any,
+   also null. All else is checked: any bytes, lengths and budget are answered as
+   said here.
 
    Rings. Each ring is a record: its number of atoms in one byte, 3 to 128, then
    its atoms in order, one byte each, 1 to n. Records stand one after the other
@@ -90,8 +96,11 @@ extern "C" {
    line 3.
 
    The functions have no state of their own: they may be called at once from
-   several threads, with outputs that do not overlap. They
-   take no memory from the heap and use less than 32 kilobytes of stack. */
+   several threads, where no output of one call overlaps a stretch of another.
+   They take no memory from the heap and use less than 32 kilobytes of stack.
+   Two things here are tested and not proved: the stack, which is measured on
+   one call (tests/c/host_test.c), and that the prototypes in this header are
+   those of the code (tests/prototypes.py). */
 uint32_t ringlist_resume(const uint8_t *sheet, size_t sheet_len,
                          const uint8_t *mark, size_t mark_len,
                          uint64_t budget,

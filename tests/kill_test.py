@@ -1,14 +1,17 @@
 #!/usr/bin/env python3
-"""Kills the example host (examples/host.c) at random moments and lets it go on,
-until the listing is done; its output must then be that of ringlist, byte for
-byte. Before that, what the host says to files that it cannot use, to a second
-host on the same output, and to a full disk.
+"""Kills the example host (examples/host.c) and lets it go on, until the listing
+is done; its output must then be that of ringlist, byte for byte. First at each
+of its steps in turn (tests/c/host_steps.c), then at random moments. Before
+that, what the host says to files that it cannot use, to a second host on the
+same output, and to a full disk.
 
-    kill_test.py HOST RINGLIST EXAMPLES FOLDER [KILLS]
+    [KILLS=N] kill_test.py HOST HOST_STEPS RINGLIST EXAMPLES FOLDER
 
-FOLDER takes the files of the test. Only kills that hit a running host count.
-After some kills the files are left as other moments of a crash would leave
-them: without the temporary file, with half of it, with more behind the output.
+FOLDER takes the files of the test. KILLS is the number of kills at random
+moments, 240 unless it is set; only those that hit a running host count. After
+some kills the files are left as another crash would leave them (`disturb`).
+What must have been seen is seen in the steps, which are the same in every run;
+nothing that the script asks depends on how fast the machine is.
 """
 import os
 import random
@@ -18,19 +21,21 @@ import subprocess
 import sys
 import time
 
-# Sheet, budget, kills, and the longest time in seconds that a host is left.
+# Sheet, budget, kills of 240, and the longest that a host is left at first, in times of a `short_listing`.
 PLAN = [
-    ("cubane", 1, 30, 0.03),
-    ("adamantane", 1, 30, 0.03),
-    ("gonane", 2, 30, 0.03),
-    ("dodecahedrane", 30, 40, 0.03),
-    ("dodecahedrane", 111, 30, 0.03),
-    ("acene30", 60, 40, 0.03),
-    ("buckminsterfullerene", 200000, 20, 0.10),
-    ("buckminsterfullerene", 1000000, 20, 0.15),
+    ("cubane", 1, 30, 1.5),
+    ("adamantane", 1, 30, 1.5),
+    ("gonane", 2, 30, 1.5),
+    ("dodecahedrane", 30, 40, 1.5),
+    ("dodecahedrane", 111, 30, 1.5),
+    ("acene30", 60, 40, 1.5),
+    ("buckminsterfullerene", 200000, 20, 3),
+    ("buckminsterfullerene", 1000000, 20, 5),
 ]
 
+HANG = 3600  # seconds: only a host that hangs needs so long
 HEAD = 42  # bytes of the first line of a state
+LAST = (101, 102)  # the stops of a listing that is done
 WRONG = b"not what this host wrote for this sheet"
 
 
@@ -40,6 +45,16 @@ def checksum(sheet):
     for byte in sheet:
         value = (value ^ byte) * 1099511628211 % 2 ** 64
     return value
+
+
+# What the steps of a listing leave: STATE, OUT and STATE.new, in the words of Listing.moment.
+MOMENTS = {("none", "none", "none"), ("first", "as counted", "none"), ("mark", "as counted", "none")}
+MOMENTS |= {pair + (new,) for new in ("none", "part", "whole")
+            for pair in [("none", "as counted"), ("first", "longer"), ("mark", "longer")]}
+
+# What disturb can do, see there.
+DISTURBANCES = {"nothing", "before OUT", "before the first STATE", "OUT not on the disk",
+                "no STATE.new", "more of OUT", "more of OUT, not on the disk", "part of STATE.new"}
 
 
 class Listing:
@@ -55,6 +70,11 @@ class Listing:
         self.command = [host, sheet, self.state, self.out, str(budget)]
         self.sum = checksum(contents(sheet))
 
+    def again(self):
+        """The same listing from its start."""
+        return Listing(self.command[0], self.command[1], os.path.dirname(self.state),
+                       int(self.command[4]))
+
     def start(self):
         return subprocess.Popen(self.command, stdout=subprocess.PIPE, stderr=subprocess.PIPE)
 
@@ -66,7 +86,7 @@ class Listing:
     def finish(self):
         """Runs to the end and returns what it says."""
         process = self.start()
-        said, errors = process.communicate(timeout=300)
+        said, errors = process.communicate(timeout=HANG)
         if process.returncode != 0 or errors:
             sys.exit("kill_test: %s: %d %r" % (self.command, process.returncode, errors))
         return said
@@ -95,18 +115,52 @@ class Listing:
             sys.exit("kill_test: %s: half a line after %s" % (self.command, when))
         return len(out) > count
 
-    def disturb(self, rng):
-        """What another moment of a crash may leave."""
-        choice = rng.randrange(4)
-        if choice == 0 and os.path.exists(self.new):
-            os.remove(self.new)
-        elif choice == 1:
-            half = contents(self.state)[:rng.randrange(60)]
-            with open(self.new, "wb") as file:
-                file.write(half)
-        elif choice == 2 and os.path.exists(self.out):
-            with open(self.out, "ab") as file:
-                file.write(b"   1   2   9\n   3"[:rng.randrange(18)])
+    def moment(self):
+        """What is in the files: words for STATE, OUT and STATE.new."""
+        state, out, new = self.files()
+        count, stop = self.head()
+        return ("none" if state is None else "mark" if stop else "first",
+                "none" if out is None else "longer" if len(out) > count else "as counted",
+                "none" if new is None else "whole" if new.endswith(b"\n") else "part")
+
+    def disturb(self, expected, rng):
+        """Leaves the files as another crash with this STATE would leave them: one
+        of a host with another budget, which comes further in its slice, and one
+        in which the power fails, so that not all is on the disk. Returns what it
+        has done."""
+        count, stop = self.head()
+        more = rng.randrange(len(expected[count:count + 2000]) + 1)
+        line = expected.find(b"\n", count) + 1
+        first = b"%20d%4d %016x\n" % (0, 0, self.sum)
+        later = b"%20d%4d %016x\n" % (line, 101 if line == len(expected) else 103, self.sum)
+        choice = rng.randrange(6)
+        if stop in LAST or choice == 0:  # after the last STATE nothing is written
+            return "nothing"
+        if not os.path.exists(self.state):
+            # OUT is made, and has no byte before the first STATE.
+            remove(self.new)
+            remove(self.out)
+            if choice < 3:
+                return "before OUT"
+            put(self.out, b"")
+            put(self.new, first[:rng.randrange(HEAD + 1)])
+            return "before the first STATE"
+        if choice == 1:
+            remove(self.new)
+            return "no STATE.new"
+        if choice == 2 and stop == 0:
+            # The folder of OUT is synced after the first STATE, and before the first slice.
+            remove(self.out)
+            return "OUT not on the disk"
+        if choice == 3:
+            put(self.out, expected[:count] + bytes(more))
+            return "more of OUT, not on the disk"
+        if choice == 4:
+            put(self.out, expected[:line])
+            put(self.new, later[:rng.randrange(HEAD + 1)])
+            return "part of STATE.new"
+        put(self.out, expected[:count + more])
+        return "more of OUT"
 
 
 def contents(name):
@@ -122,13 +176,56 @@ def put(name, text):
         file.write(text)
 
 
+def remove(name):
+    if os.path.exists(name):
+        os.remove(name)
+
+
+def killed(process, command):
+    """Waits for the end; returns whether it was by a kill, and fails where it
+    was neither that nor the end of the listing."""
+    errors = process.communicate(timeout=HANG)[1]
+    if process.returncode not in (0, -signal.SIGKILL):
+        sys.exit("kill_test: %s: %d %r" % (command, process.returncode, errors))
+    return process.returncode != 0
+
+
+def kill_at_step(listing, host_steps, step):
+    """Starts the host that ends itself at a step; returns whether it came to it."""
+    command = [host_steps] + listing.command[1:]
+    return killed(subprocess.Popen(command, stdout=subprocess.PIPE, stderr=subprocess.PIPE,
+                                   env=dict(os.environ, STEP=str(step))), command)
+
+
 def kill_once(listing, rng, longest):
     """Starts the host and kills it; returns whether it was running."""
     process = listing.start()
     time.sleep(rng.random() * longest)
     process.send_signal(signal.SIGKILL)
-    process.communicate()
-    return process.returncode == -signal.SIGKILL
+    return killed(process, listing.command)
+
+
+def each_step(listing, host_steps, expected):
+    """The listing from its start, killed at its first step, at its second and so
+    on; each time it then goes on to the end. Returns the moments seen."""
+    seen = []
+    while kill_at_step(listing, host_steps, len(seen) + 1):
+        listing.check(expected, "step %d" % (len(seen) + 1))
+        seen.append(listing.moment())
+        end(listing, expected)
+        listing = listing.again()
+    return seen
+
+
+def step_after_step(listing, host_steps, expected, rng):
+    """The listing killed at one of its next 60 steps again and again, and
+    disturbed, until it is done. Returns what the disturbances were."""
+    done = []
+    while kill_at_step(listing, host_steps, rng.randrange(1, 61)):
+        listing.check(expected, "kill %d" % len(done))
+        done.append(listing.disturb(expected, rng))
+    end(listing, expected)
+    return done
 
 
 def one_listing(listing, kills, longest, expected, rng):
@@ -146,12 +243,11 @@ def one_listing(listing, kills, longest, expected, rng):
             state_now, out_now, new_now = listing.files()
             moved += listing.head()[1] > 0 and state_now != state
             torn += (longer and out_now != out) or (new_now is not None and new_now != new)
-            listing.disturb(rng)
-        if listing.head()[1] in (101, 102):
+            listing.disturb(expected, rng)
+        if listing.head()[1] in LAST:
             end(listing, expected)
             done += 1
-            listing = Listing(listing.command[0], listing.command[1],
-                              os.path.dirname(listing.state), int(listing.command[4]))
+            listing = listing.again()
             longest /= 2
     end(listing, expected)
     return hits, moved, torn, done + 1
@@ -272,27 +368,27 @@ def wrong_files(host, examples, folder):
 
 def second_host(host, examples, folder):
     """A locked output is an error; the lock goes with the process that has it."""
-    listing = Listing(host, os.path.join(examples, "buckminsterfullerene.sheet"), folder, 20000)
+    # A slice of one trial: the listing would take 70,514,160 of them, so that it is not done here.
+    listing = Listing(host, os.path.join(examples, "buckminsterfullerene.sheet"), folder, 1)
     first = listing.start()
-    while listing.head()[1] == 0 and first.poll() is None:
+    while listing.head()[1] == 0:
+        if first.poll() is not None:
+            sys.exit("kill_test: the first host should be at work: %r" % first.stderr.read())
         time.sleep(0.01)
     first.send_signal(signal.SIGSTOP)
     os.waitid(os.P_PID, first.pid, os.WSTOPPED | os.WEXITED | os.WNOWAIT)
     says(b"another host is at work on it", listing)
-    first.send_signal(signal.SIGCONT)
     first.send_signal(signal.SIGKILL)
-    first.communicate()
-    if first.returncode != -signal.SIGKILL:
+    if not killed(first, listing.command):
         sys.exit("kill_test: the first host should have been at work")
-    says(b"File too large", listing, limit=len(contents(listing.out)))
+    says(b"File too large", listing, limit=0)
 
 
 def full_disk(host, ringlist, examples, folder):
     """A disk that is full at ever later moments, and then is not full."""
     for name, budget in [("cubane", 1), ("dodecahedrane", 30), ("acene30", 1000000)]:
         sheet = os.path.join(examples, name + ".sheet")
-        expected = subprocess.run([ringlist], stdin=open(sheet, "rb"), check=True,
-                                  stdout=subprocess.PIPE).stdout
+        expected = listed(ringlist, sheet)
         listing = Listing(host, sheet, folder, budget)
         for limit in [0, HEAD - 1, HEAD, HEAD + 91, 220, len(expected) // 2, len(expected) - 1]:
             if limit < len(expected):
@@ -301,36 +397,66 @@ def full_disk(host, ringlist, examples, folder):
         end(listing, expected)
 
 
+def steps(host, host_steps, ringlist, examples, folder):
+    """Kills at steps: the same in every run."""
+    rng = random.Random(10)
+    seen, done = [], []
+    for name, budget in [("cubane", 30), ("gonane", 100), ("dodecahedrane", 2000)]:
+        sheet = os.path.join(examples, name + ".sheet")
+        expected = listed(ringlist, sheet)
+        seen += each_step(Listing(host, sheet, folder, budget), host_steps, expected)
+        for _ in range(20):
+            done += step_after_step(Listing(host, sheet, folder, budget), host_steps, expected, rng)
+    if not MOMENTS <= set(seen) or set(done) != DISTURBANCES:
+        sys.exit("kill_test: not seen in the steps: %s %s"
+                 % (MOMENTS - set(seen), DISTURBANCES - set(done)))
+    print("kill_test: %d kills at each step of three listings, and %d at steps of listings that were "
+          "killed before: all as ringlist's" % (len(seen), len(done)), flush=True)
+
+
+def short_listing(host, examples, folder):
+    """The seconds that the host takes here and now for a listing of one slice:
+    the middle one of five."""
+    taken = []
+    for _ in range(5):
+        listing = Listing(host, os.path.join(examples, "cubane.sheet"), folder, 1000000)
+        begin = time.time()
+        listing.finish()
+        taken.append(time.time() - begin)
+    return sorted(taken)[2]
+
+
+def listed(ringlist, sheet):
+    """What ringlist prints."""
+    with open(sheet, "rb") as file:
+        return subprocess.run([ringlist], stdin=file, check=True, stdout=subprocess.PIPE).stdout
+
+
 def main():
-    host, ringlist, examples, folder = sys.argv[1:5]
-    share = float(sys.argv[5]) / 240 if len(sys.argv) > 5 else 1
+    host, host_steps, ringlist, examples, folder = sys.argv[1:]
+    all_kills = int(os.environ.get("KILLS", "240"))
     os.makedirs(folder, exist_ok=True)
     wrong_files(host, examples, folder)
     second_host(host, examples, folder)
     full_disk(host, ringlist, examples, folder)
     print("kill_test: wrong files, a second host and a full disk: as they should be", flush=True)
+    steps(host, host_steps, ringlist, examples, folder)
     rng = random.Random(20)
-    texts = {}
+    unit = short_listing(host, examples, folder)
     total = [0, 0, 0, 0]
     for name, budget, kills, longest in PLAN:
         sheet = os.path.join(examples, name + ".sheet")
-        if name not in texts:
-            with open(sheet, "rb") as file:
-                texts[name] = subprocess.run([ringlist], stdin=file, check=True,
-                                             stdout=subprocess.PIPE).stdout
         listing = Listing(host, sheet, folder, budget)
         begin = time.time()
-        kills = max(1, round(kills * share))
-        counts = one_listing(listing, kills, longest, texts[name], rng)
-        print("%-21s budget %8d: %3d kills, %3d after a finished slice, %3d within one, "
-              "%2d listings, %5.1f s"
+        counts = one_listing(listing, max(1, round(kills * all_kills / 240)), longest * unit,
+                             listed(ringlist, sheet), rng)
+        print("%-21s budget %8d: %4d kills, %4d after a finished slice, %4d within one, "
+              "%3d listings, %6.1f s"
               % ((name, budget) + counts + (time.time() - begin,)), flush=True)
         total = [a + b for a, b in zip(total, counts)]
     print("kill_test: %d kills of a running host, %d of them after a slice that it finished, %d that "
           "left output or a temporary file of an unfinished one; %d whole listings, all as ringlist's"
           % tuple(total))
-    if share >= 1 and (total[0] < 200 or total[1] < 60 or total[2] < 1):
-        sys.exit("kill_test: too few kills")
 
 
 if __name__ == "__main__":

@@ -29,11 +29,15 @@ for sheet in "$out"/sheets/*.sheet examples/*.sheet; do
     cmp "$out/sheets/${sheet##*/}" "examples/${sheet##*/}" || die "${sheet##*/} is not what make_sheets.py makes"
 done
 
+echo "== The C headers against the functions that the code exports"
+python3 tests/prototypes.py "$out/prototypes"
+
 echo "== C tests"
 compile="cc -std=c11 -Wall -Wextra -Werror -O1 -g -I include"
 $compile tests/c/flat_test.c "$flat" -o "$out/flat_test"
 $compile tests/c/host_test.c "$host" -pthread -o "$out/host_test"
 $compile examples/host.c "$host" -o "$out/host"
+$compile tests/c/host_steps.c "$host" -o "$out/host_steps"
 $compile examples/minimal.c "$host" -o "$out/minimal"
 "$out/flat_test"
 "$out/host_test"
@@ -53,7 +57,7 @@ echo "== Rust tests"
 (cd tests/rust && cargo test --release --offline)
 
 echo "== Killing the example host"
-python3 tests/kill_test.py "$out/host" "$ringlist" examples "$out/kill"
+python3 tests/kill_test.py "$out/host" "$out/host_steps" "$ringlist" examples "$out/kill"
 
 echo "== C tests, ringlist and hosts under valgrind"
 $checker "$out/flat_test" || die "flat_test under valgrind: exit code $?"

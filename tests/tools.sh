@@ -10,6 +10,7 @@ look() {
     missing=
     need make make --version
     need "gcc libc6-dev" cc -fsyntax-only -include stdio.h -x c -
+    need g++ c++ -fsyntax-only -include stddef.h -x c++ -
     need cargo cargo --version
     need python3 python3 --version
     need "valgrind libc6-dbg" valgrind -q true
