@@ -16,7 +16,7 @@ use Rattle.search.specs.Place.{familyOf, beginning, stateOf, held, searchAt, fr
 use Rattle.search.specs.Mark.{fieldsText, markText}
 use Rattle.reference.specs.Text.{bytesOf, text}
 use Rattle.reference.specs.Molecules.{noAtoms, chain, fiveRing, allBonded, paperSheet, twoToThree}
-use Rattle.reference.specs.Table.{AllHold, table}
+use Rattle.reference.specs.Table.{AllHold, sheetMark, table}
 use Rattle.reference.proofs.Line.{AllComputed, all-hold}
 
 infixr 20 _and_
@@ -49,3 +49,27 @@ computed =
 
 pub table-holds : AllHold table
 table-holds = all-hold table computed
+
+-- The quoted text of the table byte by byte: the six lines of document 01, and the mark of 99 bytes. A blank is 32, a line feed 10
+pub sheet-bytes :
+    paperSheet
+    ≡ 32 ∷ 32 ∷ 32 ∷ 52 ∷ 32 ∷ 32 ∷ 32 ∷ 53 ∷ 10
+    ∷ 32 ∷ 32 ∷ 32 ∷ 49 ∷ 32 ∷ 32 ∷ 32 ∷ 50 ∷ 10
+    ∷ 32 ∷ 32 ∷ 32 ∷ 50 ∷ 32 ∷ 32 ∷ 32 ∷ 51 ∷ 10
+    ∷ 32 ∷ 32 ∷ 32 ∷ 51 ∷ 32 ∷ 32 ∷ 32 ∷ 52 ∷ 10
+    ∷ 32 ∷ 32 ∷ 32 ∷ 49 ∷ 32 ∷ 32 ∷ 32 ∷ 52 ∷ 10
+    ∷ 32 ∷ 32 ∷ 32 ∷ 49 ∷ 32 ∷ 32 ∷ 32 ∷ 51 ∷ 10 ∷ []
+unfolding bytesOf text paperSheet
+sheet-bytes = refl
+
+-- seven fields of 4 columns; three of 20; two of 4
+pub mark-bytes :
+    text sheetMark
+    ≡ 32 ∷ 32 ∷ 32 ∷ 48 ∷ 32 ∷ 32 ∷ 32 ∷ 48 ∷ 32 ∷ 32 ∷ 32 ∷ 48 ∷ 32 ∷ 32 ∷ 32 ∷ 52
+    ∷ 32 ∷ 32 ∷ 32 ∷ 53 ∷ 32 ∷ 32 ∷ 32 ∷ 50 ∷ 32 ∷ 32 ∷ 32 ∷ 51 ∷ 10
+    ∷ 32 ∷ 32 ∷ 32 ∷ 32 ∷ 32 ∷ 32 ∷ 32 ∷ 32 ∷ 32 ∷ 32 ∷ 32 ∷ 32 ∷ 32 ∷ 32 ∷ 32 ∷ 32 ∷ 32 ∷ 32 ∷ 32 ∷ 53
+    ∷ 32 ∷ 32 ∷ 32 ∷ 32 ∷ 32 ∷ 32 ∷ 32 ∷ 32 ∷ 32 ∷ 32 ∷ 32 ∷ 32 ∷ 32 ∷ 32 ∷ 32 ∷ 32 ∷ 32 ∷ 32 ∷ 32 ∷ 50
+    ∷ 32 ∷ 32 ∷ 32 ∷ 32 ∷ 32 ∷ 32 ∷ 32 ∷ 32 ∷ 32 ∷ 32 ∷ 32 ∷ 32 ∷ 32 ∷ 32 ∷ 32 ∷ 32 ∷ 32 ∷ 32 ∷ 32 ∷ 48 ∷ 10
+    ∷ 32 ∷ 32 ∷ 32 ∷ 49 ∷ 32 ∷ 32 ∷ 32 ∷ 50 ∷ 10 ∷ []
+unfolding bytesOf text
+mark-bytes = refl
