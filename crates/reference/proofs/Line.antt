@@ -1,18 +1,17 @@
--- A line of the table holds when what it names computes: on the record of an accepted sheet no entry turns its search back.
--- Rule 9 is a law of accepted sheets and rule 12 one of a fresh search and of a run; the mark of such a search restores it.
+-- A line of the table holds when what it names computes: on the record of an accepted sheet no entry turns it back.
+-- Rule 9 is a law of accepted sheets, rule 12 one of a fresh search and of a run, and the mark of such a search restores it.
 use Prim.Native.Nat.{ℕ}
-use mathlib.Core.Path.{_≡_, refl, sym, ap, subst, _∙_}
+use mathlib.Core.Path.{_≡_, sym, ap, subst, _∙_}
 use mathlib.Core.Bool.{true, cond}
 use mathlib.Core.List.{List, [], _∷_, _++_}
-use mathlib.Core.Logic.{_⊎_, inl, inr}
+use mathlib.Core.Logic.{inl, inr}
 use lib.ListN.{length, drop}
 use lib.Dec.{eqb}
 use borrow.Author.Tests.{ne-eqb}
 use Rattle.enumeration.specs.Words.{members}
-use Rattle.enumeration.specs.Machine.{fresh}
-use Rattle.enumeration.specs.Run.{Outcome, run}
+use Rattle.enumeration.specs.Run.{Outcome}
 use Rattle.enumeration.specs.Trials.{Valid}
-use Rattle.enumeration.proofs.Theorems.{fresh-valid, run-keeps-valid}
+use Rattle.enumeration.proofs.Theorems.{run-keeps-valid}
 use Rattle.refusal.specs.declared.Answer.the-variants.{Accepted}
 use Rattle.molecule.specs.declared.Molecule.{Molecule}
 use Rattle.molecule.specs.Record.{wellFormed}
@@ -23,9 +22,10 @@ use Rattle.search.specs.declared.Ran.{Ran}
 use Rattle.search.specs.Place.{familyOf, family, stateOf, searchAt, freshSearch, kindKept, restorable}
 use Rattle.search.specs.Entries.{accepted, startRings, startPaths, outcome, ran, runSearch, runOutput}
 use Rattle.search.specs.Mark.{markText, restoreMark}
-use Rattle.search.proofs.Readings.{KindFacts, kind-facts, atom-of}
-use Rattle.search.proofs.MarkLaws.{family-lawful, fresh-restorable, run-restorable, restorable-valid, valid-full, saved-restores}
-use Rattle.reference.specs.Table.{Line, moleculeOf, freshOf, started, Holds, AllHold}
+use Rattle.search.proofs.Readings.{family-lawful, KindFacts, kind-facts, atom-of}
+use Rattle.search.proofs.Views.{restorable-valid, valid-full, fresh-restorable, run-restorable}
+use Rattle.search.proofs.MarkLaws.{saved-restores}
+use Rattle.reference.specs.Table.{Line, moleculeOf, freshOf, Holds, AllHold}
 
 -- ---- what entries answer where rules 9 and 12 are kept
 
@@ -51,7 +51,9 @@ module _ (R : Molecule) (good : wellFormed R ≡ true) where
     unfolding runSearch
     run-answers = rw (good, kept)
 
-    run-leaves : let bytes = outcome R q budget out .bytes in runOutput R q budget out ≡ bytes ++ drop (length bytes) out
+    run-leaves :
+        let bytes = outcome R q budget out .bytes in
+        runOutput R q budget out ≡ bytes ++ drop (length bytes) out
     unfolding runOutput
     run-leaves = rw (good, kept)
 

@@ -1,8 +1,7 @@
 -- The table of reference molecules holds: over the records that are read, both sides of every equation compute to one value.
 -- The definitions of a sheet, a record, rings, paths, the list, a trial, a run and a mark are all unfolded.
-use Prim.Native.Nat.{ℕ}
 use mathlib.Core.Path.{_≡_, refl}
-use mathlib.Core.List.{List, [], _∷_}
+use mathlib.Core.List.{[], _∷_}
 use Rattle.graph.specs.Chordless.{inRange, induces, isRing, isPath}
 use Rattle.enumeration.specs.Words.{begins, from, joined, words, keep, any, members, isOpen}
 use Rattle.enumeration.specs.Machine.{fresh, tried, isEmpty, isDone, unwound, act, trial}
@@ -50,7 +49,7 @@ computed =
 pub table-holds : AllHold table
 table-holds = all-hold table computed
 
--- The quoted text of the table byte by byte: the six lines of document 01, and the mark of 99 bytes. A blank is 32, a line feed 10
+-- The quoted text byte by byte: the six lines of document 01, and the mark of 99 bytes. A blank is 32, a line feed 10
 pub sheet-bytes :
     paperSheet
     ≡ 32 ∷ 32 ∷ 32 ∷ 52 ∷ 32 ∷ 32 ∷ 32 ∷ 53 ∷ 10
@@ -64,7 +63,7 @@ sheet-bytes = refl
 
 -- seven fields of 4 columns; three of 20; two of 4
 pub mark-bytes :
-    text sheetMark
+    sheetMark
     ≡ 32 ∷ 32 ∷ 32 ∷ 48 ∷ 32 ∷ 32 ∷ 32 ∷ 48 ∷ 32 ∷ 32 ∷ 32 ∷ 48 ∷ 32 ∷ 32 ∷ 32 ∷ 52
     ∷ 32 ∷ 32 ∷ 32 ∷ 53 ∷ 32 ∷ 32 ∷ 32 ∷ 50 ∷ 32 ∷ 32 ∷ 32 ∷ 51 ∷ 10
     ∷ 32 ∷ 32 ∷ 32 ∷ 32 ∷ 32 ∷ 32 ∷ 32 ∷ 32 ∷ 32 ∷ 32 ∷ 32 ∷ 32 ∷ 32 ∷ 32 ∷ 32 ∷ 32 ∷ 32 ∷ 32 ∷ 32 ∷ 53

@@ -1,11 +1,11 @@
 -- The table of the starred reference molecules (document 01), and what it says of each line: what the entries, by their own
 -- definitions, answer on the record that is read from the sheet's bytes.
-use Prim.Native.Nat.{ℕ, suc}
+use Prim.Native.Nat.{ℕ, suc, _-_}
 use Prim.Native.String.{String}
 use mathlib.Core.Path.{_≡_}
 use mathlib.Core.Bool.{cond}
-use mathlib.Core.List.{List, [], _∷_, _++_}
-use lib.ListN.{length, drop, replicate}
+use mathlib.Core.List.{List, [], _∷_, _++_, reverse}
+use lib.ListN.{length, replicate}
 use lib.Dec.{eqb}
 use Rattle.enumeration.specs.declared.Stop.{Stop}
 use Rattle.enumeration.specs.declared.Stop.the-variants.{Done, Spent, Full}
@@ -18,14 +18,14 @@ use Rattle.search.specs.declared.Search.{Search}
 use Rattle.search.specs.declared.Made.{Made}
 use Rattle.search.specs.declared.Ran.{Ran}
 use Rattle.search.specs.declared.Ended.the-variants.{Stopped}
-use Rattle.search.specs.Place.{familyOf, freshSearch, held}
+use Rattle.search.specs.Place.{familyOf, searchAt, freshSearch}
 use Rattle.search.specs.Entries.{accepted, startRings, startPaths, runSearch, runOutput}
 use Rattle.search.specs.Mark.{markText, restoreMark}
 use Rattle.reference.specs.Text.{text}
 use Rattle.reference.specs.Molecules.{noAtoms, chain, fiveRing, allBonded, paperSheet, twoToThree}
 
--- A line: the bytes of a sheet and a search on it, the list written out, and one run of the fresh search: its budget, the bytes
--- of its output before it, what it returns, those bytes after it, and the mark of the search that it returns, with its length
+-- A line: the bytes of a sheet and a search on it, the list written out, and one run of the fresh search: its budget, the
+-- bytes of its output before it, what it returns, those bytes after it, and the mark of the returned search with its length
 pub record Line : Type 0 where
   pub sheet : List ℕ
   pub kind : ℕ
@@ -50,9 +50,9 @@ freshOf l = freshSearch (l .kind) (l .s) (l .t)
 abbrev pub started : Line → Made
 started l = cond (eqb (l .kind) 0) (startRings (moleculeOf l)) (startPaths (moleculeOf l) (l .s) (l .t))
 
--- A line holds: the sheet is accepted and the search starts; its list is all the members in dictionary order; the run returns
--- exactly this search, stop, bytes used and trials made, and leaves exactly these bytes; the mark of the search is exactly these
--- bytes, so many, and they restore the search
+-- A line holds: the sheet is accepted and the search starts; the list is all its members in dictionary order; the run
+-- returns exactly this search, stop, bytes used and trials made, and leaves exactly these bytes; the mark of the search is
+-- exactly these bytes, so many, and they restore the search
 pub record Holds (l : Line) : Type 0 where
   pub reads : readSheet (l .sheet) .answer ≡ Accepted
   pub starts : started l ≡ accepted (freshOf l)
@@ -71,17 +71,8 @@ AllHold (l ∷ rest) = Holds l × AllHold rest
 -- The search of a kind, s and t at a beginning p and a next atom c, with the counts listed, extensions, trials
 abbrev pub searchWith : ℕ → ℕ → ℕ → List ℕ → ℕ → ℕ → ℕ → ℕ → Search
 searchWith kind s t p c listed extensions trials =
-    record {
-      kind = kind;
-      s = s;
-      t = t;
-      len = length p;
-      prefix = held p;
-      next = c;
-      trials = trials;
-      extensions = extensions;
-      listed = listed;
-    }
+    searchAt kind s t
+    (record { stack = reverse p; next = c; trials = trials; extensions = extensions; listed = listed })
 
 -- What a run of the fresh search returns: as many trials made as the search counts
 abbrev pub ends : Stop → Search → ℕ → Ran
@@ -91,127 +82,93 @@ ends stop q used = record { ended = Stopped stop; search = q; used = used; made 
 abbrev pub old : ℕ → List ℕ
 old k = replicate k 255
 
--- A search to its end, with a budget and an output to spare: its list; listed, extensions, trials; the three lines of its mark
-abbrev pub whole : List ℕ → ℕ → ℕ → ℕ → List (List ℕ) → ℕ → ℕ → ℕ → List String → Line
-whole sheet kind s t list listed extensions trials mark =
+-- the three lines of a mark
+abbrev pub markOf : String → String → String → List ℕ
+markOf place counts atoms = text (place ∷ counts ∷ atoms ∷ [])
+
+-- A run of the fresh search: sheet, kind, s, t, list; budget, output bytes; what it returns, the output, mark and length
+abbrev pub freshRun : List ℕ → ℕ → ℕ → ℕ → List (List ℕ) → ℕ → ℕ → Ran → List ℕ → List ℕ → ℕ → Line
+freshRun sheet kind s t list budget room returned written mark size =
     record {
       sheet = sheet;
       kind = kind;
       s = s;
       t = t;
       list = list;
-      budget = suc trials;
-      output = old 20;
-      returned =
-          ends Done (searchWith kind s t [] (suc (atomsOf sheet)) listed extensions trials) (length (records list));
-      written = records list ++ drop (length (records list)) (old 20);
-      mark = text mark;
-      size = 91;
+      budget = budget;
+      output = old room;
+      returned = returned;
+      written = written;
+      mark = mark;
+      size = size;
     }
 
-abbrev pub wholeRings : List ℕ → List (List ℕ) → ℕ → ℕ → ℕ → List String → Line
+-- A search to its end, with a budget and an output to spare: list; listed, extensions, trials; two lines of its mark
+abbrev pub whole : List ℕ → ℕ → ℕ → ℕ → List (List ℕ) → ℕ → ℕ → ℕ → String → String → Line
+whole sheet kind s t list listed extensions trials place counts =
+    let bytes = records list in
+    let done = searchWith kind s t [] (suc (atomsOf sheet)) listed extensions trials in
+    freshRun sheet kind s t list (suc trials) 20 (ends Done done (length bytes)) (bytes ++ old (20 - length bytes))
+    (markOf place counts "") 91
+
+abbrev pub wholeRings : List ℕ → List (List ℕ) → ℕ → ℕ → ℕ → String → String → Line
 wholeRings sheet = whole sheet 0 0 0
 
-abbrev pub wholePaths : List ℕ → ℕ → ℕ → List (List ℕ) → ℕ → ℕ → ℕ → List String → Line
+abbrev pub wholePaths : List ℕ → ℕ → ℕ → List (List ℕ) → ℕ → ℕ → ℕ → String → String → Line
 wholePaths sheet s t = whole sheet 1 s t
 
 -- the rings of the paper's sheet
 abbrev pub sheetRings : List (List ℕ)
 sheetRings = (1 ∷ 2 ∷ 3 ∷ []) ∷ (1 ∷ 3 ∷ 4 ∷ []) ∷ []
 
--- A fresh ring run on the paper's sheet: budget, output bytes, what it returns, the output after it, the mark and its length
-abbrev pub sheetRun : ℕ → ℕ → Ran → List ℕ → List String → ℕ → Line
-sheetRun budget room returned written mark size =
-    record {
-      sheet = paperSheet;
-      kind = 0;
-      s = 0;
-      t = 0;
-      list = sheetRings;
-      budget = budget;
-      output = old room;
-      returned = returned;
-      written = written;
-      mark = text mark;
-      size = size;
-    }
+-- A fresh ring run on the paper's sheet: budget, output bytes; what it returns, the output, mark and length
+abbrev pub sheetRun : ℕ → ℕ → Ran → List ℕ → List ℕ → ℕ → Line
+sheetRun = freshRun paperSheet 0 0 0 sheetRings
 
 -- the mark of a ring search on the paper's sheet at p = 1 2, c = 3, after 5 trials with 2 extensions
-abbrev pub sheetMark : List String
+abbrev pub sheetMark : List ℕ
 sheetMark =
+    markOf
     "   0   0   0   4   5   2   3"
-    ∷ "                   5                   2                   0"
-    ∷ "   1   2"
-    ∷ []
+    "                   5                   2                   0"
+    "   1   2"
 
--- The starred lines of "Reference molecules", each to its end: the list; listed, extensions, trials; the mark.
--- Then the four fresh ring runs on the paper's sheet: budget, output bytes; stop; kind, s, t, p, c, listed, extensions, trials; bytes used;
--- the output; the mark, its length
+-- The starred lines of "Reference molecules", each to its end: the list; listed, extensions, trials; its mark.
+-- Then the four fresh ring runs on the paper's sheet: budget, output bytes; stop, the search with kind, s, t, p, c, listed,
+-- extensions, trials, and the bytes used; the output; the mark and its length
 unfoldable pub table : List Line
 table =
     -- no atoms
     wholeRings noAtoms [] 0 0 0
-    ("   0   0   0   0   0   0   1"
-    ∷ "                   0                   0                   0"
-    ∷ ""
-    ∷ [])
+    "   0   0   0   0   0   0   1" "                   0                   0                   0"
     -- chain of 3
     ∷ wholeRings chain [] 0 0 3
-    ("   0   0   0   3   2   0   4"
-    ∷ "                   3                   0                   0"
-    ∷ ""
-    ∷ [])
+    "   0   0   0   3   2   0   4" "                   3                   0                   0"
     -- five-ring
     ∷ wholeRings fiveRing ((1 ∷ 2 ∷ 3 ∷ 4 ∷ 5 ∷ []) ∷ []) 1 4 25
-    ("   0   0   0   5   5   0   6"
-    ∷ "                  25                   4                   1"
-    ∷ ""
-    ∷ [])
+    "   0   0   0   5   5   0   6" "                  25                   4                   1"
     -- four atoms all bonded
     ∷ wholeRings allBonded ((1 ∷ 2 ∷ 3 ∷ []) ∷ (1 ∷ 2 ∷ 4 ∷ []) ∷ (1 ∷ 3 ∷ 4 ∷ []) ∷ (2 ∷ 3 ∷ 4 ∷ []) ∷ []) 4 5 24
-    ("   0   0   0   4   6   0   5"
-    ∷ "                  24                   5                   4"
-    ∷ ""
-    ∷ [])
+    "   0   0   0   4   6   0   5" "                  24                   5                   4"
     -- the sheet of document 01
     ∷ wholeRings paperSheet sheetRings 2 3 16
-    ("   0   0   0   4   5   0   5"
-    ∷ "                  16                   3                   2"
-    ∷ ""
-    ∷ [])
+    "   0   0   0   4   5   0   5" "                  16                   3                   2"
     -- bonds from 1 and 2 to each of 3, 4, 5
     ∷ wholeRings twoToThree ((1 ∷ 3 ∷ 2 ∷ 4 ∷ []) ∷ (1 ∷ 3 ∷ 2 ∷ 5 ∷ []) ∷ (1 ∷ 4 ∷ 2 ∷ 5 ∷ []) ∷ []) 3 5 30
-    ("   0   0   0   5   6   0   6"
-    ∷ "                  30                   5                   3"
-    ∷ ""
-    ∷ [])
+    "   0   0   0   5   6   0   6" "                  30                   5                   3"
     -- paths in the paper's sheet, 2 to 4 and 1 to 3
     ∷ wholePaths paperSheet 2 4 ((2 ∷ 1 ∷ 4 ∷ []) ∷ (2 ∷ 3 ∷ 4 ∷ []) ∷ []) 2 3 16
-    ("   1   2   4   4   5   0   5"
-    ∷ "                  16                   3                   2"
-    ∷ ""
-    ∷ [])
+    "   1   2   4   4   5   0   5" "                  16                   3                   2"
     ∷ wholePaths paperSheet 1 3 ((1 ∷ 3 ∷ []) ∷ []) 1 1 8
-    ("   1   1   3   4   5   0   5"
-    ∷ "                   8                   1                   1"
-    ∷ ""
-    ∷ [])
+    "   1   1   3   4   5   0   5" "                   8                   1                   1"
     -- budget 5 ends spent
     ∷ sheetRun 5 3 (ends Spent (searchWith 0 0 0 (1 ∷ 2 ∷ []) 3 0 2 5) 0) (255 ∷ 255 ∷ 255 ∷ []) sheetMark 99
     -- budget 6 ends full after 5 trials, p = 1 2, c = 3, mark 99 bytes
     ∷ sheetRun 6 3 (ends Full (searchWith 0 0 0 (1 ∷ 2 ∷ []) 3 0 2 5) 0) (255 ∷ 255 ∷ 255 ∷ []) sheetMark 99
     -- budget 0 ends spent
     ∷ sheetRun 0 3 (ends Spent (searchWith 0 0 0 [] 1 0 0 0) 0) (255 ∷ 255 ∷ 255 ∷ [])
-    ("   0   0   0   4   5   0   1"
-    ∷ "                   0                   0                   0"
-    ∷ ""
-    ∷ [])
-    91
+    (markOf "   0   0   0   4   5   0   1" "                   0                   0                   0" "") 91
     -- budget 16 with 8 bytes ends done
     ∷ sheetRun 16 8 (ends Done (searchWith 0 0 0 [] 5 2 3 16) 8) (3 ∷ 1 ∷ 2 ∷ 3 ∷ 3 ∷ 1 ∷ 3 ∷ 4 ∷ [])
-    ("   0   0   0   4   5   0   5"
-    ∷ "                  16                   3                   2"
-    ∷ ""
-    ∷ [])
-    91
+    (markOf "   0   0   0   4   5   0   5" "                  16                   3                   2" "") 91
     ∷ []
