@@ -1,7 +1,7 @@
 -- A line of the table holds when what it names computes: on the record of an accepted sheet no entry turns it back.
 -- Rule 9 is a law of accepted sheets, rule 12 one of a fresh search and of a run, and the mark of such a search restores it.
-use Prim.Native.Nat.{ℕ}
-use mathlib.Core.Path.{_≡_, sym, ap, subst, _∙_}
+use Prim.Native.Nat.{ℕ, _≤_}
+use mathlib.Core.Path.{_≡_, sym, ap, ap₂, subst, _∙_}
 use mathlib.Core.Bool.{true, cond}
 use mathlib.Core.List.{List, [], _∷_, _++_}
 use mathlib.Core.Logic.{inl, inr}
@@ -19,13 +19,14 @@ use Rattle.sheet.specs.Read.{readSheet}
 use Rattle.sheet.proofs.Accepted.{accepted-well-formed}
 use Rattle.search.specs.declared.Search.{Search}
 use Rattle.search.specs.declared.Ran.{Ran}
+use Rattle.search.specs.declared.Saved.the-variants.{Written}
 use Rattle.search.specs.Place.{familyOf, family, stateOf, searchAt, freshSearch, kindKept, restorable}
 use Rattle.search.specs.Entries.{accepted, startRings, startPaths, outcome, ran, runSearch, runOutput}
-use Rattle.search.specs.Mark.{markText, restoreMark}
+use Rattle.search.specs.Mark.{markText, saveOutput, restoreMark}
 use Rattle.search.proofs.Readings.{family-lawful, KindFacts, kind-facts, atom-of}
 use Rattle.search.proofs.Views.{restorable-valid, valid-full, fresh-restorable, run-restorable}
-use Rattle.search.proofs.MarkLaws.{saved-restores}
-use Rattle.reference.specs.Table.{Line, moleculeOf, freshOf, Holds, AllHold}
+use Rattle.search.proofs.MarkLaws.{saved-restores, save-writes}
+use Rattle.reference.specs.Table.{Line, moleculeOf, freshOf, Saves, Holds, AllHold}
 
 -- ---- what entries answer where rules 9 and 12 are kept
 
@@ -57,6 +58,9 @@ module _ (R : Molecule) (good : wellFormed R ≡ true) where
     unfolding runOutput
     run-leaves = rw (good, kept)
 
+    run-kept : restorable R (ran q (outcome R q budget out) .search) ≡ true
+    run-kept = run-restorable R q good kept budget (length out)
+
     -- the mark of the search that it returns restores that search
     run-restores :
         let after = ran q (outcome R q budget out) .search in
@@ -67,8 +71,15 @@ module _ (R : Molecule) (good : wellFormed R ≡ true) where
         let end = outcome R q budget out .state in
         let start = restorable-valid R q kept in
         let valid : Valid F end = run-keeps-valid F lawful budget (length out) (stateOf q) start in
-        saved-restores R (searchAt (q .kind) (q .s) (q .t) end) good (run-restorable R q good kept budget (length out))
+        saved-restores R (searchAt (q .kind) (q .s) (q .t) end) good run-kept
         (valid-full R (q .kind) (q .s) (q .t) good end valid)
+
+  -- a save into a buffer with room for the mark
+  save-leaves :
+      (q : Search) (buffer : List ℕ) → restorable R q ≡ true → length (markText R q) ≤ length buffer →
+      saveOutput R q buffer ≡ markText R q ++ drop (length (markText R q)) buffer
+  unfolding saveOutput
+  save-leaves q buffer kept room = rw (save-writes R q buffer good kept room)
 
 -- ---- a line
 
@@ -85,26 +96,53 @@ pub record Computed (l : Line) : Type 0 where
   pub marks : markText (moleculeOf l) (l .returned .search) ≡ l .mark
   pub measures : length (l .mark) ≡ l .size
 
-line-holds : (l : Line) → Computed l → Holds l
-line-holds l c =
-    let R = moleculeOf l in
-    let good = accepted-well-formed (l .sheet) (c .reads) in
-    let kept = fresh-restorable R (l .kind) (l .s) (l .t) good (c .kinds) in
-    let returns = ap (λ (x : Ran × List ℕ). x .0) (c .runs) in
-    let writes = ap (λ (x : Ran × List ℕ). x .1) (c .runs) in
-    record {
-      reads = c .reads;
-      starts = start-answers R good (l .kind) (l .s) (l .t) (c .kinds);
-      lists = c .lists;
-      returns = run-answers R good (freshOf l) kept (l .budget) (l .output) ∙ returns;
-      writes = run-leaves R good (freshOf l) kept (l .budget) (l .output) ∙ writes;
-      marks = c .marks;
-      measures = c .measures;
-      restores =
-          ap (restoreMark R) (sym (c .marks))
-          ∙ subst (λ (r : Ran). restoreMark R (markText R (r .search)) ≡ accepted (r .search)) returns
-          (run-restores R good (freshOf l) kept (l .budget) (l .output));
-    }
+module _ (l : Line) (c : Computed l) where
+  good : wellFormed (moleculeOf l) ≡ true
+  good = accepted-well-formed (l .sheet) (c .reads)
+
+  fresh-kept : restorable (moleculeOf l) (freshOf l) ≡ true
+  fresh-kept = fresh-restorable (moleculeOf l) (l .kind) (l .s) (l .t) good (c .kinds)
+
+  returned-is : ran (freshOf l) (outcome (moleculeOf l) (freshOf l) (l .budget) (l .output)) ≡ l .returned
+  returned-is = ap (λ (x : Ran × List ℕ). x .0) (c .runs)
+
+  returned-kept : restorable (moleculeOf l) (l .returned .search) ≡ true
+  returned-kept =
+      subst (λ (r : Ran). restorable (moleculeOf l) (r .search) ≡ true) returned-is
+      (run-kept (moleculeOf l) good (freshOf l) fresh-kept (l .budget) (l .output))
+
+  mark-size : length (markText (moleculeOf l) (l .returned .search)) ≡ l .size
+  mark-size = ap length (c .marks) ∙ c .measures
+
+  line-saves : (buffer : List ℕ) → l .size ≤ length buffer → Saves l buffer
+  line-saves buffer room =
+      let fits : length (markText (moleculeOf l) (l .returned .search)) ≤ length buffer = rw mark-size room in
+      record {
+        answers = save-writes (moleculeOf l) (l .returned .search) buffer good returned-kept fits ∙ ap Written mark-size;
+        leaves =
+            save-leaves (moleculeOf l) good (l .returned .search) buffer returned-kept fits
+            ∙ ap₂ (λ (m : List ℕ) (k : ℕ). m ++ drop k buffer) (c .marks) mark-size;
+      }
+
+  line-holds : Holds l
+  line-holds =
+      let R = moleculeOf l in
+      record {
+        reads = c .reads;
+        starts = start-answers R good (l .kind) (l .s) (l .t) (c .kinds);
+        lists = c .lists;
+        returns = run-answers R good (freshOf l) fresh-kept (l .budget) (l .output) ∙ returned-is;
+        writes =
+            run-leaves R good (freshOf l) fresh-kept (l .budget) (l .output)
+            ∙ ap (λ (x : Ran × List ℕ). x .1) (c .runs);
+        marks = c .marks;
+        measures = c .measures;
+        saves = line-saves;
+        restores =
+            ap (restoreMark R) (sym (c .marks))
+            ∙ subst (λ (r : Ran). restoreMark R (markText R (r .search)) ≡ accepted (r .search)) returned-is
+            (run-restores R good (freshOf l) fresh-kept (l .budget) (l .output));
+      }
 
 abbrev pub AllComputed : List Line → Type 0
 AllComputed [] = Unit

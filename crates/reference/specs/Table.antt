@@ -1,11 +1,11 @@
 -- The table of the starred reference molecules (document 01), and what it says of each line: what the entries, by their own
 -- definitions, answer on the record that is read from the sheet's bytes.
-use Prim.Native.Nat.{ℕ, suc, _-_}
+use Prim.Native.Nat.{ℕ, suc, _-_, _≤_}
 use Prim.Native.String.{String}
 use mathlib.Core.Path.{_≡_}
 use mathlib.Core.Bool.{cond}
 use mathlib.Core.List.{List, [], _∷_, _++_, reverse}
-use lib.ListN.{length, replicate}
+use lib.ListN.{length, drop, replicate}
 use lib.Dec.{eqb}
 use Rattle.enumeration.specs.declared.Stop.{Stop}
 use Rattle.enumeration.specs.declared.Stop.the-variants.{Done, Spent, Full}
@@ -18,9 +18,10 @@ use Rattle.search.specs.declared.Search.{Search}
 use Rattle.search.specs.declared.Made.{Made}
 use Rattle.search.specs.declared.Ran.{Ran}
 use Rattle.search.specs.declared.Ended.the-variants.{Stopped}
+use Rattle.search.specs.declared.Saved.the-variants.{Written}
 use Rattle.search.specs.Place.{familyOf, searchAt, freshSearch}
 use Rattle.search.specs.Entries.{accepted, startRings, startPaths, runSearch, runOutput}
-use Rattle.search.specs.Mark.{markText, restoreMark}
+use Rattle.search.specs.Mark.{markText, saveAnswer, saveOutput, restoreMark}
 use Rattle.reference.specs.Text.{text}
 use Rattle.reference.specs.Molecules.{noAtoms, chain, fiveRing, allBonded, paperSheet, twoToThree}
 
@@ -50,9 +51,14 @@ freshOf l = freshSearch (l .kind) (l .s) (l .t)
 abbrev pub started : Line → Made
 started l = cond (eqb (l .kind) 0) (startRings (moleculeOf l)) (startPaths (moleculeOf l) (l .s) (l .t))
 
+-- The save of the returned search into a buffer writes the mark and says its length; the bytes after it stay
+pub record Saves (l : Line) (buffer : List ℕ) : Type 0 where
+  pub answers : saveAnswer (moleculeOf l) (l .returned .search) buffer ≡ Written (l .size)
+  pub leaves : saveOutput (moleculeOf l) (l .returned .search) buffer ≡ l .mark ++ drop (l .size) buffer
+
 -- A line holds: the sheet is accepted and the search starts; the list is all its members in dictionary order; the run
 -- returns exactly this search, stop, bytes used and trials made, and leaves exactly these bytes; the mark of the search is
--- exactly these bytes, so many, and they restore the search
+-- exactly these bytes, so many, any buffer with room for them gets just them, and they restore the search
 pub record Holds (l : Line) : Type 0 where
   pub reads : readSheet (l .sheet) .answer ≡ Accepted
   pub starts : started l ≡ accepted (freshOf l)
@@ -61,6 +67,7 @@ pub record Holds (l : Line) : Type 0 where
   pub writes : runOutput (moleculeOf l) (freshOf l) (l .budget) (l .output) ≡ l .written
   pub marks : markText (moleculeOf l) (l .returned .search) ≡ l .mark
   pub measures : length (l .mark) ≡ l .size
+  pub saves : (buffer : List ℕ) → l .size ≤ length buffer → Saves l buffer
   pub restores : restoreMark (moleculeOf l) (l .mark) ≡ accepted (l .returned .search)
 
 -- Every line holds
