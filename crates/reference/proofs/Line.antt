@@ -1,5 +1,5 @@
 -- A line of the table holds when what it names computes: on the record of an accepted sheet no entry turns it back.
--- Rule 9 is a law of accepted sheets, rule 12 one of a fresh search and of a run, and the mark of such a search restores it.
+-- Rule 9 is a law of accepted sheets, rule 12 one of fresh searches and of runs; the mark of such a search restores it.
 use Prim.Native.Nat.{ℕ, _≤_}
 use mathlib.Core.Path.{_≡_, sym, ap, ap₂, subst, _∙_}
 use mathlib.Core.Bool.{true, cond}
@@ -118,7 +118,9 @@ module _ (l : Line) (c : Computed l) where
   line-saves buffer room =
       let fits : length (markText (moleculeOf l) (l .returned .search)) ≤ length buffer = rw mark-size room in
       record {
-        answers = save-writes (moleculeOf l) (l .returned .search) buffer good returned-kept fits ∙ ap Written mark-size;
+        answers =
+            save-writes (moleculeOf l) (l .returned .search) buffer good returned-kept fits
+            ∙ ap Written mark-size;
         leaves =
             save-leaves (moleculeOf l) good (l .returned .search) buffer returned-kept fits
             ∙ ap₂ (λ (m : List ℕ) (k : ℕ). m ++ drop k buffer) (c .marks) mark-size;

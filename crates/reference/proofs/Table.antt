@@ -1,4 +1,4 @@
--- The table of reference molecules holds: over the records that are read, both sides of every equation compute to one value.
+-- The table of reference molecules holds: over the records that are read, both sides of every equation compute.
 -- The definitions of a sheet, a record, rings, paths, the list, a trial, a run and a mark are all unfolded.
 use mathlib.Core.Path.{_≡_, refl}
 use mathlib.Core.List.{[], _∷_}

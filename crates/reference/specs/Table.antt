@@ -1,5 +1,5 @@
--- The table of the starred reference molecules (document 01), and what it says of each line: what the entries, by their own
--- definitions, answer on the record that is read from the sheet's bytes.
+-- The table of the starred reference molecules (document 01), and what it says of each line: what the entries, by their
+-- own definitions, answer on the record that is read from the sheet's bytes.
 use Prim.Native.Nat.{ℕ, suc, _-_, _≤_}
 use Prim.Native.String.{String}
 use mathlib.Core.Path.{_≡_}
@@ -25,8 +25,8 @@ use Rattle.search.specs.Mark.{markText, saveAnswer, saveOutput, restoreMark}
 use Rattle.reference.specs.Text.{text}
 use Rattle.reference.specs.Molecules.{noAtoms, chain, fiveRing, allBonded, paperSheet, twoToThree}
 
--- A line: the bytes of a sheet and a search on it, the list written out, and one run of the fresh search: its budget, the
--- bytes of its output before it, what it returns, those bytes after it, and the mark of the returned search with its length
+-- A line: the bytes of a sheet and a search on it, the list written out, and one run of the fresh search: its budget,
+-- the bytes of its output before it, what it returns, those bytes after it, and the returned search's mark and its length
 pub record Line : Type 0 where
   pub sheet : List ℕ
   pub kind : ℕ
@@ -57,8 +57,8 @@ pub record Saves (l : Line) (buffer : List ℕ) : Type 0 where
   pub leaves : saveOutput (moleculeOf l) (l .returned .search) buffer ≡ l .mark ++ drop (l .size) buffer
 
 -- A line holds: the sheet is accepted and the search starts; the list is all its members in dictionary order; the run
--- returns exactly this search, stop, bytes used and trials made, and leaves exactly these bytes; the mark of the search is
--- exactly these bytes, so many, any buffer with room for them gets just them, and they restore the search
+-- returns exactly this search, stop, bytes used and trials made, and leaves exactly these bytes; the mark of the search
+-- is exactly these bytes, so many; saving writes just them into any buffer with room; and they restore the search
 pub record Holds (l : Line) : Type 0 where
   pub reads : readSheet (l .sheet) .answer ≡ Accepted
   pub starts : started l ≡ accepted (freshOf l)
@@ -93,7 +93,7 @@ old k = replicate k 255
 abbrev pub markOf : String → String → String → List ℕ
 markOf place counts atoms = text (place ∷ counts ∷ atoms ∷ [])
 
--- A run of the fresh search: sheet, kind, s, t, list; budget, output bytes; what it returns, the output, mark and length
+-- A run of the fresh search: sheet, kind, s, t, list; budget, output bytes; what it returns, output, mark and length
 abbrev pub freshRun : List ℕ → ℕ → ℕ → ℕ → List (List ℕ) → ℕ → ℕ → Ran → List ℕ → List ℕ → ℕ → Line
 freshRun sheet kind s t list budget room returned written mark size =
     record {
@@ -141,8 +141,8 @@ sheetMark =
     "   1   2"
 
 -- The starred lines of "Reference molecules", each to its end: the list; listed, extensions, trials; its mark.
--- Then the four fresh ring runs on the paper's sheet: budget, output bytes; stop, the search with kind, s, t, p, c, listed,
--- extensions, trials, and the bytes used; the output; the mark and its length
+-- Then the four fresh ring runs on the paper's sheet: budget, output bytes; stop, the search with kind, s, t, p, c,
+-- listed, extensions, trials, and the bytes used; the output; the mark and its length
 unfoldable pub table : List Line
 table =
     -- no atoms
