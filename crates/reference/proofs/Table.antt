@@ -1,34 +1,74 @@
--- The table of reference molecules holds: both sides of every equation compute to the same value.
--- Nothing but computation, from the definitions of rings, paths, the list, a trial and a run: every one of them is unfolded.
-use mathlib.Core.Path.{refl}
+-- The table of reference molecules holds: over the records that are read, both sides of every equation compute.
+-- The definitions of a sheet, a record, rings, paths, the list, a trial, a run and a mark are all unfolded.
+use mathlib.Core.Path.{_≡_, refl}
+use mathlib.Core.List.{[], _∷_}
 use Rattle.graph.specs.Chordless.{inRange, induces, isRing, isPath}
 use Rattle.enumeration.specs.Words.{begins, from, joined, words, keep, any, members, isOpen}
 use Rattle.enumeration.specs.Machine.{fresh, tried, isEmpty, isDone, unwound, act, trial}
 use Rattle.enumeration.specs.Run.{atLimit, recordOf, recordIf, lists, run}
 use Rattle.enumeration.specs.Trials.{records}
-use Rattle.fields.specs.Field.{column, columns, fieldText}
-use Rattle.search.specs.Place.{beginning, held, searchAt}
+use Rattle.fields.specs.Field.{digits, readField, column, columns, fieldText}
+use Rattle.molecule.specs.Record.{cell, bonded}
+use Rattle.sheet.specs.Bonds.{atomsKept, noneToItself, samePair, noneTwice, withBit, withCell, withBond, rowsOf}
+use Rattle.sheet.specs.Read.{lengthKept, lineKept, linesKept, lineOf, readBonds, readSheet}
+use Rattle.search.specs.Place.{familyOf, beginning, stateOf, held, searchAt, freshSearch, endsKept, kindKept}
 use Rattle.search.specs.Mark.{fieldsText, markText}
-use Rattle.reference.specs.Molecules.{bondedBy, noAtoms, chain, fiveRing, allBonded, sheet, twoToThree}
-use Rattle.reference.specs.Table.{AllHold, table}
+use Rattle.reference.specs.Text.{bytesOf, text}
+use Rattle.reference.specs.Molecules.{noAtoms, chain, fiveRing, allBonded, paperSheet, twoToThree}
+use Rattle.reference.specs.Table.{AllHold, sheetMark, table}
+use Rattle.reference.proofs.Line.{AllComputed, all-hold}
 
 infixr 20 _and_
 _and_ : {A B : Type 0} → A → B → A × B
 a and b = (a, b)
 
-pub table-holds : AllHold table
-unfolding inRange induces isRing isPath begins from joined words keep any members isOpen fresh tried isEmpty isDone unwound act trial atLimit recordOf recordIf lists run bondedBy noAtoms chain fiveRing allBonded sheet twoToThree records table fieldsText markText columns column fieldText beginning held searchAt
-table-holds =
-    record { lists = refl; returns = refl; marks = refl }
-    and record { lists = refl; returns = refl; marks = refl }
-    and record { lists = refl; returns = refl; marks = refl }
-    and record { lists = refl; returns = refl; marks = refl }
-    and record { lists = refl; returns = refl; marks = refl }
-    and record { lists = refl; returns = refl; marks = refl }
-    and record { lists = refl; returns = refl; marks = refl }
-    and record { lists = refl; returns = refl; marks = refl }
-    and record { lists = refl; returns = refl; marks = refl }
-    and record { lists = refl; returns = refl; marks = refl }
-    and record { lists = refl; returns = refl; marks = refl }
-    and record { lists = refl; returns = refl; marks = refl }
+computed : AllComputed table
+unfolding
+    inRange induces isRing isPath begins from joined words keep any members isOpen
+    fresh tried isEmpty isDone unwound act trial atLimit recordOf recordIf lists run records
+    digits readField column columns fieldText cell bonded
+    atomsKept noneToItself samePair noneTwice withBit withCell withBond rowsOf
+    lengthKept lineKept linesKept lineOf readBonds readSheet
+    familyOf beginning stateOf held searchAt freshSearch endsKept kindKept fieldsText markText
+    bytesOf text noAtoms chain fiveRing allBonded paperSheet twoToThree table
+computed =
+    record { reads = refl; kinds = refl; lists = refl; runs = refl; marks = refl; measures = refl }
+    and record { reads = refl; kinds = refl; lists = refl; runs = refl; marks = refl; measures = refl }
+    and record { reads = refl; kinds = refl; lists = refl; runs = refl; marks = refl; measures = refl }
+    and record { reads = refl; kinds = refl; lists = refl; runs = refl; marks = refl; measures = refl }
+    and record { reads = refl; kinds = refl; lists = refl; runs = refl; marks = refl; measures = refl }
+    and record { reads = refl; kinds = refl; lists = refl; runs = refl; marks = refl; measures = refl }
+    and record { reads = refl; kinds = refl; lists = refl; runs = refl; marks = refl; measures = refl }
+    and record { reads = refl; kinds = refl; lists = refl; runs = refl; marks = refl; measures = refl }
+    and record { reads = refl; kinds = refl; lists = refl; runs = refl; marks = refl; measures = refl }
+    and record { reads = refl; kinds = refl; lists = refl; runs = refl; marks = refl; measures = refl }
+    and record { reads = refl; kinds = refl; lists = refl; runs = refl; marks = refl; measures = refl }
+    and record { reads = refl; kinds = refl; lists = refl; runs = refl; marks = refl; measures = refl }
     and tt
+
+pub table-holds : AllHold table
+table-holds = all-hold table computed
+
+-- The quoted text byte by byte: the six lines of document 01, and the mark of 99 bytes. A blank is 32, a line feed 10
+pub sheet-bytes :
+    paperSheet
+    ≡ 32 ∷ 32 ∷ 32 ∷ 52 ∷ 32 ∷ 32 ∷ 32 ∷ 53 ∷ 10
+    ∷ 32 ∷ 32 ∷ 32 ∷ 49 ∷ 32 ∷ 32 ∷ 32 ∷ 50 ∷ 10
+    ∷ 32 ∷ 32 ∷ 32 ∷ 50 ∷ 32 ∷ 32 ∷ 32 ∷ 51 ∷ 10
+    ∷ 32 ∷ 32 ∷ 32 ∷ 51 ∷ 32 ∷ 32 ∷ 32 ∷ 52 ∷ 10
+    ∷ 32 ∷ 32 ∷ 32 ∷ 49 ∷ 32 ∷ 32 ∷ 32 ∷ 52 ∷ 10
+    ∷ 32 ∷ 32 ∷ 32 ∷ 49 ∷ 32 ∷ 32 ∷ 32 ∷ 51 ∷ 10 ∷ []
+unfolding bytesOf text paperSheet
+sheet-bytes = refl
+
+-- seven fields of 4 columns; three of 20; two of 4
+pub mark-bytes :
+    sheetMark
+    ≡ 32 ∷ 32 ∷ 32 ∷ 48 ∷ 32 ∷ 32 ∷ 32 ∷ 48 ∷ 32 ∷ 32 ∷ 32 ∷ 48 ∷ 32 ∷ 32 ∷ 32 ∷ 52
+    ∷ 32 ∷ 32 ∷ 32 ∷ 53 ∷ 32 ∷ 32 ∷ 32 ∷ 50 ∷ 32 ∷ 32 ∷ 32 ∷ 51 ∷ 10
+    ∷ 32 ∷ 32 ∷ 32 ∷ 32 ∷ 32 ∷ 32 ∷ 32 ∷ 32 ∷ 32 ∷ 32 ∷ 32 ∷ 32 ∷ 32 ∷ 32 ∷ 32 ∷ 32 ∷ 32 ∷ 32 ∷ 32 ∷ 53
+    ∷ 32 ∷ 32 ∷ 32 ∷ 32 ∷ 32 ∷ 32 ∷ 32 ∷ 32 ∷ 32 ∷ 32 ∷ 32 ∷ 32 ∷ 32 ∷ 32 ∷ 32 ∷ 32 ∷ 32 ∷ 32 ∷ 32 ∷ 50
+    ∷ 32 ∷ 32 ∷ 32 ∷ 32 ∷ 32 ∷ 32 ∷ 32 ∷ 32 ∷ 32 ∷ 32 ∷ 32 ∷ 32 ∷ 32 ∷ 32 ∷ 32 ∷ 32 ∷ 32 ∷ 32 ∷ 32 ∷ 48 ∷ 10
+    ∷ 32 ∷ 32 ∷ 32 ∷ 49 ∷ 32 ∷ 32 ∷ 32 ∷ 50 ∷ 10 ∷ []
+unfolding bytesOf text
+mark-bytes = refl

@@ -1,2 +1,3 @@
 pub mod Molecules
 pub mod Table
+pub mod Text

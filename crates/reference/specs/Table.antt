@@ -1,94 +1,181 @@
--- The table of the starred reference molecules (document 01), and what it says of each line.
-use Prim.Native.Nat.{ℕ, suc}
+-- The table of the starred reference molecules (document 01), and what it says of each line: what the entries, by their
+-- own definitions, answer on the record that is read from the sheet's bytes.
+use Prim.Native.Nat.{ℕ, suc, _-_, _≤_}
+use Prim.Native.String.{String}
 use mathlib.Core.Path.{_≡_}
 use mathlib.Core.Bool.{cond}
-use mathlib.Core.List.{List, [], _∷_}
-use lib.ListN.{length}
+use mathlib.Core.List.{List, [], _∷_, _++_, reverse}
+use lib.ListN.{length, drop, replicate}
 use lib.Dec.{eqb}
 use Rattle.enumeration.specs.declared.Stop.{Stop}
 use Rattle.enumeration.specs.declared.Stop.the-variants.{Done, Spent, Full}
-use Rattle.enumeration.specs.Words.{Family, members}
-use Rattle.enumeration.specs.Machine.{fresh}
-use Rattle.enumeration.specs.Run.{Outcome, run}
+use Rattle.enumeration.specs.Words.{members}
 use Rattle.enumeration.specs.Trials.{records}
-use Rattle.search.specs.Place.{searchAt}
-use Rattle.search.specs.Mark.{markText}
-use Rattle.reference.specs.Molecules.{Sheet, recordFor, ringsOf, pathsOf, noAtoms, chain, fiveRing, allBonded, sheet, twoToThree}
+use Rattle.refusal.specs.declared.Answer.the-variants.{Accepted}
+use Rattle.molecule.specs.declared.Molecule.{Molecule}
+use Rattle.sheet.specs.Read.{atomsOf, readSheet}
+use Rattle.search.specs.declared.Search.{Search}
+use Rattle.search.specs.declared.Made.{Made}
+use Rattle.search.specs.declared.Ran.{Ran}
+use Rattle.search.specs.declared.Ended.the-variants.{Stopped}
+use Rattle.search.specs.declared.Saved.the-variants.{Written}
+use Rattle.search.specs.Place.{familyOf, searchAt, freshSearch}
+use Rattle.search.specs.Entries.{accepted, startRings, startPaths, runSearch, runOutput}
+use Rattle.search.specs.Mark.{markText, saveAnswer, saveOutput, restoreMark}
+use Rattle.reference.specs.Text.{text}
+use Rattle.reference.specs.Molecules.{noAtoms, chain, fiveRing, allBonded, paperSheet, twoToThree}
 
--- A line: a molecule and a search on it, the list written out, and one run of the fresh search: its budget, its output's bytes, what it returns,
--- and the length of the mark of the search that it returns
+-- A line: the bytes of a sheet and a search on it, the list written out, and one run of the fresh search: its budget,
+-- the bytes of its output before it, what it returns, those bytes after it, and the returned search's mark and its length
 pub record Line : Type 0 where
-  pub source : Sheet
+  pub sheet : List ℕ
   pub kind : ℕ
   pub s : ℕ
   pub t : ℕ
   pub list : List (List ℕ)
   pub budget : ℕ
-  pub room : ℕ
-  pub outcome : Outcome
-  pub mark : ℕ
+  pub output : List ℕ
+  pub returned : Ran
+  pub written : List ℕ
+  pub mark : List ℕ
+  pub size : ℕ
 
--- what its search lists
-abbrev pub listed : Line → Family
-listed l = cond (eqb (l .kind) 0) (ringsOf (l .source)) (pathsOf (l .source) (l .s) (l .t))
+-- the record that is read from its sheet
+abbrev pub moleculeOf : Line → Molecule
+moleculeOf l = readSheet (l .sheet) .molecule
 
--- A line holds: its list is all the members in dictionary order, the run returns exactly this search, stop, bytes and trials made,
--- and the mark has this length
+-- the fresh search, and what starting it answers
+abbrev pub freshOf : Line → Search
+freshOf l = freshSearch (l .kind) (l .s) (l .t)
+
+abbrev pub started : Line → Made
+started l = cond (eqb (l .kind) 0) (startRings (moleculeOf l)) (startPaths (moleculeOf l) (l .s) (l .t))
+
+-- The save of the returned search into a buffer writes the mark and says its length; the bytes after it stay
+pub record Saves (l : Line) (buffer : List ℕ) : Type 0 where
+  pub answers : saveAnswer (moleculeOf l) (l .returned .search) buffer ≡ Written (l .size)
+  pub leaves : saveOutput (moleculeOf l) (l .returned .search) buffer ≡ l .mark ++ drop (l .size) buffer
+
+-- A line holds: the sheet is accepted and the search starts; the list is all its members in dictionary order; the run
+-- returns exactly this search, stop, bytes used and trials made, and leaves exactly these bytes; the mark of the search
+-- is exactly these bytes, so many; saving writes just them into any buffer with room; and they restore the search
 pub record Holds (l : Line) : Type 0 where
-  pub lists : members (listed l) ≡ l .list
-  pub returns : run (listed l) (l .budget) (l .room) fresh ≡ l .outcome
-  pub marks : length (markText (recordFor (l .source)) (searchAt (l .kind) (l .s) (l .t) (l .outcome .state))) ≡ l .mark
+  pub reads : readSheet (l .sheet) .answer ≡ Accepted
+  pub starts : started l ≡ accepted (freshOf l)
+  pub lists : members (familyOf (moleculeOf l) (l .kind) (l .s) (l .t)) ≡ l .list
+  pub returns : runSearch (moleculeOf l) (freshOf l) (l .budget) (l .output) ≡ l .returned
+  pub writes : runOutput (moleculeOf l) (freshOf l) (l .budget) (l .output) ≡ l .written
+  pub marks : markText (moleculeOf l) (l .returned .search) ≡ l .mark
+  pub measures : length (l .mark) ≡ l .size
+  pub saves : (buffer : List ℕ) → l .size ≤ length buffer → Saves l buffer
+  pub restores : restoreMark (moleculeOf l) (l .mark) ≡ accepted (l .returned .search)
 
 -- Every line holds
 abbrev pub AllHold : List Line → Type 0
 AllHold [] = Unit
 AllHold (l ∷ rest) = Holds l × AllHold rest
 
--- A run of the fresh search that ends at a beginning (its last atom first) and a next atom, with the counts listed, extensions, trials
-abbrev pub ends : Stop → List ℕ → ℕ → ℕ → ℕ → ℕ → List ℕ → Outcome
-ends stop stack next listed extensions trials bytes =
-    record { state = record { stack = stack; next = next; trials = trials; extensions = extensions; listed = listed }; stop = stop; bytes = bytes; made = trials }
+-- The search of a kind, s and t at a beginning p and a next atom c, with the counts listed, extensions, trials
+abbrev pub searchWith : ℕ → ℕ → ℕ → List ℕ → ℕ → ℕ → ℕ → ℕ → Search
+searchWith kind s t p c listed extensions trials =
+    searchAt kind s t
+    (record { stack = reverse p; next = c; trials = trials; extensions = extensions; listed = listed })
 
--- A search to its end, with a budget and an output to spare: its list, then listed, extensions, trials
-abbrev pub whole : Sheet → ℕ → ℕ → ℕ → List (List ℕ) → ℕ → ℕ → ℕ → Line
-whole m kind s t list listed extensions trials =
-    record { source = m; kind = kind; s = s; t = t; list = list; budget = suc trials; room = 1000; outcome = ends Done [] (suc (m .atoms)) listed extensions trials (records list); mark = 91 }
+-- What a run of the fresh search returns: as many trials made as the search counts
+abbrev pub ends : Stop → Search → ℕ → Ran
+ends stop q used = record { ended = Stopped stop; search = q; used = used; made = q .trials }
 
-abbrev pub wholeRings : Sheet → List (List ℕ) → ℕ → ℕ → ℕ → Line
-wholeRings m = whole m 0 0 0
+-- bytes that stood in an output before a run
+abbrev pub old : ℕ → List ℕ
+old k = replicate k 255
 
-abbrev pub wholePaths : Sheet → ℕ → ℕ → List (List ℕ) → ℕ → ℕ → ℕ → Line
-wholePaths m s t = whole m 1 s t
+-- the three lines of a mark
+abbrev pub markOf : String → String → String → List ℕ
+markOf place counts atoms = text (place ∷ counts ∷ atoms ∷ [])
 
--- the rings of the sheet
+-- A run of the fresh search: sheet, kind, s, t, list; budget, output bytes; what it returns, output, mark and length
+abbrev pub freshRun : List ℕ → ℕ → ℕ → ℕ → List (List ℕ) → ℕ → ℕ → Ran → List ℕ → List ℕ → ℕ → Line
+freshRun sheet kind s t list budget room returned written mark size =
+    record {
+      sheet = sheet;
+      kind = kind;
+      s = s;
+      t = t;
+      list = list;
+      budget = budget;
+      output = old room;
+      returned = returned;
+      written = written;
+      mark = mark;
+      size = size;
+    }
+
+-- A search to its end, with a budget and an output to spare: list; listed, extensions, trials; two lines of its mark
+abbrev pub whole : List ℕ → ℕ → ℕ → ℕ → List (List ℕ) → ℕ → ℕ → ℕ → String → String → Line
+whole sheet kind s t list listed extensions trials place counts =
+    let bytes = records list in
+    let done = searchWith kind s t [] (suc (atomsOf sheet)) listed extensions trials in
+    freshRun sheet kind s t list (suc trials) 20 (ends Done done (length bytes)) (bytes ++ old (20 - length bytes))
+    (markOf place counts "") 91
+
+abbrev pub wholeRings : List ℕ → List (List ℕ) → ℕ → ℕ → ℕ → String → String → Line
+wholeRings sheet = whole sheet 0 0 0
+
+abbrev pub wholePaths : List ℕ → ℕ → ℕ → List (List ℕ) → ℕ → ℕ → ℕ → String → String → Line
+wholePaths sheet s t = whole sheet 1 s t
+
+-- the rings of the paper's sheet
 abbrev pub sheetRings : List (List ℕ)
 sheetRings = (1 ∷ 2 ∷ 3 ∷ []) ∷ (1 ∷ 3 ∷ 4 ∷ []) ∷ []
 
--- A fresh ring run on the sheet: budget, output bytes, what it returns, and the length of its mark
-abbrev pub sheetRun : ℕ → ℕ → Outcome → ℕ → Line
-sheetRun budget room outcome mark = record { source = sheet; kind = 0; s = 0; t = 0; list = sheetRings; budget = budget; room = room; outcome = outcome; mark = mark }
+-- A fresh ring run on the paper's sheet: budget, output bytes; what it returns, the output, mark and length
+abbrev pub sheetRun : ℕ → ℕ → Ran → List ℕ → List ℕ → ℕ → Line
+sheetRun = freshRun paperSheet 0 0 0 sheetRings
 
--- The starred lines of "Reference molecules", each to its end, then the four fresh ring runs on the sheet
+-- the mark of a ring search on the paper's sheet at p = 1 2, c = 3, after 5 trials with 2 extensions
+abbrev pub sheetMark : List ℕ
+sheetMark =
+    markOf
+    "   0   0   0   4   5   2   3"
+    "                   5                   2                   0"
+    "   1   2"
+
+-- The starred lines of "Reference molecules", each to its end: the list; listed, extensions, trials; its mark.
+-- Then the four fresh ring runs on the paper's sheet: budget, output bytes; stop, the search with kind, s, t, p, c,
+-- listed, extensions, trials, and the bytes used; the output; the mark and its length
 unfoldable pub table : List Line
 table =
     -- no atoms
     wholeRings noAtoms [] 0 0 0
+    "   0   0   0   0   0   0   1" "                   0                   0                   0"
     -- chain of 3
     ∷ wholeRings chain [] 0 0 3
+    "   0   0   0   3   2   0   4" "                   3                   0                   0"
     -- five-ring
     ∷ wholeRings fiveRing ((1 ∷ 2 ∷ 3 ∷ 4 ∷ 5 ∷ []) ∷ []) 1 4 25
+    "   0   0   0   5   5   0   6" "                  25                   4                   1"
     -- four atoms all bonded
     ∷ wholeRings allBonded ((1 ∷ 2 ∷ 3 ∷ []) ∷ (1 ∷ 2 ∷ 4 ∷ []) ∷ (1 ∷ 3 ∷ 4 ∷ []) ∷ (2 ∷ 3 ∷ 4 ∷ []) ∷ []) 4 5 24
+    "   0   0   0   4   6   0   5" "                  24                   5                   4"
     -- the sheet of document 01
-    ∷ wholeRings sheet sheetRings 2 3 16
+    ∷ wholeRings paperSheet sheetRings 2 3 16
+    "   0   0   0   4   5   0   5" "                  16                   3                   2"
     -- bonds from 1 and 2 to each of 3, 4, 5
     ∷ wholeRings twoToThree ((1 ∷ 3 ∷ 2 ∷ 4 ∷ []) ∷ (1 ∷ 3 ∷ 2 ∷ 5 ∷ []) ∷ (1 ∷ 4 ∷ 2 ∷ 5 ∷ []) ∷ []) 3 5 30
-    -- paths in the sheet, 2 to 4 and 1 to 3
-    ∷ wholePaths sheet 2 4 ((2 ∷ 1 ∷ 4 ∷ []) ∷ (2 ∷ 3 ∷ 4 ∷ []) ∷ []) 2 3 16
-    ∷ wholePaths sheet 1 3 ((1 ∷ 3 ∷ []) ∷ []) 1 1 8
-    -- budget 5 ends spent; budget 6 ends full after 5 trials, p = 1 2, c = 3, mark 99 bytes; budget 0 ends spent; budget 16 with 8 bytes ends done
-    ∷ sheetRun 5 3 (ends Spent (2 ∷ 1 ∷ []) 3 0 2 5 []) 99
-    ∷ sheetRun 6 3 (ends Full (2 ∷ 1 ∷ []) 3 0 2 5 []) 99
-    ∷ sheetRun 0 3 (ends Spent [] 1 0 0 0 []) 91
-    ∷ sheetRun 16 8 (ends Done [] 5 2 3 16 (3 ∷ 1 ∷ 2 ∷ 3 ∷ 3 ∷ 1 ∷ 3 ∷ 4 ∷ [])) 91
+    "   0   0   0   5   6   0   6" "                  30                   5                   3"
+    -- paths in the paper's sheet, 2 to 4 and 1 to 3
+    ∷ wholePaths paperSheet 2 4 ((2 ∷ 1 ∷ 4 ∷ []) ∷ (2 ∷ 3 ∷ 4 ∷ []) ∷ []) 2 3 16
+    "   1   2   4   4   5   0   5" "                  16                   3                   2"
+    ∷ wholePaths paperSheet 1 3 ((1 ∷ 3 ∷ []) ∷ []) 1 1 8
+    "   1   1   3   4   5   0   5" "                   8                   1                   1"
+    -- budget 5 ends spent
+    ∷ sheetRun 5 3 (ends Spent (searchWith 0 0 0 (1 ∷ 2 ∷ []) 3 0 2 5) 0) (255 ∷ 255 ∷ 255 ∷ []) sheetMark 99
+    -- budget 6 ends full after 5 trials, p = 1 2, c = 3, mark 99 bytes
+    ∷ sheetRun 6 3 (ends Full (searchWith 0 0 0 (1 ∷ 2 ∷ []) 3 0 2 5) 0) (255 ∷ 255 ∷ 255 ∷ []) sheetMark 99
+    -- budget 0 ends spent
+    ∷ sheetRun 0 3 (ends Spent (searchWith 0 0 0 [] 1 0 0 0) 0) (255 ∷ 255 ∷ 255 ∷ [])
+    (markOf "   0   0   0   4   5   0   1" "                   0                   0                   0" "") 91
+    -- budget 16 with 8 bytes ends done
+    ∷ sheetRun 16 8 (ends Done (searchWith 0 0 0 [] 5 2 3 16) 8) (3 ∷ 1 ∷ 2 ∷ 3 ∷ 3 ∷ 1 ∷ 3 ∷ 4 ∷ [])
+    (markOf "   0   0   0   4   5   0   5" "                  16                   3                   2" "") 91
     ∷ []

@@ -1,0 +1,155 @@
+-- A line of the table holds when what it names computes: on the record of an accepted sheet no entry turns it back.
+-- Rule 9 is a law of accepted sheets, rule 12 one of fresh searches and of runs; the mark of such a search restores it.
+use Prim.Native.Nat.{ℕ, _≤_}
+use mathlib.Core.Path.{_≡_, sym, ap, ap₂, subst, _∙_}
+use mathlib.Core.Bool.{true, cond}
+use mathlib.Core.List.{List, [], _∷_, _++_}
+use mathlib.Core.Logic.{inl, inr}
+use lib.ListN.{length, drop}
+use lib.Dec.{eqb}
+use borrow.Author.Tests.{ne-eqb}
+use Rattle.enumeration.specs.Words.{members}
+use Rattle.enumeration.specs.Run.{Outcome}
+use Rattle.enumeration.specs.Trials.{Valid}
+use Rattle.enumeration.proofs.Theorems.{run-keeps-valid}
+use Rattle.refusal.specs.declared.Answer.the-variants.{Accepted}
+use Rattle.molecule.specs.declared.Molecule.{Molecule}
+use Rattle.molecule.specs.Record.{wellFormed}
+use Rattle.sheet.specs.Read.{readSheet}
+use Rattle.sheet.proofs.Accepted.{accepted-well-formed}
+use Rattle.search.specs.declared.Search.{Search}
+use Rattle.search.specs.declared.Ran.{Ran}
+use Rattle.search.specs.declared.Saved.the-variants.{Written}
+use Rattle.search.specs.Place.{familyOf, family, stateOf, searchAt, freshSearch, kindKept, restorable}
+use Rattle.search.specs.Entries.{accepted, startRings, startPaths, outcome, ran, runSearch, runOutput}
+use Rattle.search.specs.Mark.{markText, saveOutput, restoreMark}
+use Rattle.search.proofs.Readings.{family-lawful, KindFacts, kind-facts, atom-of}
+use Rattle.search.proofs.Views.{restorable-valid, valid-full, fresh-restorable, run-restorable}
+use Rattle.search.proofs.MarkLaws.{saved-restores, save-writes}
+use Rattle.reference.specs.Table.{Line, moleculeOf, freshOf, Saves, Holds, AllHold}
+
+-- ---- what entries answer where rules 9 and 12 are kept
+
+module _ (R : Molecule) (good : wellFormed R ≡ true) where
+  start-answers :
+      (kind s t : ℕ) → kindKept (R .atoms) kind s t ≡ true →
+      cond (eqb kind 0) (startRings R) (startPaths R s t) ≡ accepted (freshSearch kind s t)
+  unfolding startRings startPaths
+  start-answers kind s t kept = go (kind-facts (R .atoms) kind s t kept)
+    where
+      go :
+          KindFacts (R .atoms) kind s t →
+          cond (eqb kind 0) (startRings R) (startPaths R s t) ≡ accepted (freshSearch kind s t)
+      go (inl f) = rw (f .0, f .1, f .2, good)
+      go (inr f) =
+          let ends = f .1 in
+          let s-atom = atom-of (R .atoms) s (ends .s-low) (ends .s-high) in
+          let t-atom = atom-of (R .atoms) t (ends .t-low) (ends .t-high) in
+          rw (f .0, good, s-atom, t-atom, ne-eqb s t (ends .differ))
+
+  module _ (q : Search) (kept : restorable R q ≡ true) (budget : ℕ) (out : List ℕ) where
+    run-answers : runSearch R q budget out ≡ ran q (outcome R q budget out)
+    unfolding runSearch
+    run-answers = rw (good, kept)
+
+    run-leaves :
+        let bytes = outcome R q budget out .bytes in
+        runOutput R q budget out ≡ bytes ++ drop (length bytes) out
+    unfolding runOutput
+    run-leaves = rw (good, kept)
+
+    run-kept : restorable R (ran q (outcome R q budget out) .search) ≡ true
+    run-kept = run-restorable R q good kept budget (length out)
+
+    -- the mark of the search that it returns restores that search
+    run-restores :
+        let after = ran q (outcome R q budget out) .search in
+        restoreMark R (markText R after) ≡ accepted after
+    run-restores =
+        let F = family R q in
+        let lawful = family-lawful R (q .kind) (q .s) (q .t) in
+        let end = outcome R q budget out .state in
+        let start = restorable-valid R q kept in
+        let valid : Valid F end = run-keeps-valid F lawful budget (length out) (stateOf q) start in
+        saved-restores R (searchAt (q .kind) (q .s) (q .t) end) good run-kept
+        (valid-full R (q .kind) (q .s) (q .t) good end valid)
+
+  -- a save into a buffer with room for the mark
+  save-leaves :
+      (q : Search) (buffer : List ℕ) → restorable R q ≡ true → length (markText R q) ≤ length buffer →
+      saveOutput R q buffer ≡ markText R q ++ drop (length (markText R q)) buffer
+  unfolding saveOutput
+  save-leaves q buffer kept room = rw (save-writes R q buffer good kept room)
+
+-- ---- a line
+
+-- what a run answers and leaves in the output
+abbrev pub entered : Line → Outcome → Ran × List ℕ
+entered l o = (ran (freshOf l) o, o .bytes ++ drop (length (o .bytes)) (l .output))
+
+-- What a line says where nothing is turned back: both sides of every equation compute
+pub record Computed (l : Line) : Type 0 where
+  pub reads : readSheet (l .sheet) .answer ≡ Accepted
+  pub kinds : kindKept (moleculeOf l .atoms) (l .kind) (l .s) (l .t) ≡ true
+  pub lists : members (familyOf (moleculeOf l) (l .kind) (l .s) (l .t)) ≡ l .list
+  pub runs : entered l (outcome (moleculeOf l) (freshOf l) (l .budget) (l .output)) ≡ (l .returned, l .written)
+  pub marks : markText (moleculeOf l) (l .returned .search) ≡ l .mark
+  pub measures : length (l .mark) ≡ l .size
+
+module _ (l : Line) (c : Computed l) where
+  good : wellFormed (moleculeOf l) ≡ true
+  good = accepted-well-formed (l .sheet) (c .reads)
+
+  fresh-kept : restorable (moleculeOf l) (freshOf l) ≡ true
+  fresh-kept = fresh-restorable (moleculeOf l) (l .kind) (l .s) (l .t) good (c .kinds)
+
+  returned-is : ran (freshOf l) (outcome (moleculeOf l) (freshOf l) (l .budget) (l .output)) ≡ l .returned
+  returned-is = ap (λ (x : Ran × List ℕ). x .0) (c .runs)
+
+  returned-kept : restorable (moleculeOf l) (l .returned .search) ≡ true
+  returned-kept =
+      subst (λ (r : Ran). restorable (moleculeOf l) (r .search) ≡ true) returned-is
+      (run-kept (moleculeOf l) good (freshOf l) fresh-kept (l .budget) (l .output))
+
+  mark-size : length (markText (moleculeOf l) (l .returned .search)) ≡ l .size
+  mark-size = ap length (c .marks) ∙ c .measures
+
+  line-saves : (buffer : List ℕ) → l .size ≤ length buffer → Saves l buffer
+  line-saves buffer room =
+      let fits : length (markText (moleculeOf l) (l .returned .search)) ≤ length buffer = rw mark-size room in
+      record {
+        answers =
+            save-writes (moleculeOf l) (l .returned .search) buffer good returned-kept fits
+            ∙ ap Written mark-size;
+        leaves =
+            save-leaves (moleculeOf l) good (l .returned .search) buffer returned-kept fits
+            ∙ ap₂ (λ (m : List ℕ) (k : ℕ). m ++ drop k buffer) (c .marks) mark-size;
+      }
+
+  line-holds : Holds l
+  line-holds =
+      let R = moleculeOf l in
+      record {
+        reads = c .reads;
+        starts = start-answers R good (l .kind) (l .s) (l .t) (c .kinds);
+        lists = c .lists;
+        returns = run-answers R good (freshOf l) fresh-kept (l .budget) (l .output) ∙ returned-is;
+        writes =
+            run-leaves R good (freshOf l) fresh-kept (l .budget) (l .output)
+            ∙ ap (λ (x : Ran × List ℕ). x .1) (c .runs);
+        marks = c .marks;
+        measures = c .measures;
+        saves = line-saves;
+        restores =
+            ap (restoreMark R) (sym (c .marks))
+            ∙ subst (λ (r : Ran). restoreMark R (markText R (r .search)) ≡ accepted (r .search)) returned-is
+            (run-restores R good (freshOf l) fresh-kept (l .budget) (l .output));
+      }
+
+abbrev pub AllComputed : List Line → Type 0
+AllComputed [] = Unit
+AllComputed (l ∷ rest) = Computed l × AllComputed rest
+
+pub all-hold : (ls : List Line) → AllComputed ls → AllHold ls
+all-hold [] c = tt
+all-hold (l ∷ rest) c = (line-holds l (c .0), all-hold rest (c .1))
