@@ -6,7 +6,7 @@ use mathlib.Core.Path.{_≡_, refl, sym, ap, subst, _∙_}
 use mathlib.Core.Logic.{_⊎_, inl, inr}
 use mathlib.Core.Bool.{Bool, true, false, _||_, cond}
 use mathlib.Core.List.{List, [], _∷_, _++_, append-assoc}
-use lib.ListN.{length, drop}
+use lib.ListN.{length, take, drop}
 use lib.Seq.{take-append-seam, drop-append-seam}
 use lib.Dec.{eqb}
 use borrow.Author.Tests.{lt-leb, le-ltb, ne-eqb}
@@ -38,7 +38,7 @@ use Rattle.history.proofs.Reached as history
 use Rattle.history.proofs.Joined.{standing-joined, history-joined}
 use Rattle.history.proofs.Stands as stands
 use Rattle.host.specs.Resume.{Resumed, endedNumber, searchFor, resume, markSize, listedIn}
-use Rattle.host.specs.Calls.{HostCall, returned, isRefused, Kept, firstRecords, markLeft, keptAfter, callsIn}
+use Rattle.host.specs.Calls.{HostCall, returned, isRefused, Kept, firstRecords, markLeft, newRecords, keptAfter, callsIn}
 use Rattle.host.proofs.Answers.{search-restored}
 use Rattle.host.proofs.Sizes.{listed-restored}
 use Rattle.host.proofs.Laws.{Went, resume-accepted}
@@ -267,7 +267,10 @@ module _
     size-is = rw ran-is at (told .size-is)
 
     mark-is : markLeft c ≡ new-mark
-    mark-is = rw (size-is, next-is) (take-append-seam new-mark (drop (length new-mark) (c .next)))
+    mark-is =
+        ap (λ (n : ℕ). take n (returned c .nextMark)) size-is
+        ∙ ap (take (length new-mark)) next-is
+        ∙ take-append-seam new-mark (drop (length new-mark) (c .next))
 
     ran-counts : listedIn new-mark ≡ ran-to .search .listed
     ran-counts = mark-counts (L .mol) new-mark (ran-to .search) (ran-on .restore-accepted)
@@ -294,12 +297,12 @@ module _
     unfolding searchAt
     ran-listed = refl
 
-    risen : listedIn (markLeft c) - listedIn (k .mark) ≡ length new
+    risen : newRecords k c ≡ length new
     risen =
         let before = parts-in L (v .reached) .listed-is in
         omega (arith, ap listedIn mark-is, ran-counts, v .listed-known, ran-listed, outcome-holds .listing)
 
-    new-records : firstRecords (listedIn (markLeft c) - listedIn (k .mark)) (returned c .rings) ≡ outcome .bytes
+    new-records : firstRecords (newRecords k c) (returned c .rings) ≡ outcome .bytes
     new-records =
         rw (risen, rings-is) (first-records new (drop (length (records new)) (c .rings)) ∙ sym (outcome-holds .wrote))
 

@@ -57,12 +57,13 @@ firstRecords (suc k) (size ∷ bytes) = size ∷ (take size bytes ++ firstRecord
 abbrev pub markLeft : HostCall → List ℕ
 markLeft c = take (markSize (returned c .nextMark)) (returned c .nextMark)
 
--- After an accepted call: its mark, and as many more records as listed has risen by
+-- How many records it wrote: by as much listed has risen
+abbrev pub newRecords : Kept → HostCall → ℕ
+newRecords k c = listedIn (markLeft c) - listedIn (k .mark)
+
+-- After an accepted call: its mark, and so many more records
 abbrev pub keptThen : Kept → HostCall → Kept
-keptThen k c = record {
-  mark = markLeft c;
-  rings = k .rings ++ firstRecords (listedIn (markLeft c) - listedIn (k .mark)) (returned c .rings);
-}
+keptThen k c = record { mark = markLeft c; rings = k .rings ++ firstRecords (newRecords k c) (returned c .rings) }
 
 -- After any call: a refused one changes nothing
 unfoldable pub keptAfter : Kept → HostCall → Kept
