@@ -3,7 +3,7 @@
 use Prim.Native.Nat.{ℕ, _+_, _*_, _^_, _≤_, _<_}
 use native.Mathlib.Omega.{arith}
 use mathlib.Core.Path.{_≡_, ap, sym, _∙_}
-use mathlib.Core.Bool.{true}
+use mathlib.Core.Bool.{Bool, true, cond}
 use mathlib.Core.List.{List}
 use lib.ListN.{length, take, drop, length-drop}
 use lib.Seq.{length-take-le}
@@ -99,7 +99,9 @@ module _ (bytes : List ℕ) where
 
         pub size-past : length bytes < 91 + 4 * k → 0 ≡ markSize bytes
         unfolding markSize
-        size-past h = rw (le-leb 91 (length bytes) room, sym is ∙ read, lt-leb (91 + 4 * k) (length bytes) h)
+        size-past h =
+            rw (le-leb 91 (length bytes) room, sym is ∙ read)
+            (sym (ap (λ (b : Bool). cond b (91 + 4 * k) 0) (lt-leb (91 + 4 * k) (length bytes) h)))
 
         pub size-read : 91 + 4 * k ≤ length bytes → 91 + 4 * k ≡ markSize bytes
         unfolding markSize

@@ -1,5 +1,6 @@
 pub mod Answers
 pub mod Sizes
 pub mod Laws
+pub mod Fresh
 pub mod OneCall
 pub mod History

@@ -1,5 +1,5 @@
--- Repeated calls from C (document 01, "Judge, host entry and `ringlist`"): what a host keeps between them, and what demand 3 then says of it.
--- The host keeps a mark and the records so far; it learns the number of new records from the listed counts of the two marks.
+-- Repeated calls from C (document 01, "Judge, host entry and `ringlist`"): what a host keeps, and what demand 3 says of it.
+-- It keeps a mark and the records so far; it learns the number of new records from the listed counts of the two marks.
 use Prim.Native.Nat.{ℕ, zero, suc, _+_, _-_, _*_, _≤_, _<_}
 use mathlib.Core.Path.{_≡_}
 use mathlib.Core.Logic.{_⊎_}
@@ -9,11 +9,10 @@ use lib.ListN.{length, take, drop}
 use lib.Dec.{ltb, eqb}
 use Rattle.enumeration.specs.Words.{members}
 use Rattle.enumeration.specs.Trials.{records}
-use Rattle.chordless.specs.Families.{rings}
 use Rattle.molecule.specs.declared.Molecule.{Molecule}
-use Rattle.molecule.specs.Record.{bonded}
 use Rattle.sheet.specs.Read.{readSheet}
 use Rattle.search.specs.declared.Search.{Search}
+use Rattle.search.specs.Place.{familyOf, freshSearch, kindKept}
 use Rattle.search.specs.Entries.{runSearch}
 use Rattle.search.specs.Mark.{markText}
 use Rattle.history.specs.Calls.{Call, runs, saves, restores, Standing, start, History}
@@ -58,9 +57,13 @@ firstRecords (suc k) (size ∷ bytes) = size ∷ (take size bytes ++ firstRecord
 abbrev pub markLeft : HostCall → List ℕ
 markLeft c = take (markSize (returned c .nextMark)) (returned c .nextMark)
 
--- After an accepted call: its mark, and as many more records as listed has risen by
+-- How many records it wrote: by as much listed has risen
+abbrev pub newRecords : Kept → HostCall → ℕ
+newRecords k c = listedIn (markLeft c) - listedIn (k .mark)
+
+-- After an accepted call: its mark, and so many more records
 abbrev pub keptThen : Kept → HostCall → Kept
-keptThen k c = record { mark = markLeft c; rings = k .rings ++ firstRecords (listedIn (markLeft c) - listedIn (k .mark)) (returned c .rings) }
+keptThen k c = record { mark = markLeft c; rings = k .rings ++ firstRecords (newRecords k c) (returned c .rings) }
 
 -- After any call: a refused one changes nothing
 unfoldable pub keptAfter : Kept → HostCall → Kept
@@ -99,11 +102,20 @@ unfoldable pub returnedDone : List HostCall → Bool
 returnedDone [] = false
 returnedDone (c ∷ calls) = eqb (returned c .number) 101 || returnedDone calls
 
--- ---- what holds after them
+-- ---- the starts
 
--- The rings of a molecule, in dictionary order
-abbrev pub ringsOf : Molecule → List (List ℕ)
-ringsOf R = members (rings (R .atoms) (bonded (R .atoms) (R .rows)))
+-- The mark that a host keeps at first, to start a search of a kind, s and t that rule 16 allows on the record:
+-- that of the fresh search, or no bytes for the ring search
+abbrev pub FirstMark : Molecule → ℕ → ℕ → ℕ → List ℕ → Type 0
+FirstMark R kind s t first =
+    (kindKept (R .atoms) kind s t ≡ true)
+    × ((first ≡ markText R (freshSearch kind s t)) ⊎ ((first ≡ []) × (kind ≡ 0) × (s ≡ 0) × (t ≡ 0)))
+
+-- The list of a search of a kind, s and t: its members, in dictionary order
+abbrev pub listOf : Molecule → ℕ → ℕ → ℕ → List (List ℕ)
+listOf R kind s t = members (familyOf R kind s t)
+
+-- ---- what holds after the calls
 
 -- Calls handed the sheet of the record R and the mark as it stands, with 599 bytes for the next mark
 pub record HostGoesOn (sheet : List ℕ) (R : Molecule) (k : Kept) : Type 0 where
@@ -111,34 +123,42 @@ pub record HostGoesOn (sheet : List ℕ) (R : Molecule) (k : Kept) : Type 0 wher
   pub accepted : (c : HostCall) → c .sheet ≡ sheet → c .mark ≡ k .mark → 599 ≤ length (c .next) → isRefused c ≡ false
   -- and with 2 × n × n trials and n + 1 bytes list a member, or return 101 or 102
   pub progress :
-      (c : HostCall) → c .sheet ≡ sheet → c .mark ≡ k .mark → 599 ≤ length (c .next) → 2 * R .atoms * R .atoms ≤ c .budget → R .atoms + 1 ≤ length (c .rings) →
+      (c : HostCall) → c .sheet ≡ sheet → c .mark ≡ k .mark → 599 ≤ length (c .next) →
+      2 * R .atoms * R .atoms ≤ c .budget → R .atoms + 1 ≤ length (c .rings) →
       (listedIn (k .mark) < listedIn (keptAfter k c .mark)) ⊎ (returned c .number ≡ 101) ⊎ (returned c .number ≡ 102)
 
--- What holds after calls from C on a sheet whose record is R, the first of them without a mark:
--- k is what the host keeps, x what stands after all that the calls did
-pub record HostDemand (sheet : List ℕ) (R : Molecule) (calls : List HostCall) (k : Kept) (x : Standing) : Type 0 where
-  -- what they did is a list of runs, saves and restores that demand 3 speaks of
-  pub is-history : History R (start 0 0 0) (allCallsIn calls)
-  pub demand : Demand R 0 0 0 (allCallsIn calls) x
-  -- no mark is kept as long as nothing was done, and then the mark of the search as it stands
-  pub mark-stands : ((k .mark ≡ []) × (x ≡ start 0 0 0)) ⊎ (k .mark ≡ markText R (x .search))
+-- What the host keeps, k, and what stands, x, after calls on the sheet of the record R;
+-- at first the host kept the mark `first`, and x₀ stood
+pub record HostStands
+    (sheet : List ℕ) (R : Molecule) (first : List ℕ) (x₀ : Standing)
+    (calls : List HostCall) (k : Kept) (x : Standing) : Type 0 where
+  -- what the calls did is a list of runs, saves and restores that demand 3 speaks of
+  pub is-history : History R x₀ (allCallsIn calls)
+  -- the mark kept is that of the search as it stands; or none, where it was none at first and nothing was done since
+  pub mark-stands : (k .mark ≡ markText R (x .search)) ⊎ ((k .mark ≡ []) × (first ≡ []) × (x ≡ x₀))
   pub listed-known : listedIn (k .mark) ≡ x .search .listed
-  -- the records kept are the ring sheet: the first rings of the molecule, as many as the mark's listed count says
+  -- the records kept are the ring sheet
   pub records-kept : k .rings ≡ x .sheet
-  pub records-first : k .rings ≡ records (take (listedIn (k .mark)) (ringsOf R))
-  -- after a call that returned 101 they are all of them
-  pub done-whole : returnedDone calls ≡ true → k .rings ≡ records (ringsOf R)
   pub goes-on : HostGoesOn sheet R k
 
--- What holds after them where the first was handed a mark of any kind, which restores the search q
-pub record HostFromMark (sheet : List ℕ) (R : Molecule) (q : Search) (calls : List HostCall) (k : Kept) (x : Standing) : Type 0 where
-  pub is-history : History R (from q) (allCallsIn calls)
+-- What holds after calls that started a search of a kind, s and t
+pub record HostDemand
+    (sheet : List ℕ) (R : Molecule) (kind s t : ℕ) (first : List ℕ)
+    (calls : List HostCall) (k : Kept) (x : Standing) : Type 0 where
+  pub stands : HostStands sheet R first (start kind s t) calls k x
+  pub demand : Demand R kind s t (allCallsIn calls) x
+  -- the records kept are the first of the list, as many as the mark's listed count says
+  pub records-first : k .rings ≡ records (take (listedIn (k .mark)) (listOf R kind s t))
+  -- after a call that returned 101 they are all of it
+  pub done-whole : returnedDone calls ≡ true → k .rings ≡ records (listOf R kind s t)
+
+-- What holds after calls that began with a mark of any kind, which restores the search q
+pub record HostFromMark
+    (sheet : List ℕ) (R : Molecule) (mark : List ℕ) (q : Search)
+    (calls : List HostCall) (k : Kept) (x : Standing) : Type 0 where
+  pub stands : HostStands sheet R mark (from q) calls k x
   pub from-mark : FromMark R q (allCallsIn calls) x
-  pub mark-stands : k .mark ≡ markText R (x .search)
-  pub listed-known : listedIn (k .mark) ≡ x .search .listed
-  -- the records kept are the first of the members that follow the place of that mark, as many as listed has risen by since
-  pub records-kept : k .rings ≡ x .sheet
+  -- the records kept are the first of the members that follow the mark's place, as many as listed has risen by since
   pub records-first : k .rings ≡ records (take (listedIn (k .mark) - q .listed) (followers R q))
   -- after a call that returned 101 they are all that follow
   pub done-whole : returnedDone calls ≡ true → k .rings ≡ records (followers R q)
-  pub goes-on : HostGoesOn sheet R k
