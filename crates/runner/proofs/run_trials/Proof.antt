@@ -126,7 +126,7 @@ written c =
     let st = stateAt (loop .prefix) (loop .at) in
     let word = take (loop .at .len) (loop .prefix) ++ loop .at .next ∷ [] in
     ⊎-elim
-    (λ w. written-record (family start) st (loop .out) (loop .used) word (c .if5 .out) (loop .at .len + 2) (c .if5 .used) (listed-word (c .before) (w .0 .taken)) (record-size (again (c .before .before .before .before .before .before .before .before))) (w .1 .left)
+    (λ w. written-record (family start) st (loop .out) (loop .used) word (c .if5 .out) (loop .at .len + 2) (c .if5 .used) (listed-word (c .before) (w .0 .taken)) (record-size (again (c .before .before .before .before .before .before .before .before))) (omega (arith, w .1 .left))
     (w .7 ∙ part-back (loop .out) (w .4 .last .0) (recordOf word) (loop .used) (loop .at .len + 2) (in-room (again (c .before .before .before .before .before .before .before .before)) .0) (w .4 .ensures)) (w .8))
     (λ w. rw (w .1, w .2) (written-none (family start) st (loop .out) (loop .used) (sym (member-told (c .before)) ∙ w .0 .left)))
     (c .if5 .came)
