@@ -1,68 +1,122 @@
--- The turns of `ringlist`: each runs the search as it stands and prints what it lists, until a run says done or limit.
-use Prim.Native.Nat.{ℕ, _-_, _*_, _≤_}
+-- The turns of `ringlist`: the listing of an input, the piece of the text that each turn prints, and what is left then.
+-- The contracts of `text::open` and `text::take_turn` cite these. What they amount to is `turns-joined`.
+use Prim.Native.Nat.{ℕ, _*_}
 use mathlib.Core.Path.{_≡_}
-use mathlib.Core.Logic.{_⊎_}
-use mathlib.Core.Bool.{Bool, true, false}
-use mathlib.Core.List.{List}
-use lib.ListN.{length, take, drop}
+use mathlib.Core.Bool.{Bool, true, false, cond}
+use mathlib.Core.List.{List, _++_}
+use lib.ListN.{length, take, replicate}
+use lib.Dec.{ltb}
 use Rattle.enumeration.specs.declared.Stop.{Stop}
 use Rattle.enumeration.specs.declared.Stop.the-variants.{Done, Limit, Spent, Full}
-use Rattle.enumeration.specs.Words.{members}
-use Rattle.enumeration.specs.Machine.{isDone}
-use Rattle.enumeration.specs.Run.{atLimit}
+use Rattle.refusal.specs.declared.Refusal.the-variants as refusal
+use Rattle.refusal.specs.declared.Answer.{Answer}
+use Rattle.refusal.specs.declared.Answer.the-variants as answer
+use Rattle.refusal.specs.Number.{numberOf}
 use Rattle.molecule.specs.declared.Molecule.{Molecule}
-use Rattle.molecule.specs.Record.{wellFormed}
+use Rattle.molecule.specs.Record.{freshMolecule}
+use Rattle.sheet.specs.declared.Sheet.{Sheet}
+use Rattle.sheet.specs.Read.{readSheet}
 use Rattle.search.specs.declared.Search.{Search}
+use Rattle.search.specs.declared.Ran.{Ran}
 use Rattle.search.specs.declared.Ended.{Ended}
-use Rattle.search.specs.declared.Ended.the-variants.{Stopped, Refused}
-use Rattle.search.specs.Place.{familyOf, stateOf, freshSearch}
-use Rattle.search.specs.Entries.{runSearch}
-use Rattle.history.specs.Calls.{Call, start, standing, History}
-use Rattle.report.specs.Lines.{linesOf, countLine}
-use Rattle.ringlist.specs.declared.Turn.{Turn}
+use Rattle.search.specs.declared.Ended.the-variants as ended
+use Rattle.search.specs.Place.{freshSearch}
+use Rattle.search.specs.Entries.{runSearch, runOutput}
+use Rattle.report.specs.Lines.{refusalLine, ringLines, countLine, printed, printedOn}
+use Rattle.ringlist.specs.declared.text.Part.{Part}
+use Rattle.ringlist.specs.declared.text.Part.the-variants.{Refused, Rings, Counts}
+use Rattle.ringlist.specs.declared.text.Listing.{Listing}
+use Rattle.ringlist.specs.declared.text.Turn.{Turn}
 
--- the trials of one run, more than 2 × 128 × 128
+-- ---- the listing of an input, before its first piece
+
+abbrev pub begun : Part → Molecule → Listing
+begun part m = record { part = part; molecule = m; search = freshSearch 0 0 0 }
+
+-- the part that a sheet's answer begins with
+abbrev pub firstPart : Answer → Part
+firstPart answer.Accepted = Rings
+firstPart (answer.Refused r) = Refused r
+
+abbrev pub begunSheet : Sheet → Listing
+begunSheet sheet = begun (firstPart (sheet .answer)) (sheet .molecule)
+
+unfoldable pub opened : List ℕ → Listing
+opened input =
+    cond (ltb 65529 (length input)) (begun (Refused refusal.SheetLength) freshMolecule) (begunSheet (readSheet input))
+
+-- ---- one run more
+
+-- its trials, more than 2 × 128 × 128
 abbrev pub budget : ℕ
 budget = 1048576
 
-abbrev pub stopIsLast : Stop → Bool
-stopIsLast Done = true
-stopIsLast Limit = true
-stopIsLast Spent = false
-stopIsLast Full = false
+-- its output, larger than a record of 128 atoms
+unfoldable pub output : List ℕ
+output = replicate 16384 0
 
--- No further run follows one that says done or limit, or is refused
-abbrev pub isLast : Ended → Bool
-isLast (Stopped why) = stopIsLast why
-isLast (Refused r) = true
+-- what it leaves, and the records that it writes
+abbrev pub oneRun : Molecule → Search → Ran
+oneRun m q = runSearch m q budget output
 
--- The rings of a record, in dictionary order
-abbrev pub ringsOf : Molecule → List (List ℕ)
-ringsOf m = members (familyOf m 0 0 0)
+abbrev pub runRecords : Molecule → Search → List ℕ
+runRecords m q = take (oneRun m q .used) (runOutput m q budget output)
 
--- q stands after some list of calls on the record m that began with the fresh ring search: what demand 3 speaks of
-abbrev pub Stands : Molecule → Search → Type 0
-Stands m q = (calls : List Call) × History m (start 0 0 0) calls × (q ≡ standing (start 0 0 0) calls .search)
+-- The counts come after a run that says done or limit, or is refused; otherwise more rings
+abbrev pub partAfterStop : Stop → Part
+partAfterStop Done = Counts
+partAfterStop Limit = Counts
+partAfterStop Spent = Rings
+partAfterStop Full = Rings
 
--- What a turn leaves: the search that the run returns, and at the start of the text the lines of the rings that the run listed, those after the first `listed` ones
-pub record Turned (m : Molecule) (q : Search) (out text : List ℕ) (r : Turn) : Type 0 where
-  pub search-is : r .search ≡ runSearch m q budget out .search
-  pub last-is : r .last ≡ isLast (runSearch m q budget out .ended)
-  pub lines : take (r .size) text ≡ linesOf (take (r .search .listed - q .listed) (drop (q .listed) (ringsOf m)))
-  pub within : r .size ≤ length text
+abbrev pub partAfter : Ended → Part
+partAfter (ended.Stopped why) = partAfterStop why
+partAfter (ended.Refused r) = Counts
 
--- What the listing starts from: the fresh ring search, an output for every record of 128 atoms, and a text for the lines of a whole output
-pub record Ready (m : Molecule) (q : Search) (out text : List ℕ) : Type 0 where
-  pub good : wellFormed m ≡ true
-  pub fresh-search : q ≡ freshSearch 0 0 0
-  pub output-room : 129 ≤ length out
-  pub text-room : 4 * length out ≤ length text
+-- ---- a turn, handed a buffer
 
--- What it ends with: the search as it stands is done, so that demand 3 says that it has listed every ring, or a count stands at its limit
-pub record Finished (m : Molecule) (q : Search) : Type 0 where
-  pub stands : Stands m q
-  pub over : (isDone (m .atoms) (stateOf q) ≡ true) ⊎ (atLimit (stateOf q) ≡ true)
+abbrev pub turnOf : Listing → ℕ → Bool → Turn
+turnOf next size last = record { listing = next; size = size; last = last }
 
--- The line of its counts
+-- the lines of a run, which have room in 4 bytes for each byte of its records
+abbrev pub ringsTurn : Molecule → Search → List ℕ → Turn
+ringsTurn m q buffer =
+    let next : Listing = record { part = partAfter (oneRun m q .ended); molecule = m; search = oneRun m q .search } in
+    turnOf next (printed (4 * length (runRecords m q)) (ringLines (runRecords m q)) buffer) false
+
+abbrev pub ringsOn : Molecule → Search → List ℕ → List ℕ
+ringsOn m q buffer = printedOn (4 * length (runRecords m q)) (ringLines (runRecords m q)) buffer
+
+-- the counts
 abbrev pub countsOf : Search → List ℕ
 countsOf q = countLine (q .listed) (q .extensions) (q .trials)
+
+abbrev pub turnedBy : Part → Listing → List ℕ → Turn
+turnedBy (Refused r) l buffer = turnOf l (printed 12 (refusalLine (numberOf r)) buffer) true
+turnedBy Rings l buffer = ringsTurn (l .molecule) (l .search) buffer
+turnedBy Counts l buffer = turnOf l (printed 61 (countsOf (l .search)) buffer) true
+
+abbrev pub textBy : Part → Listing → List ℕ → List ℕ
+textBy (Refused r) l buffer = printedOn 12 (refusalLine (numberOf r)) buffer
+textBy Rings l buffer = ringsOn (l .molecule) (l .search) buffer
+textBy Counts l buffer = printedOn 61 (countsOf (l .search)) buffer
+
+-- What it returns
+abbrev pub turned : Listing → List ℕ → Turn
+turned l buffer = turnedBy (l .part) l buffer
+
+-- and the buffer then
+abbrev pub turnedText : Listing → List ℕ → List ℕ
+turnedText l buffer = textBy (l .part) l buffer
+
+-- Its text: the first bytes of the buffer
+abbrev pub textOf : Listing → List ℕ → List ℕ
+textOf l buffer = take (turned l buffer .size) (turnedText l buffer)
+
+-- The loop of `main`: turns from a listing on, each handed the buffer as the one before left it, come to a last one,
+-- and their texts, joined, are the third argument
+pub data Prints : Listing → List ℕ → List ℕ → Type 0 where
+  ends : (l : Listing) (buffer : List ℕ) → turned l buffer .last ≡ true → Prints l buffer (textOf l buffer)
+  goes-on :
+      (l : Listing) (buffer rest : List ℕ) → turned l buffer .last ≡ false →
+      Prints (turned l buffer .listing) (turnedText l buffer) rest → Prints l buffer (textOf l buffer ++ rest)

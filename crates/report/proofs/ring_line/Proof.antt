@@ -38,7 +38,7 @@ loop-again c =
     (omega arith, ap length text ∙ ring-kept (start .args .text .now) (start .args .atoms .now) (room (c .before .before .before .before .before .before .before .before)) (loop .i + 1) (omega arith), text)
 
 same-length : tie.Need-same-length Inv-loop μ-loop
-same-length c = length-set (c .before .loop .text) (4 * length (c .before .before .before .before .before .before .args .atoms .now)) 10 ∙ c .before .loop .inv .1
+same-length c = rw length-set (c .before .loop .inv .1)
 
 returns-3 : tie.Need-returns-3 Inv-loop μ-loop
 returns-3 c =

@@ -1,0 +1,311 @@
+-- The theorem of `ringlist`: for every input, the texts of the turns, joined, are the text of the input.
+-- By induction on the rings not listed yet: the last search is over, and so is the one that the definition names.
+use Prim.Native.Nat.{ℕ, zero, suc, _+_, _-_, _*_, _≤_, _<_}
+use native.Mathlib.Omega.{arith}
+use mathlib.Core.Path.{_≡_, refl, ap, sym, _∙_, subst}
+use mathlib.Core.Logic.{inl, inr}
+use mathlib.Core.Bool.{Bool, true, false, cond}
+use mathlib.Core.List.{List, [], _∷_, _++_, append-assoc}
+use lib.ListN.{length, take, drop, length-append, length-drop, length-take}
+use lib.Seq.{take-append-seam, take-add, drop-drop}
+use lib.Dec.{ltb}
+use Rattle.graph.proofs.Below.{clash}
+use Rattle.enumeration.specs.Words.{members}
+use Rattle.enumeration.specs.Machine.{State, fresh, isDone}
+use Rattle.enumeration.specs.Run.{atLimit}
+use Rattle.enumeration.specs.Trials.{steps}
+use Rattle.refusal.specs.declared.Refusal.{Refusal}
+use Rattle.refusal.specs.declared.Refusal.the-variants as refusal
+use Rattle.refusal.specs.Number.{numberOf}
+use Rattle.refusal.specs.declared.Answer.{Answer}
+use Rattle.refusal.specs.declared.Answer.the-variants.{Accepted, Refused}
+use Rattle.molecule.specs.declared.Molecule.{Molecule}
+use Rattle.molecule.specs.Record.{wellFormed, freshMolecule}
+use Rattle.sheet.specs.Read.{readSheet}
+use Rattle.sheet.proofs.Accepted.{accepted-well-formed}
+use Rattle.search.specs.declared.Search.{Search}
+use Rattle.search.specs.Place.{searchAt, freshSearch}
+use Rattle.search.proofs.Readings.{family-lawful}
+use Rattle.search.proofs.Views.{state-search}
+use Rattle.history.proofs.Entered.{atoms-most, family-atoms}
+use Rattle.search.specs.Entries.{runOutput}
+use Rattle.report.specs.Lines.{refusalLine, ringLines, linesOf, countLine, printed, printedOn}
+use Rattle.report.proofs.Texts.{printed-whole}
+use Rattle.ringlist.specs.declared.text.Part.{Part}
+use Rattle.ringlist.specs.declared.text.Part.the-variants as part
+use Rattle.ringlist.specs.declared.text.Listing.{Listing}
+use Rattle.ringlist.specs.declared.text.Turn.{Turn}
+use Rattle.ringlist.specs.Text.{ringsOf, wholeRun, listingText, sheetText, printedText}
+use Rattle.ringlist.specs.Turns.{begun, firstPart, begunSheet, opened, budget, output, oneRun, runRecords}
+use Rattle.ringlist.specs.Turns.{partAfter, countsOf, turnedBy, turned, turnedText, textOf, Prints, ends, goes-on}
+use Rattle.ringlist.proofs.Whole.{Over, over-is, whole-is}
+use Rattle.ringlist.proofs.Ends.{Stands, OverAt, fresh-stands, stands-at, output-fits, used-most, listed-rises}
+use Rattle.ringlist.proofs.Ends.{listed-most, run-stands, run-lines, LastOrLists, last-or-lists}
+
+-- ---- a piece in a buffer that has room
+
+module _ {room : ℕ} (line buffer : List ℕ) (h : room ≤ length buffer) where
+  pub piece-text : take (printed room line buffer) (printedOn room line buffer) ≡ line
+  piece-text =
+      let whole = printed-whole room line buffer h in
+      rw (whole .0, whole .1) (take-append-seam line (drop (length line) buffer))
+
+  pub piece-keeps : length buffer ≤ length (printedOn room line buffer)
+  piece-keeps =
+      let whole = printed-whole room line buffer h in
+      omega (
+        arith,
+        ap length (whole .1),
+        length-append line (drop (length line) buffer),
+        length-drop (length line) buffer,
+      )
+
+-- the lines of a run have room in 65,536 bytes
+pub records-fit : (m : Molecule) (q : Search) → 4 * length (runRecords m q) ≤ 65536
+records-fit m q =
+    let bytes = runOutput m q budget output in
+    omega (arith, length-take (oneRun m q .used) bytes, used-most m q budget output, output-fits)
+
+-- ---- lines of rings, split
+
+lines-append : (vs ws : List (List ℕ)) → linesOf (vs ++ ws) ≡ linesOf vs ++ linesOf ws
+unfolding linesOf
+lines-append [] ws = refl
+lines-append (v ∷ vs) ws = rw (lines-append vs ws, append-assoc)
+
+lines-split :
+    (ws : List (List ℕ)) (a b c : ℕ) → a ≤ b → b ≤ c →
+    linesOf (take (c - a) (drop a ws)) ≡ linesOf (take (b - a) (drop a ws)) ++ linesOf (take (c - b) (drop b ws))
+lines-split ws a b c h k =
+    let whole : c - a ≡ (b - a) + (c - b) = omega arith in
+    let there : a + (b - a) ≡ b = omega arith in
+    ap (λ (n : ℕ). linesOf (take n (drop a ws))) whole
+    ∙ ap linesOf (take-add (b - a) (c - b) (drop a ws))
+    ∙ ap (λ (l : List (List ℕ)). linesOf (take (b - a) (drop a ws) ++ take (c - b) l))
+    (drop-drop (b - a) a ws ∙ ap (λ (n : ℕ). drop n ws) there)
+    ∙ lines-append (take (b - a) (drop a ws)) (take (c - b) (drop b ws))
+
+-- ---- from a search that stands
+
+abbrev ringsFrom : Molecule → Search → Listing
+ringsFrom m q = record { part = part.Rings; molecule = m; search = q }
+
+abbrev countsFrom : Molecule → Search → Listing
+countsFrom m q = record { part = part.Counts; molecule = m; search = q }
+
+-- the lines of the rings that p has listed after q
+abbrev linesBetween : Molecule → Search → Search → List ℕ
+linesBetween m q p = linesOf (take (p .listed - q .listed) (drop (q .listed) (members (ringsOf m))))
+
+-- the turns from q on print the rings that the last search lists after it, and its counts
+record Printed (m : Molecule) (q : Search) (buffer : List ℕ) : Type 0 where
+  final : Search
+  stands : Stands m final
+  over : OverAt m final
+  rises : q .listed ≤ final .listed
+  prints : Prints (ringsFrom m q) buffer (linesBetween m q final ++ countsOf final)
+
+module _ (m : Molecule) (good : wellFormed m ≡ true) where
+  module _ (q : Search) (s : Stands m q) (buffer : List ℕ) (room : 65536 ≤ length buffer) where
+    abbrev next : Search
+    next = oneRun m q .search
+
+    abbrev then : List ℕ
+    then = turnedText (ringsFrom m q) buffer
+
+    fits : 4 * length (runRecords m q) ≤ length buffer
+    fits = omega (arith, records-fit m q)
+
+    text-is : textOf (ringsFrom m q) buffer ≡ linesBetween m q next
+    text-is = piece-text _ buffer fits ∙ run-lines m good q s
+
+    then-room : 65536 ≤ length then
+    then-room = omega (arith, piece-keeps {room = 4 * length (runRecords m q)} (ringLines (runRecords m q)) buffer fits)
+
+    -- the run and then the counts
+    last-turns :
+        partAfter (oneRun m q .ended) ≡ part.Counts →
+        Prints (ringsFrom m q) buffer (linesBetween m q next ++ countsOf next)
+    last-turns e =
+        let counts : textOf (countsFrom m next) then ≡ countsOf next = piece-text _ then (omega (arith, then-room)) in
+        let last : List ℕ = textOf (countsFrom m next) then in
+        rw (← text-is, ← counts) (goes-on (ringsFrom m q) buffer last refl (rw e (ends (countsFrom m next) then refl)))
+
+    -- the run and then more of them
+    more-turns :
+        (p : Printed m next then) → partAfter (oneRun m q .ended) ≡ part.Rings → q .listed ≤ next .listed →
+        Printed m q buffer
+    more-turns p e h =
+        let rest : List ℕ = linesBetween m next (p .final) ++ countsOf (p .final) in
+        let turns : Prints (ringsFrom m q) buffer (textOf (ringsFrom m q) buffer ++ rest) =
+        goes-on (ringsFrom m q) buffer rest refl (rw e (p .prints)) in
+        let split = lines-split (members (ringsOf m)) (q .listed) (next .listed) (p .final .listed) h (p .rises) in
+        let lines : textOf (ringsFrom m q) buffer ++ rest ≡ linesBetween m q (p .final) ++ countsOf (p .final) =
+        ap (λ (t : List ℕ). t ++ rest) text-is
+        ∙ sym (append-assoc (linesBetween m q next) (linesBetween m next (p .final)) (countsOf (p .final)))
+        ∙ ap (λ (t : List ℕ). t ++ countsOf (p .final)) (sym split) in
+        record {
+          final = p .final;
+          stands = p .stands;
+          over = p .over;
+          rises = omega (arith, p .rises);
+          prints = subst (Prints (ringsFrom m q) buffer) lines turns;
+        }
+
+    -- one run, and what is known of the search that it leaves if it has listed more
+    step : (q .listed < next .listed → Printed m next then) → Printed m q buffer
+    step rest = by (last-or-lists m good q s)
+      where
+        by : LastOrLists m good q → Printed m q buffer
+        by (inl (e, over)) = record {
+          final = next;
+          stands = run-stands m good q s;
+          over = over;
+          rises = listed-rises m q budget output;
+          prints = last-turns e;
+        }
+        by (inr (e, more)) = more-turns (rest more) e (omega arith)
+
+  rings-print :
+      (k : ℕ) (q : Search) → Stands m q → length (members (ringsOf m)) - q .listed ≤ k →
+      (buffer : List ℕ) → 65536 ≤ length buffer → Printed m q buffer
+  rings-print zero q s h buffer room =
+      let stands = run-stands m good q s in
+      step q s buffer room (λ more. absurd (omega (arith, listed-most m good (oneRun m q .search) stands)))
+  rings-print (suc k) q s h buffer room =
+      let stands = run-stands m good q s in
+      let enough = then-room q s buffer room in
+      step q s buffer room
+      (λ more. rings-print k (oneRun m q .search) stands (omega arith) (then q s buffer room) enough)
+
+  -- the last search is the one that the definition names
+  over-state : (st : State) → OverAt m (searchAt 0 0 0 st) → Over (ringsOf m) st
+  over-state st (inl d) =
+      let same = ap (isDone (m .atoms)) (state-search 0 0 0 st) in
+      inl (subst (λ (n : ℕ). isDone n st ≡ true) (sym (family-atoms m 0 0 0)) (sym same ∙ d))
+  over-state st (inr a) = inr (sym (ap atLimit (state-search 0 0 0 st)) ∙ a)
+
+  final-is : (p : Search) → Stands m p → OverAt m p → p ≡ searchAt 0 0 0 (wholeRun m .state)
+  unfolding wholeRun
+  final-is p s o =
+      let F = ringsOf m in
+      let L = family-lawful m 0 0 0 in
+      let at = stands-at m good p s in
+      let short : F .atoms ≤ 128 = omega (arith, family-atoms m 0 0 0, atoms-most m good) in
+      let same = over-is F L (at .0) (at .2) (over-state (steps F (at .0) fresh) (subst (OverAt m) (at .1) o)) in
+      at .1 ∙ ap (searchAt 0 0 0) (same ∙ sym (whole-is F L short))
+
+  listing-of :
+      (p : Search) (st : State) → p ≡ searchAt 0 0 0 st →
+      linesBetween m (freshSearch 0 0 0) p ++ countsOf p ≡ listingText m st
+  unfolding listingText freshSearch searchAt fresh
+  listing-of p st e =
+      let none : st .listed - 0 ≡ st .listed = omega arith in
+      let counts : List ℕ = countLine (st .listed) (st .extensions) (st .trials) in
+      rw e (ap (λ (n : ℕ). linesOf (take n (members (ringsOf m))) ++ counts) none)
+
+  accepted-prints :
+      (buffer : List ℕ) → 65536 ≤ length buffer →
+      Prints (begun part.Rings m) buffer (listingText m (wholeRun m .state))
+  accepted-prints buffer room =
+      let all : ℕ = length (members (ringsOf m)) in
+      let p = rings-print all (freshSearch 0 0 0) (fresh-stands m) (omega arith) buffer room in
+      subst (Prints (begun part.Rings m) buffer)
+      (listing-of (p .final) (wholeRun m .state) (final-is (p .final) (p .stands) (p .over)))
+      (p .prints)
+
+-- ---- the loop of `main` ends
+
+-- a listing with more rings to come stands as demand 3 speaks of it
+abbrev SoundBy : Part → Molecule → Search → Type 0
+SoundBy (part.Refused r) m q = Unit {0}
+SoundBy part.Rings m q = (wellFormed m ≡ true) × Stands m q
+SoundBy part.Counts m q = Unit {0}
+
+abbrev pub Sound : Listing → Type 0
+Sound l = SoundBy (l .part) (l .molecule) (l .search)
+
+-- the rings that are not listed yet; none where no run follows
+abbrev leftBy : Part → Molecule → Search → ℕ
+leftBy (part.Refused r) m q = 0
+leftBy part.Rings m q = suc (length (members (ringsOf m)) - q .listed)
+leftBy part.Counts m q = 0
+
+abbrev pub left : Listing → ℕ
+left l = leftBy (l .part) (l .molecule) (l .search)
+
+-- a turn that is not the last leaves fewer
+turn-goes-on :
+    (l : Listing) (buffer : List ℕ) → Sound l → turned l buffer .last ≡ false →
+    Sound (turned l buffer .listing) × (left (turned l buffer .listing) < left l)
+turn-goes-on l buffer sound e = by (l .part) sound e
+  where
+    run :
+        let m = l .molecule in
+        let q = l .search in
+        let next = oneRun m q in
+        let after = partAfter (next .ended) in
+        (good : wellFormed m ≡ true) → Stands m q → LastOrLists m good q →
+        SoundBy after m (next .search) × (leftBy after m (next .search) < leftBy part.Rings m q)
+    run good s (inl (e, over)) = rw e (tt, omega arith)
+    run good s (inr (e, more)) =
+        let stands = run-stands (l .molecule) good (l .search) s in
+        let most = listed-most (l .molecule) good (oneRun (l .molecule) (l .search) .search) stands in
+        rw e ((good, stands), omega (arith, most))
+
+    by :
+        (p : Part) → SoundBy p (l .molecule) (l .search) → turnedBy p l buffer .last ≡ false →
+        let next = turnedBy p l buffer .listing in
+        Sound next × (left next < leftBy p (l .molecule) (l .search))
+    by (part.Refused r) s e = absurd (clash true refl e)
+    by part.Rings s e = run (s .0) (s .1) (last-or-lists (l .molecule) (s .0) (l .search) (s .1))
+    by part.Counts s e = absurd (clash true refl e)
+
+pub turned-goes-on :
+    (l : Listing) (buffer : List ℕ) {turn : Turn} → turn ≡ turned l buffer → Sound l → turn .last ≡ false →
+    Sound (turn .listing) × (left (turn .listing) < left l)
+turned-goes-on l buffer e sound more = rw e (turn-goes-on l buffer sound (ap (λ (t : Turn). t .last) (sym e) ∙ more))
+
+pub opened-sound : (input : List ℕ) → Sound (opened input)
+unfolding opened
+opened-sound input = go (ltb 65529 (length input))
+  where
+    answered :
+        (answer : Answer) (m : Molecule) → (answer ≡ Accepted → wellFormed m ≡ true) →
+        Sound (begun (firstPart answer) m)
+    answered Accepted m good = (good refl, fresh-stands m)
+    answered (Refused r) m good = tt
+
+    go :
+        (long : Bool) →
+        Sound (cond long (begun (part.Refused refusal.SheetLength) freshMolecule) (begunSheet (readSheet input)))
+    go true = tt
+    go false = answered (readSheet input .answer) (readSheet input .molecule) (accepted-well-formed input)
+
+-- ---- every input
+
+module _ (buffer : List ℕ) (room : 65536 ≤ length buffer) where
+  refused-prints : (r : Refusal) (m : Molecule) → Prints (begun (part.Refused r) m) buffer (refusalLine (numberOf r))
+  refused-prints r m =
+      let l : Listing = begun (part.Refused r) m in
+      let line : textOf l buffer ≡ refusalLine (numberOf r) = piece-text _ buffer (omega arith) in
+      subst (Prints l buffer) line (ends l buffer refl)
+
+  sheet-prints :
+      (answer : Answer) (m : Molecule) → (answer ≡ Accepted → wellFormed m ≡ true) →
+      Prints (begun (firstPart answer) m) buffer (sheetText answer m)
+  sheet-prints Accepted m good = accepted-prints m (good refl) buffer room
+  sheet-prints (Refused r) m good = refused-prints r m
+
+  -- The turns from the listing of an input come to a last one, and their texts, joined, are the text of the input
+  pub turns-joined : (input : List ℕ) → Prints (opened input) buffer (printedText input)
+  unfolding opened printedText
+  turns-joined input = go (ltb 65529 (length input))
+    where
+      go :
+          (long : Bool) →
+          let sheet = readSheet input in
+          Prints (cond long (begun (part.Refused refusal.SheetLength) freshMolecule) (begunSheet sheet)) buffer
+          (cond long (refusalLine (numberOf refusal.SheetLength)) (sheetText (sheet .answer) (sheet .molecule)))
+      go true = refused-prints refusal.SheetLength freshMolecule
+      go false = sheet-prints (readSheet input .answer) (readSheet input .molecule) (accepted-well-formed input)

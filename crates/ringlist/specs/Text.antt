@@ -1,0 +1,45 @@
+-- What `ringlist` prints for every input (document 01, "Judge, host entry and `ringlist`"), from bytes to text.
+use Prim.Native.Nat.{ℕ, _*_}
+use mathlib.Core.Bool.{cond}
+use mathlib.Core.List.{List, _++_}
+use lib.ListN.{length, take}
+use lib.Dec.{ltb}
+use Rattle.enumeration.specs.Words.{Family, members}
+use Rattle.enumeration.specs.Machine.{State, fresh}
+use Rattle.enumeration.specs.Run.{Outcome, limit, run}
+use Rattle.refusal.specs.declared.Refusal.the-variants.{SheetLength}
+use Rattle.refusal.specs.declared.Answer.{Answer}
+use Rattle.refusal.specs.declared.Answer.the-variants.{Accepted, Refused}
+use Rattle.refusal.specs.Number.{numberOf}
+use Rattle.molecule.specs.declared.Molecule.{Molecule}
+use Rattle.sheet.specs.Read.{readSheet}
+use Rattle.search.specs.Place.{familyOf}
+use Rattle.report.specs.Lines.{refusalLine, linesOf, countLine}
+
+-- The rings of a molecule, as a family
+abbrev pub ringsOf : Molecule → Family
+ringsOf m = familyOf m 0 0 0
+
+-- The search until it says done or limit: one run of the fresh search, with a budget and an output that never end it
+-- (law `ends-done-or-limit`)
+unfoldable pub wholeRun : Molecule → Outcome
+wholeRun m = run (ringsOf m) limit (129 * limit) fresh
+
+-- The rings that it has listed, a line each, and then its counts
+unfoldable pub listingText : Molecule → State → List ℕ
+listingText m st =
+    linesOf (take (st .listed) (members (ringsOf m)))
+    ++ countLine (st .listed) (st .extensions) (st .trials)
+
+-- The text of a sheet that is accepted, or refused by a rule
+abbrev pub sheetText : Answer → Molecule → List ℕ
+sheetText Accepted m = listingText m (wholeRun m .state)
+sheetText (Refused r) m = refusalLine (numberOf r)
+
+-- The text of an input; one above 65,529 bytes is refused by rule 1
+unfoldable pub printedText : List ℕ → List ℕ
+printedText input =
+    let sheet = readSheet input in
+    cond (ltb 65529 (length input))
+    (refusalLine (numberOf SheetLength))
+    (sheetText (sheet .answer) (sheet .molecule))
