@@ -1,6 +1,6 @@
 -- One call from C, handed the sheet and the mark as it stands, is a run of the search as it stands.
 -- Calls reach that search (`Reached`), so its mark restores it; what the entry returns and leaves is `resume-accepted`.
-use Prim.Native.Nat.{ℕ, _-_, _≤_, _<_}
+use Prim.Native.Nat.{ℕ, _≤_, _<_}
 use native.Mathlib.Omega.{arith}
 use mathlib.Core.Path.{_≡_, refl, sym, ap, subst, _∙_}
 use mathlib.Core.Logic.{_⊎_, inl, inr}
