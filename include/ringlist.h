@@ -93,7 +93,8 @@ extern "C" {
    A mark of kind 1 lists the chordless paths from s to t in the same way, as
    records of 2 atoms or more. Such a search starts from the mark with kind 1,
    s, t, n, m, 0 and 1 in line 1, three counts 0 in line 2, and an empty
-   line 3.
+   line 3. The same mark with kind 0, and 0 for s and t, starts a ring search,
+   as no bytes do.
 
    The functions have no state of their own: they may be called at once from
    several threads, where no output of one call overlaps a stretch of another.
