@@ -1,4 +1,5 @@
 -- `mark_reader::layout_kept` meets its contract: each answer is rule 14's by the tests that led to it.
+use native.Mathlib.Omega.{arith}
 use mathlib.Core.Path.{_≡_, sym, _∙_}
 use mathlib.Core.Bool.{true}
 use borrow.Author.Tests.{not-true, not-false}
@@ -34,7 +35,7 @@ returns-5 : tie.Need-returns-5
 returns-5 c = layout-second (c .before .before .before .before .before .before .before .before .before .before .args .bytes .now) (c .before .before .before .before .before .before .before .before .if1 .left) (head (c .before .before .before .before .before .before)) (c .before .before .before .before .if3 .left) (counts (c .before .before)) (c .if5 .taken)
 
 returns-6 : tie.Need-returns-6
-returns-6 c = layout-most (c .before .before .before .before .before .before .before .before .before .before .before .before .args .bytes .now) (c .before .before .before .before .before .before .before .before .before .before .if1 .left) (head (c .before .before .before .before .before .before .before .before)) (c .before .before .before .before .before .before .if3 .left) (counts (c .before .before .before .before)) (c .before .before .if5 .left) (c .before .small-at .result) (c .before .small-at .ensures) (c .if6 .taken)
+returns-6 c = layout-most (c .before .before .before .before .before .before .before .before .before .before .before .before .args .bytes .now) (c .before .before .before .before .before .before .before .before .before .before .if1 .left) (head (c .before .before .before .before .before .before .before .before)) (c .before .before .before .before .before .before .if3 .left) (counts (c .before .before .before .before)) (c .before .before .if5 .left) (c .before .small-at .result) (c .before .small-at .ensures) (omega (arith, c .if6 .taken))
 
 returns-7 : tie.Need-returns-7
 returns-7 c = layout-size (c .before .before .before .before .before .before .before .before .before .before .before .before .before .args .bytes .now) (c .before .before .before .before .before .before .before .before .before .before .before .if1 .left) (head (c .before .before .before .before .before .before .before .before .before)) (c .before .before .before .before .before .before .before .if3 .left) (counts (c .before .before .before .before .before)) (c .before .before .before .if5 .left) (c .before .before .small-at .result) (c .before .before .small-at .ensures) (c .before .if6 .left) (c .if7 .taken)
