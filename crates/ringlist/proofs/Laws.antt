@@ -1,4 +1,4 @@
--- What the definition `printedText` amounts to: how its search ends, its text then, and which bytes of the input decide it.
+-- What the definition `printedText` amounts to: how its search ends, its text then, and which bytes decide it.
 -- Instances of `Whole` for the rings of a molecule record.
 use Prim.Native.Nat.{ℕ, suc, _*_, _≤_}
 use native.Mathlib.Omega.{arith}
