@@ -18,6 +18,7 @@ tests:
 	rt fmt --check
 	python3 tests/layout.py
 	python3 tests/layout_test.py
+	python3 tests/trace.py
 	rt check ringlist judge marks history
 	rt staticlib flat
 	rt staticlib host
