@@ -18,7 +18,7 @@ tests:
 	rt fmt --check
 	python3 tests/layout.py
 	python3 tests/layout_test.py
-	python3 tests/trace.py
+	python3 tests/edits.py
 	rt check ringlist judge marks history
 	rt staticlib flat
 	rt staticlib host
