@@ -1,5 +1,5 @@
 # make example: builds ringlist and lists the rings of cubane.
-# make test: the layout, the C and Rust tests, and last the verdict of the prover over every crate.
+# make test: the layout, the layers, the edits, the C and Rust tests, and last the verdict of the prover over every crate.
 # make bench: ring listings through the host entry against listers in Rust; then reading a full bond sheet.
 
 .PHONY: example test tests bench

@@ -99,9 +99,11 @@ extern "C" {
    The functions have no state of their own: they may be called at once from
    several threads, where no output of one call overlaps a stretch of another.
    They take no memory from the heap and use less than 32 kilobytes of stack.
-   Two things here are tested and not proved: the stack, which is measured on
-   one call (tests/c/host_test.c), and that the prototypes in this header are
-   those of the code (tests/prototypes.py). */
+   This paragraph is not proved: no Rattle function has a heap, or variables
+   that outlive a call; the stack is measured on one call
+   (tests/c/host_test.c). That the prototypes in this header are those of the
+   code is tested (tests/prototypes.py). The proofs of these functions assume
+   nothing of the C library. */
 uint32_t ringlist_resume(const uint8_t *sheet, size_t sheet_len,
                          const uint8_t *mark, size_t mark_len,
                          uint64_t budget,

@@ -4,7 +4,8 @@
     edits.py [ROOT]
 
 - Each `old:` text of an edit stands once in the file that the edit names, and no two edits of a crate are the same.
-- docs/TRACE.md names every edit, and no other. An edit is named as CRATE/NAME; `CRATE/NAME, NAME` names two of one crate.
+- docs/TRACE.md names every edit, and no other; its last table has every edit of a definition (a file of specs/). An edit is
+  named as CRATE/NAME; `CRATE/NAME, NAME` names two of one crate.
 
 Prints a line for each fault; the exit code is 1 if there is any.
 """
@@ -13,6 +14,7 @@ import os
 import re
 import sys
 
+TABLE = "## Edits of definitions"
 PARTS = {"src", "specs", "proofs", "must-fail", "stdin", "stdout"}
 
 
@@ -64,12 +66,17 @@ def named(text, crates):
 
 
 def trace_faults(root, there):
-    cited = list(named(read(root, "docs", "TRACE.md"), os.listdir(os.path.join(root, "crates"))))
+    text, crates = read(root, "docs", "TRACE.md"), os.listdir(os.path.join(root, "crates"))
+    cited = list(named(text, crates))
+    table = {(crate, name) for _, crate, name in named(text[text.index(TABLE):], crates)}
     for line, crate, name in cited:
         if (crate, name) not in there:
             yield "docs/TRACE.md:%d: there is no edit %s/%s" % (line, crate, name)
     for crate, name in sorted(set(there) - {(crate, name) for _, crate, name in cited}):
         yield "crates/%s/must-fail/%s.edit: docs/TRACE.md does not name it" % (crate, name)
+    for (crate, name), changes in there.items():
+        if any(file.startswith("specs/") for file, _, _ in changes) and (crate, name) not in table:
+            yield "crates/%s/must-fail/%s.edit: the table of docs/TRACE.md has no law for it" % (crate, name)
 
 
 def main():

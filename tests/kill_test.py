@@ -234,7 +234,7 @@ def one_listing(listing, kills, longest, expected, rng):
     those that left work of an unfinished slice behind which was not there
     before the start (output that the state does not count, or a temporary
     file), and listings."""
-    hits, moved, torn, done = 0, 0, 0, 0
+    hits, moved, torn, done, before = 0, 0, 0, 0, 0
     while hits < kills:
         state, out, new = listing.files()
         if kill_once(listing, rng, longest):
@@ -248,7 +248,9 @@ def one_listing(listing, kills, longest, expected, rng):
             end(listing, expected)
             done += 1
             listing = listing.again()
-            longest /= 2
+            if hits == before:  # no kill met this listing: they come too late
+                longest /= 2
+            before = hits
     end(listing, expected)
     return hits, moved, torn, done + 1
 

@@ -13,7 +13,7 @@ Asked of the tree:
 - no public function of the layers Entries and Tests has a `requires`, and each
   has an `ensures`: these may be called with anything, and say what they do;
 - the README's map names the same crates, in the same order, under the same
-  words for the layers.
+  first words for the layers.
 
 Prints a line FILE:LINE: FAULT for each fault; the exit code is 1 if there is any.
 """
@@ -85,11 +85,11 @@ def past_braces(text, at):
 
 
 def clauses(text, at):
-    """The words `requires` and `ensures` from a signature's start up to its body."""
+    """The words of the clauses, as `requires`, from a signature's start up to its body."""
     found = []
     while True:
         brace = text.find("{", at)
-        word = re.search(r"\b(requires|ensures)\s*$", text[at:brace])
+        word = re.search(r"(?:\n|^) *(\w+) *$", text[at:brace]) or re.search(r"\b(requires|ensures)\s*$", text[at:brace])
         if brace < 0 or not word:
             return found
         found.append(word.group(1))
@@ -108,6 +108,8 @@ def contract_faults(root, crates):
                 kinds = clauses(text, function.start())
                 if "requires" in kinds:
                     yield where + "%s has a `requires` and is in layer %s" % (function.group(1), layer)
+                for word in set(kinds) - {"requires", "ensures"}:
+                    yield where + "%s has a clause `%s` that this check does not know" % (function.group(1), word)
                 if "ensures" not in kinds:
                     yield where + "%s has no `ensures` and is in layer %s" % (function.group(1), layer)
 

@@ -126,6 +126,8 @@ EDITS = [
      "crates/sheet/src/lib.rt:23: bonds has no `ensures` and is in layer Entries"),
     ("crates/flat/src/lib.rt", ") -> u8", ") -> u8 requires { true }",
      "crates/flat/src/lib.rt:2: flat has a `requires` and is in layer Tests"),
+    ("crates/sheet/src/lib.rt", "    // requires { a comment }", "    measures { s }",
+     "crates/sheet/src/lib.rt:14: read has a clause `measures` that this check does not know"),
     ("crates/flat/src/lib.rt", "    ensures { r = s }\n{", "{",
      "crates/flat/src/lib.rt:2: flat has no `ensures` and is in layer Tests"),
     ("crates/host/src/main.rt", "fn main() {", "pub fn main() { // ensures { true }",

@@ -35,7 +35,7 @@ use Rattle.ringlist.specs.declared.text.Part.{Part}
 use Rattle.ringlist.specs.declared.text.Part.the-variants as part
 use Rattle.ringlist.specs.declared.text.Listing.{Listing}
 use Rattle.ringlist.specs.declared.text.Turn.{Turn}
-use Rattle.ringlist.specs.Text.{ringsOf, wholeRun, listingText, sheetText, printedText}
+use Rattle.ringlist.specs.Text.{ringsOf, wholeRun, listingText, answerText, printedText}
 use Rattle.ringlist.specs.Turns.{begun, firstPart, begunSheet, opened, budget, output, oneRun, runRecords}
 use Rattle.ringlist.specs.Turns.{partAfter, countsOf, turnedBy, turned, turnedText, textOf, Prints, ends, goes-on}
 use Rattle.ringlist.proofs.Whole.{Over, over-is, whole-is}
@@ -293,7 +293,7 @@ module _ (buffer : List ℕ) (room : 65536 ≤ length buffer) where
 
   sheet-prints :
       (answer : Answer) (m : Molecule) → (answer ≡ Accepted → wellFormed m ≡ true) →
-      Prints (begun (firstPart answer) m) buffer (sheetText answer m)
+      Prints (begun (firstPart answer) m) buffer (answerText answer m)
   sheet-prints Accepted m good = accepted-prints m (good refl) buffer room
   sheet-prints (Refused r) m good = refused-prints r m
 
@@ -306,6 +306,6 @@ module _ (buffer : List ℕ) (room : 65536 ≤ length buffer) where
           (long : Bool) →
           let sheet = readSheet input in
           Prints (cond long (begun (part.Refused refusal.SheetLength) freshMolecule) (begunSheet sheet)) buffer
-          (cond long (refusalLine (numberOf refusal.SheetLength)) (sheetText (sheet .answer) (sheet .molecule)))
+          (cond long (refusalLine (numberOf refusal.SheetLength)) (answerText (sheet .answer) (sheet .molecule)))
       go true = refused-prints refusal.SheetLength freshMolecule
       go false = sheet-prints (readSheet input .answer) (readSheet input .molecule) (accepted-well-formed input)

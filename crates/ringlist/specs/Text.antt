@@ -25,16 +25,16 @@ ringsOf m = familyOf m 0 0 0
 unfoldable pub wholeRun : Molecule → Outcome
 wholeRun m = run (ringsOf m) limit (129 * limit) fresh
 
--- The rings that it has listed, a line each, and then its counts
+-- The rings that it has listed, a line each, and then its counts: the first `listed` of the list (law `fresh-listing`)
 unfoldable pub listingText : Molecule → State → List ℕ
 listingText m st =
     linesOf (take (st .listed) (members (ringsOf m)))
     ++ countLine (st .listed) (st .extensions) (st .trials)
 
 -- The text of a sheet that is accepted, or refused by a rule
-abbrev pub sheetText : Answer → Molecule → List ℕ
-sheetText Accepted m = listingText m (wholeRun m .state)
-sheetText (Refused r) m = refusalLine (numberOf r)
+abbrev pub answerText : Answer → Molecule → List ℕ
+answerText Accepted m = listingText m (wholeRun m .state)
+answerText (Refused r) m = refusalLine (numberOf r)
 
 -- The text of an input; one above 65,529 bytes is refused by rule 1
 unfoldable pub printedText : List ℕ → List ℕ
@@ -42,4 +42,4 @@ printedText input =
     let sheet = readSheet input in
     cond (ltb 65529 (length input))
     (refusalLine (numberOf SheetLength))
-    (sheetText (sheet .answer) (sheet .molecule))
+    (answerText (sheet .answer) (sheet .molecule))
