@@ -16,7 +16,7 @@ use Rattle.enumeration.specs.Machine.{State, tried, isDone, act, trial}
 use Rattle.enumeration.specs.Run.{Outcome, limit, atLimit, recordOf, recordIf, lists, stopped, after, run}
 use Rattle.enumeration.specs.Lawful.{Lawful}
 use Rattle.enumeration.specs.Trials.{Valid, newly, steps, emitted, records}
-use Rattle.enumeration.specs.Ran.{Bounded, Why, Ran}
+use Rattle.enumeration.specs.RunFacts.{Bounded, Why, RunFacts}
 use Rattle.enumeration.proofs.Basics.{apart, or-neither}
 use Rattle.enumeration.proofs.Trial.{trial-trials}
 use Rattle.enumeration.proofs.Steps.{moved-trial, steps-trial, listed-steps, valid-steps}
@@ -40,7 +40,7 @@ module _ (F : Family) where
   unfolding emitted
   emitted-trial k st d = ap (λ (s : State). newly F st ++ emitted F k s) (moved-trial F st d)
 
-  none-made : (budget room : ℕ) (st : State) (s : Stop) → Why F budget room (stopped st s) s → Ran F budget room st (stopped st s)
+  none-made : (budget room : ℕ) (st : State) (s : Stop) → Why F budget room (stopped st s) s → RunFacts F budget room st (stopped st s)
   unfolding steps emitted records
   none-made budget room st s w = record { stepped = refl; busy = λ j h. absurd (omega arith); wrote = refl; in-budget = omega arith; in-room = omega arith; counted = omega arith; listing = omega arith; why = w }
 
@@ -51,8 +51,8 @@ module _ (F : Family) where
   why-after budget room bytes o h Full w = (w .0, w .1, omega arith, omega (arith, length-append bytes (o .bytes)))
 
   one-made :
-      (budget room : ℕ) (st : State) (o : Outcome) → isDone (F .atoms) st ≡ false → length (lists F st) ≤ room → Ran F budget (room - length (lists F st)) (trial F st) o →
-      Ran F (suc budget) room st (after (lists F st) o)
+      (budget room : ℕ) (st : State) (o : Outcome) → isDone (F .atoms) st ≡ false → length (lists F st) ≤ room → RunFacts F budget (room - length (lists F st)) (trial F st) o →
+      RunFacts F (suc budget) room st (after (lists F st) o)
   unfolding steps
   one-made budget room st o d h r = record {
     stepped = state-is;
@@ -72,19 +72,19 @@ module _ (F : Family) where
       busy-at zero l = d
       busy-at (suc j) l = rw (steps-trial F j st d) (r .busy j (omega arith))
 
-  pub run-ran : (budget room : ℕ) (st : State) → Ran F budget room st (run F budget room st)
+  pub run-ran : (budget room : ℕ) (st : State) → RunFacts F budget room st (run F budget room st)
   unfolding run
   run-ran zero room st = go (isDone (F .atoms) st) (atLimit st) refl refl
     where
-      go : (d l : Bool) → isDone (F .atoms) st ≡ d → atLimit st ≡ l → Ran F zero room st (cond d (stopped st Done) (cond l (stopped st Limit) (stopped st Spent)))
+      go : (d l : Bool) → isDone (F .atoms) st ≡ d → atLimit st ≡ l → RunFacts F zero room st (cond d (stopped st Done) (cond l (stopped st Limit) (stopped st Spent)))
       go true l e f = none-made zero room st Done e
       go false true e f = none-made zero room st Limit (e, f)
       go false false e f = none-made zero room st Spent (e, f, refl)
   run-ran (suc budget) room st = go (isDone (F .atoms) st) (atLimit st) (ltb room (length (lists F st))) refl refl refl (run F budget (room - length (lists F st)) (trial F st)) (run-ran budget (room - length (lists F st)) (trial F st))
     where
       go :
-          (d l b : Bool) → isDone (F .atoms) st ≡ d → atLimit st ≡ l → ltb room (length (lists F st)) ≡ b → (o : Outcome) → Ran F budget (room - length (lists F st)) (trial F st) o →
-          Ran F (suc budget) room st (cond d (stopped st Done) (cond l (stopped st Limit) (cond b (stopped st Full) (after (lists F st) o))))
+          (d l b : Bool) → isDone (F .atoms) st ≡ d → atLimit st ≡ l → ltb room (length (lists F st)) ≡ b → (o : Outcome) → RunFacts F budget (room - length (lists F st)) (trial F st) o →
+          RunFacts F (suc budget) room st (cond d (stopped st Done) (cond l (stopped st Limit) (cond b (stopped st Full) (after (lists F st) o))))
       go true l b e f g o ih = none-made (suc budget) room st Done e
       go false true b e f g o ih = none-made (suc budget) room st Limit (e, f)
       go false false true e f g o ih = none-made (suc budget) room st Full (e, f, omega arith, omega (arith, ltb-true room (length (lists F st)) g))
@@ -154,11 +154,11 @@ module _ (F : Family) (L : Lawful F) where
       full [] bytes s e f = absurd (omega (arith, ap length e, lists-short s))
       full (w ∷ ws) bytes s e f = omega arith
 
-      by-stop : (o : Outcome) → Ran F budget room st o → (s : Stop) → o .stop ≡ s → Why F budget room o s → (1 ≤ length (emitted F (o .made) st)) ⊎ ((o .stop ≡ Done) ⊎ (o .stop ≡ Limit))
+      by-stop : (o : Outcome) → RunFacts F budget room st o → (s : Stop) → o .stop ≡ s → Why F budget room o s → (1 ≤ length (emitted F (o .made) st)) ⊎ ((o .stop ≡ Done) ⊎ (o .stop ≡ Limit))
       by-stop o r Done e w = inr (inl e)
       by-stop o r Limit e w = inr (inr e)
       by-stop o r Spent e w = inl (spent (o .made) (omega arith) (rw (r .stepped) at (w .0)) (progresses F L (o .made) st v (omega arith)))
       by-stop o r Full e w = inl (full (emitted F (o .made) st) (o .bytes) (o .state) (r .wrote) (w .3))
 
-      go : (o : Outcome) → Ran F budget room st o → (1 ≤ length (emitted F (o .made) st)) ⊎ ((o .stop ≡ Done) ⊎ (o .stop ≡ Limit))
+      go : (o : Outcome) → RunFacts F budget room st o → (1 ≤ length (emitted F (o .made) st)) ⊎ ((o .stop ≡ Done) ⊎ (o .stop ≡ Limit))
       go o r = by-stop o r (o .stop) refl (r .why)

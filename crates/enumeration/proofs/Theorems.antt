@@ -15,7 +15,7 @@ use Rattle.enumeration.specs.Run.{Outcome, atLimit, lists, run}
 use Rattle.enumeration.specs.Lawful.{Lawful}
 use Rattle.enumeration.specs.Listing.{Ascending, NoRepeats, goesOn, past, follows, opens, openWords}
 use Rattle.enumeration.specs.Trials.{Valid, steps, emitted, attempts, sum, following}
-use Rattle.enumeration.specs.Ran.{Bounded, Why, Ran}
+use Rattle.enumeration.specs.RunFacts.{Bounded, Why, RunFacts}
 use Rattle.enumeration.proofs.Basics.{Decided, decided}
 use Rattle.enumeration.proofs.Order.{irreflexive, transitive, total, ascending-once}
 use Rattle.enumeration.proofs.Open.{stack-most, stack-range, members-ascending, members-sound, members-complete, members-stream, opens-stream, openWords-once, openWords-sound, openWords-complete}
@@ -114,7 +114,7 @@ module _ (F : Family) (budget room : ℕ) (st : State) where
   outcome = run F budget room st
 
   -- All that is said of a run's outcome
-  pub run-outcome : Ran F budget room st outcome
+  pub run-outcome : RunFacts F budget room st outcome
   run-outcome = run-ran F budget room st
 
   -- It takes no count past the limit

@@ -4,4 +4,4 @@ pub mod Run
 pub mod Lawful
 pub mod Listing
 pub mod Trials
-pub mod Ran
+pub mod RunFacts

@@ -23,10 +23,11 @@ use Rattle.search.specs.declared.Ended.the-variants as ended
 use Rattle.search.specs.declared.Saved.{Saved}
 use Rattle.search.specs.declared.Saved.the-variants.{Written}
 use Rattle.search.specs.Place.{beginning}
+use Rattle.search.specs.Entries.{endedNumber}
 use Rattle.search.specs.Mark.{saveAnswer, saveOutput}
 use Rattle.search.proofs.MarkLaws.{mark-length, save-written, restorable-facts}
 use Rattle.flat.specs.Codes.{wrongLength, answerCode}
-use Rattle.flat.specs.Searches.{sizesKept, numbersOf, sized, madeNumbers, madePrefix, endedCode, ranNumbers, ranPrefix, savedCode}
+use Rattle.flat.specs.Searches.{sizesKept, numbersOf, sized, madeNumbers, madePrefix, ranNumbers, ranPrefix, savedCode}
 
 module _ (rows numbers prefix : List ℕ) where
   abbrev Kept : Bool
@@ -72,13 +73,13 @@ module _ (rows numbers prefix : List ℕ) where
 
   -- a run
   module _ (ran : Ran) where
-    pub ran-unsized : Kept ≡ false → Answered wrongLength numbers prefix (endedCode (ran .ended)) (ranNumbers ran numbers) (ranPrefix ran prefix)
-    ran-unsized e = unsized (endedCode (ran .ended)) (ranNumbers ran numbers) (ranPrefix ran prefix) e
+    pub ran-unsized : Kept ≡ false → Answered wrongLength numbers prefix (endedNumber (ran .ended)) (ranNumbers ran numbers) (ranPrefix ran prefix)
+    ran-unsized e = unsized (endedNumber (ran .ended)) (ranNumbers ran numbers) (ranPrefix ran prefix) e
 
-    pub ran-stored : Kept ≡ true → (r : Ran) → r ≡ ran → (code : ℕ) (words bytes : List ℕ) → (code ≡ endedCode (r .ended)) × (words ≡ ranNumbers r numbers) × (bytes ≡ ranPrefix r prefix) → Answered code words bytes (endedCode (ran .ended)) (ranNumbers ran numbers) (ranPrefix ran prefix)
+    pub ran-stored : Kept ≡ true → (r : Ran) → r ≡ ran → (code : ℕ) (words bytes : List ℕ) → (code ≡ endedNumber (r .ended)) × (words ≡ ranNumbers r numbers) × (bytes ≡ ranPrefix r prefix) → Answered code words bytes (endedNumber (ran .ended)) (ranNumbers ran numbers) (ranPrefix ran prefix)
     ran-stored e r same code words bytes h =
-        stored code (endedCode (ran .ended)) words (ranNumbers ran numbers) bytes (ranPrefix ran prefix) e
-        (subst (λ (x : Ran). (code ≡ endedCode (x .ended)) × (words ≡ ranNumbers x numbers) × (bytes ≡ ranPrefix x prefix)) same h)
+        stored code (endedNumber (ran .ended)) words (ranNumbers ran numbers) bytes (ranPrefix ran prefix) e
+        (subst (λ (x : Ran). (code ≡ endedNumber (x .ended)) × (words ≡ ranNumbers x numbers) × (bytes ≡ ranPrefix x prefix)) same h)
 
   -- a save
   module _ (mol : Molecule) (q : Search) (mark : List ℕ) where
@@ -103,11 +104,11 @@ module _ (made : Made) (numbers prefix : List ℕ) where
 
 -- a run, by its end
 module _ (ran : Ran) (numbers prefix : List ℕ) where
-  pub ran-stopped : (why : Stop) → ran .ended ≡ Stopped why → (stopNumber why ≡ endedCode (ran .ended)) × (numbersOf (ran .search) (ran .used) (ran .made) ≡ ranNumbers ran numbers) × (ran .search .prefix ≡ ranPrefix ran prefix)
+  pub ran-stopped : (why : Stop) → ran .ended ≡ Stopped why → (stopNumber why ≡ endedNumber (ran .ended)) × (numbersOf (ran .search) (ran .used) (ran .made) ≡ ranNumbers ran numbers) × (ran .search .prefix ≡ ranPrefix ran prefix)
   unfolding ranNumbers ranPrefix
   ran-stopped why e = (rw e, rw e, rw e)
 
-  pub ran-refused : (r : Refusal) → ran .ended ≡ ended.Refused r → (numberOf r ≡ endedCode (ran .ended)) × (numbers ≡ ranNumbers ran numbers) × (prefix ≡ ranPrefix ran prefix)
+  pub ran-refused : (r : Refusal) → ran .ended ≡ ended.Refused r → (numberOf r ≡ endedNumber (ran .ended)) × (numbers ≡ ranNumbers ran numbers) × (prefix ≡ ranPrefix ran prefix)
   unfolding ranNumbers ranPrefix
   ran-refused r e = (rw e, rw e, rw e)
 

@@ -5,7 +5,6 @@ use mathlib.Core.List.{List, [], _∷_}
 use lib.ListN.{length, getD}
 use lib.Dec.{eqb}
 use Rattle.refusal.specs.Number.{numberOf}
-use Rattle.enumeration.specs.Run.{stopNumber}
 use Rattle.search.specs.declared.Search.{Search}
 use Rattle.search.specs.declared.Made.{Made}
 use Rattle.search.specs.declared.Ran.{Ran}
@@ -41,10 +40,6 @@ madeNumbers made numbers = ifAccepted (made .answer) (numbersOf (made .search) 0
 
 unfoldable pub madePrefix : Made → List ℕ → List ℕ
 madePrefix made prefix = ifAccepted (made .answer) (made .search .prefix) prefix
-
-abbrev pub endedCode : Ended → ℕ
-endedCode (Stopped why) = stopNumber why
-endedCode (ended.Refused r) = numberOf r
 
 -- the new list where a run stopped; nothing changes otherwise
 abbrev pub ifStopped : Ended → List ℕ → List ℕ → List ℕ

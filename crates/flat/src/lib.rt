@@ -4,10 +4,10 @@ ghost use Prim.Native.Nat.{_≤_};
 ghost use mathlib.Core.List.{_++_};
 ghost use lib.ListN.{length, drop};
 ghost use Rattle.fields.specs.Field.{readField, fieldText};
-ghost use Rattle.search.specs.Entries.{startRings, startPaths, runSearch, runOutput};
+ghost use Rattle.search.specs.Entries.{startRings, startPaths, runSearch, runOutput, endedNumber};
 ghost use Rattle.search.specs.Mark.{saveAnswer, saveOutput, restoreMark};
 ghost use Rattle.flat.specs.Codes.{wrongLength, answerCode, verdictCode, fieldCode, headBytes, flatBytes, molecule, readCode, readOutput, checkCode, ringCode, pathCode};
-ghost use Rattle.flat.specs.Searches.{sizesKept, searchFrom, numbersOf, sized, madeNumbers, madePrefix, endedCode, ranNumbers, ranPrefix, savedCode};
+ghost use Rattle.flat.specs.Searches.{sizesKept, searchFrom, numbersOf, sized, madeNumbers, madePrefix, ranNumbers, ranPrefix, savedCode};
 use fields::Number;
 use judge::Verdict;
 use molecule::Molecule;
@@ -239,7 +239,7 @@ fn store_made(made: Made, numbers: &mut [u64], prefix: &mut [u8]) -> u32
 // Writes a run's search, used and made where it stopped.
 fn store_ran(ran: Ran, numbers: &mut [u64], prefix: &mut [u8]) -> u32
     requires { ⌜ (length (now numbers) ≡ 10) × (length (now prefix) ≡ 128) ⌝ }
-    ensures { λ r. ⌜ (r ≡ endedCode (ran .ended)) × (now (numbers .exit) ≡ ranNumbers ran (now (numbers .entry))) × (now (prefix .exit) ≡ ranPrefix ran (now (prefix .entry))) ⌝ }
+    ensures { λ r. ⌜ (r ≡ endedNumber (ran .ended)) × (now (numbers .exit) ≡ ranNumbers ran (now (numbers .entry))) × (now (prefix .exit) ≡ ranPrefix ran (now (prefix .entry))) ⌝ }
 {
     let ended = ran.ended;
     let q = ran.search;
@@ -305,7 +305,7 @@ pub extern "C" fn flat_run(
     budget: u64,
     out: &mut [u8],
 ) -> u32
-    ensures { λ r. ⌜ r ≡ sized (now (rows .entry)) (now (numbers .entry)) (now (prefix .entry)) (endedCode (runSearch (molecule atoms bonds (now (rows .entry))) (searchFrom (now (numbers .entry)) (now (prefix .entry))) budget (now (out .entry)) .ended)) wrongLength ⌝ }
+    ensures { λ r. ⌜ r ≡ sized (now (rows .entry)) (now (numbers .entry)) (now (prefix .entry)) (endedNumber (runSearch (molecule atoms bonds (now (rows .entry))) (searchFrom (now (numbers .entry)) (now (prefix .entry))) budget (now (out .entry)) .ended)) wrongLength ⌝ }
     ensures { λ _. ⌜ now (numbers .exit) ≡ sized (now (rows .entry)) (now (numbers .entry)) (now (prefix .entry)) (ranNumbers (runSearch (molecule atoms bonds (now (rows .entry))) (searchFrom (now (numbers .entry)) (now (prefix .entry))) budget (now (out .entry))) (now (numbers .entry))) (now (numbers .entry)) ⌝ }
     ensures { λ _. ⌜ now (prefix .exit) ≡ sized (now (rows .entry)) (now (numbers .entry)) (now (prefix .entry)) (ranPrefix (runSearch (molecule atoms bonds (now (rows .entry))) (searchFrom (now (numbers .entry)) (now (prefix .entry))) budget (now (out .entry))) (now (prefix .entry))) (now (prefix .entry)) ⌝ }
     ensures { λ _. ⌜ now (out .exit) ≡ sized (now (rows .entry)) (now (numbers .entry)) (now (prefix .entry)) (runOutput (molecule atoms bonds (now (rows .entry))) (searchFrom (now (numbers .entry)) (now (prefix .entry))) budget (now (out .entry))) (now (out .entry)) ⌝ }

@@ -17,7 +17,7 @@ use Rattle.search.specs.Place.{familyOf, stateOf, freshSearch, kindKept}
 use Rattle.search.proofs.Readings.{family-lawful}
 use Rattle.history.specs.Calls.{Call, Standing, start, standing, History, saidDone}
 use Rattle.history.specs.Demand.{OneList, Whole, GoesOn, Demand}
-use Rattle.history.specs.Resumed.{from}
+use Rattle.history.specs.Resumed.{restoredStart}
 use Rattle.history.proofs.Entered.{family-atoms}
 use Rattle.history.proofs.Reached.{Reached, stateAt, reached-start, list-reached}
 use Rattle.history.proofs.Stands.{Parts, parts-of, search-stands, trials-stand, done-state, said-stands, goes-on}
@@ -35,7 +35,7 @@ module _ (R : Molecule) (kind s t : ℕ) (good : wellFormed R ≡ true) (kept : 
 
   -- At the start nothing has been tried
   pub fresh-reached : Reached R kind s t fresh false 0 (start kind s t)
-  unfolding start freshSearch from fresh
+  unfolding start freshSearch restoredStart fresh
   fresh-reached = reached-start R kind s t good kept fresh fresh-sound (record { trials-most = omega arith; extensions-most = omega arith; listed-most = omega arith }) (start kind s t) refl
 
   module _ (said : Bool) (k : ℕ) (x : Standing) (r : Reached R kind s t fresh said k x) where

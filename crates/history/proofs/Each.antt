@@ -11,7 +11,7 @@ use Rattle.chordless.specs.Families.{rings, paths}
 use Rattle.molecule.specs.declared.Molecule.{Molecule}
 use Rattle.molecule.specs.Record.{wellFormed, bonded, isAtom}
 use Rattle.search.specs.Place.{familyOf, endsKept, kindKept}
-use Rattle.search.specs.Entries.{accepted, startRings, startPaths}
+use Rattle.search.specs.Entries.{acceptedSearch, startRings, startPaths}
 use Rattle.history.specs.Calls.{Call, start, standing, History}
 use Rattle.history.specs.Demand.{Demand}
 use Rattle.history.proofs.Demand3.{demand3}
@@ -26,11 +26,11 @@ unfolding familyOf
 paths-listed R s t = refl
 
 -- The start of a history is what the start entries return
-pub rings-start : (R : Molecule) → wellFormed R ≡ true → startRings R ≡ accepted (start 0 0 0 .search)
+pub rings-start : (R : Molecule) → wellFormed R ≡ true → startRings R ≡ acceptedSearch (start 0 0 0 .search)
 unfolding startRings start
 rings-start R good = rw good
 
-pub paths-start : (R : Molecule) (s t : ℕ) → wellFormed R ≡ true → endsKept (R .atoms) s t ≡ true → startPaths R s t ≡ accepted (start 1 s t .search)
+pub paths-start : (R : Molecule) (s t : ℕ) → wellFormed R ≡ true → endsKept (R .atoms) s t ≡ true → startPaths R s t ≡ acceptedSearch (start 1 s t .search)
 unfolding startPaths start endsKept
 paths-start R s t good ends =
     let a : Bool = isAtom (R .atoms) s && isAtom (R .atoms) t in

@@ -19,11 +19,11 @@ use Rattle.molecule.specs.declared.Molecule.{Molecule}
 use Rattle.molecule.specs.Record.{wellFormed}
 use Rattle.search.specs.declared.Search.{Search}
 use Rattle.search.specs.Place.{family, beginning, stateOf, kindKept, restorable}
-use Rattle.search.specs.Entries.{accepted}
+use Rattle.search.specs.Entries.{acceptedSearch}
 use Rattle.search.specs.Mark.{restoreMark}
 use Rattle.search.proofs.MarkLaws.{family-lawful, restorable-facts, restorable-valid, restorable-bounded, search-state, restored-restorable}
 use Rattle.history.specs.Calls.{Call, Standing, standing, History, saidDone}
-use Rattle.history.specs.Resumed.{from, Follows, followers, FollowingList, WholeRest, FromMark}
+use Rattle.history.specs.Resumed.{restoredStart, Follows, followers, FollowingList, WholeRest, FromMark}
 use Rattle.history.proofs.Reached.{Reached, stateAt, reached-start, list-reached}
 use Rattle.history.proofs.Stands.{Parts, parts-of, search-stands, trials-stand, done-state, said-stands, goes-on}
 
@@ -75,10 +75,10 @@ module _ (R : Molecule) (q : Search) (good : wellFormed R ≡ true) (passes : re
       back w f = mem-keep (follows (beginning q) (q .next)) (list-exactly (family R q) lawful w .1 (f .0)) (follows-exactly (beginning q) (q .next) w .1 (f .1))
 
   -- the calls begin with the search at its state
-  pub first-reached : Reached R (q .kind) (q .s) (q .t) (stateOf q) false 0 (from q)
+  pub first-reached : Reached R (q .kind) (q .s) (q .t) (stateOf q) false 0 (restoredStart q)
   first-reached =
-      reached-start R (q .kind) (q .s) (q .t) good (restorable-facts R q passes .kind-kept) (stateOf q) sound (restorable-bounded R q passes) (from q)
-      (ap from (sym (search-state R q passes full)))
+      reached-start R (q .kind) (q .s) (q .t) good (restorable-facts R q passes .kind-kept) (stateOf q) sound (restorable-bounded R q passes) (restoredStart q)
+      (ap restoredStart (sym (search-state R q passes full)))
 
   counts-are : (stateOf q .trials ≡ q .trials) × (stateOf q .extensions ≡ q .extensions) × (stateOf q .listed ≡ q .listed)
   unfolding stateOf
@@ -120,11 +120,11 @@ module _ (R : Molecule) (q : Search) (good : wellFormed R ≡ true) (passes : re
     trials-risen : x .search .trials ≡ q .trials + x .made
     trials-risen = rw (counts-are .0) at (trials-stand R (q .kind) (q .s) (q .t) good (restorable-facts R q passes .kind-kept) (stateOf q) sound said k x r)
 
-  from-search : (calls : List Call) → History R (from q) calls → FromMark R q calls (standing (from q) calls)
+  from-search : (calls : List Call) → History R (restoredStart q) calls → FromMark R q calls (standing (restoredStart q) calls)
   from-search calls h =
       let kinds = restorable-facts R q passes .kind-kept in
-      let p = list-reached R (q .kind) (q .s) (q .t) good kinds (stateOf q) sound calls (from q) h false 0 first-reached in
-      by kinds (p .0) (standing (from q) calls) (p .1)
+      let p = list-reached R (q .kind) (q .s) (q .t) good kinds (stateOf q) sound calls (restoredStart q) h false 0 first-reached in
+      by kinds (p .0) (standing (restoredStart q) calls) (p .1)
     where
       by : kindKept (R .atoms) (q .kind) (q .s) (q .t) ≡ true → (k : ℕ) (x : Standing) → Reached R (q .kind) (q .s) (q .t) (stateOf q) (saidDone calls) k x → FromMark R q calls x
       by kinds k x r = record {
@@ -140,7 +140,7 @@ module _ (R : Molecule) (q : Search) (good : wellFormed R ≡ true) (passes : re
       }
 
 -- Over every mark that a restore accepts, and every list of calls from it
-pub from-mark : (R : Molecule) (mark : List ℕ) (q : Search) → restoreMark R mark ≡ accepted q → (calls : List Call) → History R (from q) calls → FromMark R q calls (standing (from q) calls)
+pub from-mark : (R : Molecule) (mark : List ℕ) (q : Search) → restoreMark R mark ≡ acceptedSearch q → (calls : List Call) → History R (restoredStart q) calls → FromMark R q calls (standing (restoredStart q) calls)
 from-mark R mark q e =
     let f = restored-restorable R mark q e in
     from-search R q (f .0) (f .1) (f .2)

@@ -14,7 +14,7 @@ use Rattle.enumeration.specs.Machine.{State, isDone}
 use Rattle.enumeration.specs.Run.{Outcome, run}
 use Rattle.enumeration.specs.Lawful.{Lawful}
 use Rattle.enumeration.specs.Trials.{Valid, steps, emitted, records}
-use Rattle.enumeration.specs.Ran.{Bounded, Ran}
+use Rattle.enumeration.specs.RunFacts.{Bounded, RunFacts}
 use Rattle.enumeration.proofs.Basics.{or-either}
 use Rattle.enumeration.proofs.Running.{records-append}
 use Rattle.enumeration.proofs.Theorems.{steps-composed, emitted-composed, steps-stay, run-outcome, run-keeps-bounded, run-done, steps-valid, valid-short}
@@ -27,10 +27,10 @@ use Rattle.search.proofs.MarkLaws.{saved-restores}
 use Rattle.search.proofs.Readings.{family-lawful}
 use Rattle.search.proofs.Views.{state-search, valid-restorable}
 use Rattle.search.specs.Place.{familyOf, stateOf, searchAt, kindKept, restorable}
-use Rattle.search.specs.Entries.{accepted, runSearch, runOutput}
+use Rattle.search.specs.Entries.{acceptedSearch, runSearch, runOutput}
 use Rattle.search.specs.Mark.{markText, restoreMark}
-use Rattle.history.specs.Calls.{Call, runs, saves, restores, Standing, runRefused, refused, afterAccepted, after, standing, Handed, Allowed, History, isDoneStop, endedDone, saysDone, saidDone}
-use Rattle.history.specs.Resumed.{from}
+use Rattle.history.specs.Calls.{Call, runs, saves, restores, Standing, runRefused, refused, afterAccepted, afterCall, standing, Handed, Allowed, History, isDoneStop, endedDone, saysDone, saidDone}
+use Rattle.history.specs.Resumed.{restoredStart}
 use Rattle.history.proofs.Entered.{ranAt, movedBy, atoms-most, family-atoms, prefix-size, run-at, wrote-at}
 
 -- the search of a kind, s and t, k trials after the state that it began with
@@ -61,12 +61,12 @@ cond-same : {A : Type 0} (b : Bool) (x : A) → cond b x x ≡ x
 cond-same true x = refl
 cond-same false x = refl
 
-after-refused : (x : Standing) (call : Call) → refused call ≡ true → after x call ≡ x
-unfolding after
+after-refused : (x : Standing) (call : Call) → refused call ≡ true → afterCall x call ≡ x
+unfolding afterCall
 after-refused x call e = rw e
 
-pub after-save : (x : Standing) (mol : Molecule) (q : Search) (buffer : List ℕ) → after x (saves mol q buffer) ≡ x
-unfolding after afterAccepted
+pub after-save : (x : Standing) (mol : Molecule) (q : Search) (buffer : List ℕ) → afterCall x (saves mol q buffer) ≡ x
+unfolding afterCall afterAccepted
 after-save x mol q buffer = cond-same (refused (saves mol q buffer)) x
 
 refused-says : (call : Call) → refused call ≡ true → saysDone call ≡ false
@@ -89,8 +89,8 @@ module _ (R : Molecule) (kind s t : ℕ) (good : wellFormed R ≡ true) (kept : 
   back-of st v = state-search kind s t st
 
   -- at the start
-  pub reached-start : Bounded origin → (x : Standing) → x ≡ from (searchAt kind s t origin) → Reached R kind s t origin false 0 x
-  unfolding from steps emitted records
+  pub reached-start : Bounded origin → (x : Standing) → x ≡ restoredStart (searchAt kind s t origin) → Reached R kind s t origin false 0 x
+  unfolding restoredStart steps emitted records
   reached-start b x e = rw e (record { search-is = refl; sheet-is = refl; made-is = refl; counted = omega arith; bounded = b; finished = λ e. absurd (clash false e refl) })
 
   module _ (said : Bool) (k : ℕ) (x : Standing) (r : Reached R kind s t origin said k x) where
@@ -101,7 +101,7 @@ module _ (R : Molecule) (kind s t : ℕ) (good : wellFormed R ≡ true) (kept : 
     pub reached-restorable : restorable R (x .search) ≡ true
     reached-restorable = rw (r .search-is) passes-at
 
-    pub reached-restores : restoreMark R (markText R (x .search)) ≡ accepted (x .search)
+    pub reached-restores : restoreMark R (markText R (x .search)) ≡ acceptedSearch (x .search)
     reached-restores =
         saved-restores R (x .search) good reached-restorable
         (rw (r .search-is) (prefix-size kind s t (stateAt R kind s t origin k) (short-of (stateAt R kind s t origin k) (valid-at k))))
@@ -119,18 +119,18 @@ module _ (R : Molecule) (kind s t : ℕ) (good : wellFormed R ≡ true) (kept : 
         ≡ run (familyOf R kind s t) budget (length out) (stateAt R kind s t origin k) .bytes
     reached-wrote budget out = rw (r .search-is) (wrote-at R good kind s t (stateAt R kind s t origin k) (back-of (stateAt R kind s t origin k) (valid-at k)) passes-at budget out)
 
-    pub after-run : (budget : ℕ) (out : List ℕ) → after x (runs R (x .search) budget out) ≡ movedBy kind s t x (run (familyOf R kind s t) budget (length out) (stateAt R kind s t origin k))
-    unfolding after refused afterAccepted
+    pub after-run : (budget : ℕ) (out : List ℕ) → afterCall x (runs R (x .search) budget out) ≡ movedBy kind s t x (run (familyOf R kind s t) budget (length out) (stateAt R kind s t origin k))
+    unfolding afterCall refused afterAccepted
     after-run budget out = rw (reached-runs budget out, reached-wrote budget out)
 
     -- a restore of its mark leaves all as it was
-    pub after-restore : after x (restores R (markText R (x .search))) ≡ x
-    unfolding after refused afterAccepted
+    pub after-restore : afterCall x (restores R (markText R (x .search))) ≡ x
+    unfolding afterCall refused afterAccepted
     after-restore = rw reached-restores
 
     -- the outcome of a run is reached too
     moved-reached :
-        (budget room : ℕ) (o : Outcome) → Ran (familyOf R kind s t) budget room (stateAt R kind s t origin k) o → Bounded (o .state) → (o .stop ≡ Done → isDone (familyOf R kind s t .atoms) (o .state) ≡ true) →
+        (budget room : ℕ) (o : Outcome) → RunFacts (familyOf R kind s t) budget room (stateAt R kind s t origin k) o → Bounded (o .state) → (o .stop ≡ Done → isDone (familyOf R kind s t .atoms) (o .state) ≡ true) →
         Reached R kind s t origin (said || isDoneStop (o .stop)) (k + o .made) (movedBy kind s t x o)
     moved-reached budget room o w b d = record {
       search-is = ap (searchAt kind s t) state-is;
@@ -149,7 +149,7 @@ module _ (R : Molecule) (kind s t : ℕ) (good : wellFormed R ≡ true) (kept : 
         by (inr e) = rw (← state-is) (d (stop-done (o .stop) e))
 
     -- so is what stands after a run handed the search as it stands
-    run-reached : (budget : ℕ) (out : List ℕ) → (k′ : ℕ) × Reached R kind s t origin (said || saysDone (runs R (x .search) budget out)) k′ (after x (runs R (x .search) budget out))
+    run-reached : (budget : ℕ) (out : List ℕ) → (k′ : ℕ) × Reached R kind s t origin (said || saysDone (runs R (x .search) budget out)) k′ (afterCall x (runs R (x .search) budget out))
     unfolding saysDone
     run-reached budget out = (
       k + run (familyOf R kind s t) budget (length out) (stateAt R kind s t origin k) .made,
@@ -160,17 +160,17 @@ module _ (R : Molecule) (kind s t : ℕ) (good : wellFormed R ≡ true) (kept : 
           (run-done (familyOf R kind s t) budget (length out) (stateAt R kind s t origin k))),
     )
 
-    same-reached : (call : Call) → after x call ≡ x → saysDone call ≡ false → (k′ : ℕ) × Reached R kind s t origin (said || saysDone call) k′ (after x call)
+    same-reached : (call : Call) → afterCall x call ≡ x → saysDone call ≡ false → (k′ : ℕ) × Reached R kind s t origin (said || saysDone call) k′ (afterCall x call)
     same-reached call e f = (k, rw (e, f, or-false said) r)
 
-    handed-reached : (call : Call) → Handed R (x .search) call → (k′ : ℕ) × Reached R kind s t origin (said || saysDone call) k′ (after x call)
+    handed-reached : (call : Call) → Handed R (x .search) call → (k′ : ℕ) × Reached R kind s t origin (said || saysDone call) k′ (afterCall x call)
     unfolding saysDone
     handed-reached (runs mol p budget out) h = rw (h .0, h .1) (run-reached budget out)
     handed-reached (saves mol p buffer) h = same-reached (saves mol p buffer) (after-save x mol p buffer) refl
     handed-reached (restores mol mark) h = rw (h .0, h .1) (same-reached (restores R (markText R (x .search))) after-restore refl)
 
     -- and what stands after any call that is allowed
-    pub allowed-reached : (call : Call) → Allowed R x call → (k′ : ℕ) × Reached R kind s t origin (said || saysDone call) k′ (after x call)
+    pub allowed-reached : (call : Call) → Allowed R x call → (k′ : ℕ) × Reached R kind s t origin (said || saysDone call) k′ (afterCall x call)
     allowed-reached call (inl e) = same-reached call (after-refused x call e) (refused-says call e)
     allowed-reached call (inr h) = handed-reached call h
 
@@ -179,4 +179,4 @@ module _ (R : Molecule) (kind s t : ℕ) (good : wellFormed R ≡ true) (kept : 
   list-reached [] x h said k r = (k, rw (or-false said) r)
   list-reached (call ∷ calls) x h said k r =
       let next = allowed-reached said k x r call (h .0) in
-      rw (← or-assoc said (saysDone call) (saidDone calls)) (list-reached calls (after x call) (h .1) (said || saysDone call) (next .0) (next .1))
+      rw (← or-assoc said (saysDone call) (saidDone calls)) (list-reached calls (afterCall x call) (h .1) (said || saysDone call) (next .0) (next .1))

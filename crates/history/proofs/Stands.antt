@@ -11,7 +11,7 @@ use Rattle.enumeration.specs.declared.Stop.the-variants.{Done, Limit}
 use Rattle.enumeration.specs.Machine.{State, isDone}
 use Rattle.enumeration.specs.Run.{Outcome, atLimit, run}
 use Rattle.enumeration.specs.Trials.{Valid, steps, emitted}
-use Rattle.enumeration.specs.Ran.{Ran as RunHolds}
+use Rattle.enumeration.specs.RunFacts.{RunFacts}
 use Rattle.enumeration.proofs.Theorems.{run-outcome, run-limit, run-keeps-valid, run-lists}
 use Rattle.molecule.specs.declared.Molecule.{Molecule}
 use Rattle.molecule.specs.Record.{wellFormed}
@@ -70,7 +70,7 @@ module _ (R : Molecule) (kind s t : ℕ) (good : wellFormed R ≡ true) (kept : 
         (run-lists (familyOf R kind s t) (lawful R kind s t good kept origin sound) budget (length out) st v (rw (family-atoms R kind s t) b) (rw (family-atoms R kind s t) l)))
       where
         by :
-            (o : Outcome) → RunHolds (familyOf R kind s t) budget (length out) (stateAt R kind s t origin k) o → Valid (familyOf R kind s t) (o .state) → (o .stop ≡ Limit → atLimit (o .state) ≡ true) →
+            (o : Outcome) → RunFacts (familyOf R kind s t) budget (length out) (stateAt R kind s t origin k) o → Valid (familyOf R kind s t) (o .state) → (o .stop ≡ Limit → atLimit (o .state) ≡ true) →
             (1 ≤ length (emitted (familyOf R kind s t) (o .made) (stateAt R kind s t origin k))) ⊎ ((o .stop ≡ Done) ⊎ (o .stop ≡ Limit)) → Progress (x .search) (ranAt kind s t o)
         by o w v a (inl e) = inl (omega (arith, parts-of .listed-is, parts kind s t (o .state) .listed-is, w .listing))
         by o w v a (inr (inl e)) = inr (inl (ap Stopped e))

@@ -68,13 +68,13 @@ afterAccepted x (saves mol q buffer) = x
 afterAccepted x (restores mol mark) = record { search = restoreMark mol mark .search; sheet = x .sheet; made = x .made }
 
 -- After any call: a refused one changes nothing
-unfoldable pub after : Standing → Call → Standing
-after x call = cond (refused call) x (afterAccepted x call)
+unfoldable pub afterCall : Standing → Call → Standing
+afterCall x call = cond (refused call) x (afterAccepted x call)
 
 -- After a list of calls, the first of the list made first
 unfoldable pub standing : Standing → List Call → Standing
 standing x [] = x
-standing x (call ∷ calls) = standing (after x call) calls
+standing x (call ∷ calls) = standing (afterCall x call) calls
 
 -- ---- the lists that demand 3 speaks of
 
@@ -91,7 +91,7 @@ Allowed R x call = (refused call ≡ true) ⊎ Handed R (x .search) call
 -- Each call of the list is allowed where it is made
 abbrev pub History : Molecule → Standing → List Call → Type 0
 History R x [] = Unit {0}
-History R x (call ∷ calls) = Allowed R x call × History R (after x call) calls
+History R x (call ∷ calls) = Allowed R x call × History R (afterCall x call) calls
 
 -- ---- what a call says
 

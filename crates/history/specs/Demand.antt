@@ -20,7 +20,7 @@ use Rattle.search.specs.declared.Ran.{Ran}
 use Rattle.search.specs.declared.Ended.the-variants.{Stopped}
 use Rattle.search.specs.declared.Saved.the-variants.{Written, Refused}
 use Rattle.search.specs.Place.{familyOf, stateOf, searchAt}
-use Rattle.search.specs.Entries.{accepted, runSearch}
+use Rattle.search.specs.Entries.{acceptedSearch, runSearch}
 use Rattle.search.specs.Mark.{markText, saveAnswer, saveOutput, restoreMark}
 use Rattle.history.specs.Calls.{Call, Standing, saidDone}
 
@@ -53,7 +53,7 @@ pub record GoesOn (R : Molecule) (x : Standing) : Type 0 where
   -- no run is refused, nor is a restore of the mark of that search: it returns that search;
   -- a save of it is refused only where the buffer is shorter than the mark, and otherwise writes the mark
   pub run-accepted : (budget : ℕ) (out : List ℕ) → (why : Stop) × (runSearch R (x .search) budget out .ended ≡ Stopped why)
-  pub restore-accepted : restoreMark R (markText R (x .search)) ≡ accepted (x .search)
+  pub restore-accepted : restoreMark R (markText R (x .search)) ≡ acceptedSearch (x .search)
   pub save-answers :
       (buffer : List ℕ) →
       saveAnswer R (x .search) buffer ≡ cond (leb (length (markText R (x .search))) (length buffer)) (Written (length (markText R (x .search)))) (Refused refusal.MarkRoom)

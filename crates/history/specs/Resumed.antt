@@ -17,8 +17,8 @@ use Rattle.history.specs.Calls.{Call, Standing, saidDone}
 use Rattle.history.specs.Demand.{GoesOn}
 
 -- At first: the search that the mark restored, an empty sheet, no trial made
-unfoldable pub from : Search → Standing
-from q = record { search = q; sheet = []; made = 0 }
+unfoldable pub restoredStart : Search → Standing
+restoredStart q = record { search = q; sheet = []; made = 0 }
 
 -- w begins with p and its next atom is at least c, or it comes later in dictionary order than every list beginning with p
 abbrev pub Follows : List ℕ → ℕ → List ℕ → Type 0

@@ -16,19 +16,19 @@ use Rattle.refusal.specs.declared.Refusal.the-variants as refusal
 use Rattle.refusal.specs.declared.Answer.the-variants.{Accepted, Refused}
 use Rattle.molecule.specs.declared.Molecule.{Molecule}
 use Rattle.molecule.specs.Record.{wellFormed}
-use Rattle.sheet.specs.declared.Sheet.{Sheet}
+use Rattle.sheet.specs.declared.SheetAnswer.{SheetAnswer}
 use Rattle.sheet.specs.Read.{readSheet}
 use Rattle.search.specs.declared.Search.{Search}
 use Rattle.search.specs.declared.Made.{Made}
 use Rattle.search.specs.declared.Ran.{Ran}
 use Rattle.search.specs.Place.{freshSearch}
-use Rattle.search.specs.Entries.{accepted, runSearch, runOutput}
+use Rattle.search.specs.Entries.{acceptedSearch, runSearch, runOutput, endedNumber}
 use Rattle.search.specs.Mark.{fieldAt, valueAt, saveOutput, restoreMark}
 use Rattle.start.proofs.Starts.{rings-started}
-use Rattle.host.specs.Resume.{Resumed, turnedBack, endedNumber, searchFor, runAndSave, resume, markSize, listedIn}
+use Rattle.host.specs.Resume.{Resumed, refusedCall, searchFor, runAndSave, resume, markSize, listedIn}
 
 module _ (mol : Molecule) (mark : List ℕ) where
-  pub search-fresh : wellFormed mol ≡ true → length mark ≡ 0 → accepted (freshSearch 0 0 0) ≡ searchFor mol mark
+  pub search-fresh : wellFormed mol ≡ true → length mark ≡ 0 → acceptedSearch (freshSearch 0 0 0) ≡ searchFor mol mark
   unfolding searchFor
   search-fresh formed e = rw (eq-eqb (length mark) 0 e, rings-started mol formed)
 
@@ -49,18 +49,18 @@ unfolding runAndSave
 ran-and-saved mol q budget rings next ran number out saved r o s n =
     (n ∙ ap (λ (x : Ran). endedNumber (x .ended)) r, (o, s ∙ ap (λ (x : Ran). saveOutput mol (x .search) next) r))
 
-module _ (sheet mark : List ℕ) (budget : ℕ) (rings next : List ℕ) (read : Sheet) (is-read : read ≡ readSheet sheet) where
-  pub sheet-refused : (r : Refusal) → read .answer ≡ Refused r → turnedBack r rings next ≡ resume sheet mark budget rings next
+module _ (sheet mark : List ℕ) (budget : ℕ) (rings next : List ℕ) (read : SheetAnswer) (is-read : read ≡ readSheet sheet) where
+  pub sheet-refused : (r : Refusal) → read .answer ≡ Refused r → refusedCall r rings next ≡ resume sheet mark budget rings next
   unfolding resume
   sheet-refused r e = rw (← is-read, e)
 
   module _ (taken : read .answer ≡ Accepted) (made : Made) (is-made : made ≡ searchFor (read .molecule) mark) where
-    pub mark-refused : (r : Refusal) → made .answer ≡ Refused r → turnedBack r rings next ≡ resume sheet mark budget rings next
+    pub mark-refused : (r : Refusal) → made .answer ≡ Refused r → refusedCall r rings next ≡ resume sheet mark budget rings next
     unfolding resume
     mark-refused r e = rw (← is-read, taken, ← is-made, e)
 
     module _ (restored : made .answer ≡ Accepted) where
-      pub room-refused : length next < 599 → turnedBack refusal.MarkRoom rings next ≡ resume sheet mark budget rings next
+      pub room-refused : length next < 599 → refusedCall refusal.MarkRoom rings next ≡ resume sheet mark budget rings next
       unfolding resume
       room-refused h = rw (← is-read, taken, ← is-made, restored, lt-leb 599 (length next) h)
 

@@ -9,7 +9,7 @@ use Rattle.enumeration.specs.Machine.{fresh}
 use Rattle.molecule.specs.declared.Molecule.{Molecule}
 use Rattle.molecule.specs.Record.{wellFormed}
 use Rattle.search.specs.Place.{beginning, searchAt, freshSearch, kindKept}
-use Rattle.search.specs.Entries.{accepted}
+use Rattle.search.specs.Entries.{acceptedSearch}
 use Rattle.search.specs.Mark.{fieldsText, lineFeed, markText, restoreMark}
 use Rattle.search.proofs.MarkLaws.{fresh-restorable, saved-restores}
 use Rattle.search.proofs.Views.{search-length}
@@ -35,7 +35,7 @@ module _ (R : Molecule) (kind s t : ℕ) where
 
   pub fresh-restores :
       wellFormed R ≡ true → kindKept (R .atoms) kind s t ≡ true →
-      restoreMark R (markText R (freshSearch kind s t)) ≡ accepted (freshSearch kind s t)
+      restoreMark R (markText R (freshSearch kind s t)) ≡ acceptedSearch (freshSearch kind s t)
   fresh-restores good kept =
       saved-restores R (freshSearch kind s t) good (fresh-restorable R kind s t good kept)
       (unfold freshSearch fresh in (search-length kind s t fresh (omega arith)))

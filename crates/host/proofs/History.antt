@@ -18,11 +18,11 @@ use Rattle.sheet.specs.Read.{readSheet}
 use Rattle.sheet.proofs.Accepted.{accepted-well-formed}
 use Rattle.search.specs.declared.Search.{Search}
 use Rattle.search.specs.Place.{stateOf, searchAt, freshSearch, kindKept, restorable}
-use Rattle.search.specs.Entries.{accepted as restored}
+use Rattle.search.specs.Entries.{acceptedSearch}
 use Rattle.search.specs.Mark.{markText, restoreMark}
 use Rattle.search.proofs.MarkLaws.{restorable-facts, restorable-valid, restored-restorable, restored-saves}
 use Rattle.history.specs.Calls.{Call, Standing, start, standing, History}
-use Rattle.history.specs.Resumed.{from}
+use Rattle.history.specs.Resumed.{restoredStart}
 use Rattle.history.proofs.Demand3.{fresh-sound, fresh-reached, demand3}
 use Rattle.history.proofs.Each.{rings-start}
 use Rattle.history.proofs.FromMark.{first-reached, from-mark}
@@ -75,7 +75,7 @@ module _ {L : Listing} {said : Bool} {k : Kept} {x : Standing} (v : Agrees L sai
   -- calls from what is kept and stands now
   host-on : HostGoesOn (L .sheet) (L .mol) k
   host-on = record {
-    accepted = λ c e f room. call.not-refused v c (e, f) room;
+    call-accepted = λ c e f room. call.not-refused v c (e, f) room;
     progress = λ c e f room b l.
         call.call-progress v c (e, f) room (on-in L (v .reached) .progress (c .budget) (c .rings) b l);
   }
@@ -121,10 +121,10 @@ host-listed {L} v calls h =
 
 -- ---- what is kept and stands at first
 
-module _ {L : Listing} (q : Search) (is-from : L .began ≡ from q) (reached : ReachedIn L false 0 (L .began)) where
+module _ {L : Listing} (q : Search) (is-from : L .began ≡ restoredStart q) (reached : ReachedIn L false 0 (L .began)) where
   -- a mark, which restores the search
-  marked-agrees : restoreMark (L .mol) (L .first) ≡ restored q → Agrees L false (keeping (L .first)) (L .began)
-  unfolding keeping from
+  marked-agrees : restoreMark (L .mol) (L .first) ≡ acceptedSearch q → Agrees L false (keeping (L .first)) (L .began)
+  unfolding keeping restoredStart
   marked-agrees e =
       let saved = restored-saves (L .mol) (L .first) q e in
       record {
@@ -138,7 +138,7 @@ module _ {L : Listing} (q : Search) (is-from : L .began ≡ from q) (reached : R
 
   -- no mark, which names the fresh ring search
   unmarked-agrees : L .first ≡ [] → q ≡ freshSearch 0 0 0 → Agrees L false (keeping (L .first)) (L .began)
-  unfolding keeping from searchFor listedIn
+  unfolding keeping restoredStart searchFor listedIn
   unmarked-agrees none e = record {
     count = 0;
     reached = reached;
@@ -180,8 +180,8 @@ module _
     fresh-agrees : Agrees fresh-listing false (keeping first) (start kind s t)
     fresh-agrees = go (starts .1)
       where
-        is-from : start kind s t ≡ from (freshSearch kind s t)
-        is-from = unfold start from in refl
+        is-from : start kind s t ≡ restoredStart (freshSearch kind s t)
+        is-from = unfold start restoredStart in refl
 
         reached : ReachedIn fresh-listing false 0 (start kind s t)
         reached = fresh-reached R kind s t formed (starts .0)
@@ -209,7 +209,7 @@ module _
 
   -- ---- calls from a mark
 
-  module _ (mark : List ℕ) (q : Search) (e : restoreMark R mark ≡ restored q) where
+  module _ (mark : List ℕ) (q : Search) (e : restoreMark R mark ≡ acceptedSearch q) where
     passes : restorable R q ≡ true
     passes = restored-restorable R mark q e .1
 
@@ -222,7 +222,7 @@ module _
       t = q .t;
       origin = stateOf q;
       first = mark;
-      began = from q;
+      began = restoredStart q;
       read = read;
       is-record = is-record;
       formed = formed;
@@ -230,12 +230,12 @@ module _
       sound = restorable-valid R q passes;
     }
 
-    mark-agrees : Agrees mark-listing false (keeping mark) (from q)
+    mark-agrees : Agrees mark-listing false (keeping mark) (restoredStart q)
     mark-agrees = marked-agrees q refl (first-reached R q formed passes (restored-restorable R mark q e .2)) e
 
     mark-followed :
         (calls : List HostCall) → HostHistory sheet (keeping mark) calls →
-        HostFromMark sheet R mark q calls (keptBy (keeping mark) calls) (standing (from q) (allCallsIn calls))
+        HostFromMark sheet R mark q calls (keptBy (keeping mark) calls) (standing (restoredStart q) (allCallsIn calls))
     mark-followed calls h =
         let l = host-listed mark-agrees calls h in
         let d = from-mark R mark q e (allCallsIn calls) (l .stands .is-history) in
@@ -258,10 +258,10 @@ host-demand3 sheet read = fresh-demand sheet read (readSheet sheet .molecule) re
 -- Over every accepted sheet, every mark that its record restores, and every list of calls from C that begins with it
 pub host-from-mark :
     (sheet : List ℕ) → readSheet sheet .answer ≡ Accepted →
-    (mark : List ℕ) (q : Search) → restoreMark (readSheet sheet .molecule) mark ≡ restored q →
+    (mark : List ℕ) (q : Search) → restoreMark (readSheet sheet .molecule) mark ≡ acceptedSearch q →
     (calls : List HostCall) → HostHistory sheet (keeping mark) calls →
     HostFromMark sheet (readSheet sheet .molecule) mark q calls
-    (keptBy (keeping mark) calls) (standing (from q) (allCallsIn calls))
+    (keptBy (keeping mark) calls) (standing (restoredStart q) (allCallsIn calls))
 host-from-mark sheet read = mark-followed sheet read (readSheet sheet .molecule) refl
 
 -- The entry takes the fresh mark of every search that rule 16 allows on the sheet's record
@@ -273,4 +273,4 @@ pub fresh-accepted :
 unfolding keptBy keeping
 fresh-accepted sheet read kind s t kept =
     let first = markText (readSheet sheet .molecule) (freshSearch kind s t) in
-    host-demand3 sheet read kind s t first (kept, inl refl) [] tt .stands .goes-on .accepted
+    host-demand3 sheet read kind s t first (kept, inl refl) [] tt .stands .goes-on .call-accepted

@@ -22,7 +22,7 @@ use Rattle.refusal.specs.declared.Answer.the-variants.{Accepted, Refused}
 use Rattle.refusal.specs.Number.{numberOf}
 use Rattle.molecule.specs.declared.Molecule.{Molecule}
 use Rattle.molecule.specs.Record.{wellFormed}
-use Rattle.sheet.specs.declared.Sheet.{Sheet}
+use Rattle.sheet.specs.declared.SheetAnswer.{SheetAnswer}
 use Rattle.sheet.specs.Bonds.{atomsKept, noneToItself, noneTwice}
 use Rattle.sheet.specs.Read.{lengthKept, linesKept, atomsOf, bondsOf, bondOf, readBonds, readSheet}
 use Rattle.sheet.proofs.Accepted.{accepted-well-formed}
@@ -31,13 +31,13 @@ use Rattle.search.specs.declared.Made.{Made}
 use Rattle.search.specs.declared.Ran.{Ran}
 use Rattle.search.specs.declared.Ended.the-variants.{Stopped}
 use Rattle.search.specs.Place.{familyOf, family, stateOf, searchAt, freshSearch, kindKept, placeKept, restorable}
-use Rattle.search.specs.Entries.{accepted, startRings, outcome, ran, runSearch, runOutput}
+use Rattle.search.specs.Entries.{acceptedSearch, startRings, outcome, ran, runSearch, runOutput, endedNumber}
 use Rattle.search.specs.Mark.{valueAt, markText, layoutKept, markBeginning, belongs, restoreMark}
 use Rattle.search.proofs.Restores.{restored-facts}
 use Rattle.search.proofs.Views.{beginning-length}
 use Rattle.search.proofs.MarkLaws.{family-lawful, restorable-facts, restorable-valid, valid-full, fresh-restorable, run-restorable, mark-length, saved-restores, restored-restorable}
 use Rattle.history.proofs.Entered.{save-wrote}
-use Rattle.host.specs.Resume.{Resumed, turnedBack, endedNumber, searchFor, runAndSave, resume, markSize, listedIn}
+use Rattle.host.specs.Resume.{Resumed, refusedCall, searchFor, runAndSave, resume, markSize, listedIn}
 use Rattle.host.proofs.Answers.{search-fresh, search-restored, sheet-refused, mark-refused, room-refused, resumed, listed-short}
 use Rattle.host.proofs.Sizes.{listed-restored, mark-size, mark-listed}
 
@@ -56,7 +56,7 @@ within-refused : (a b : ℕ) (x : Answer) (r : Refusal) → x ≡ Refused r → 
 within-refused a b x r e h = rw e at h
 
 -- a sheet is refused by rules 1 to 8
-abbrev SheetRule : Sheet → Type 0
+abbrev SheetRule : SheetAnswer → Type 0
 SheetRule x = Within 1 8 (x .answer)
 
 pub sheet-numbers : (s : List ℕ) (r : Refusal) → readSheet s .answer ≡ Refused r → (1 ≤ numberOf r) × (numberOf r ≤ 8)
@@ -104,7 +104,7 @@ record Begun (mol : Molecule) (mark : List ℕ) (q : Search) : Type 0 where
   kept : restorable mol q ≡ true
   listed-is : listedIn mark ≡ q .listed
 
-made-is : (x : Made) → x .answer ≡ Accepted → x ≡ accepted (x .search)
+made-is : (x : Made) → x .answer ≡ Accepted → x ≡ acceptedSearch (x .search)
 made-is x e = ap (λ (a : Answer). record { answer = a; search = x .search }) e
 
 begun-fresh : (mol : Molecule) (mark : List ℕ) → wellFormed mol ≡ true → length mark ≡ 0 → Begun mol mark (searchFor mol mark .search)
@@ -117,7 +117,7 @@ begun-fresh mol mark formed none =
 
 begun-restored : (mol : Molecule) (mark : List ℕ) → (length mark ≡ 0 → ⊥) → searchFor mol mark .answer ≡ Accepted → Begun mol mark (searchFor mol mark .search)
 begun-restored mol mark some e =
-    let is : restoreMark mol mark ≡ accepted (searchFor mol mark .search) = search-restored mol mark some ∙ made-is (searchFor mol mark) e in
+    let is : restoreMark mol mark ≡ acceptedSearch (searchFor mol mark .search) = search-restored mol mark some ∙ made-is (searchFor mol mark) e in
     record {
       kept = restored-restorable mol mark (searchFor mol mark .search) is .1;
       listed-is = listed-restored mol mark (searchFor mol mark .search) (restored-facts mol mark (searchFor mol mark .search) is);
@@ -131,7 +131,7 @@ begun mol mark formed e = go (ℕ-discrete (length mark) 0)
     go (no some) = begun-restored mol mark some e
 
 -- an accepted sheet keeps rule 9, and the search that is made on it keeps rule 12
-module _ (sheet : List ℕ) (read : Sheet) (is-read : read ≡ readSheet sheet) (taken : read .answer ≡ Accepted) where
+module _ (sheet : List ℕ) (read : SheetAnswer) (is-read : read ≡ readSheet sheet) (taken : read .answer ≡ Accepted) where
   pub read-formed : wellFormed (read .molecule) ≡ true
   read-formed = rw is-read (accepted-well-formed sheet (rw is-read at taken))
 
@@ -190,7 +190,7 @@ module _ (mol : Molecule) (q : Search) (formed : wellFormed mol ≡ true) (kept 
       let rise : searchAt (q .kind) (q .s) (q .t) (o .state) .listed ≡ q .listed + length (emitted (family mol q) (o .made) (stateOf q)) = unfold searchAt stateOf in (run-outcome (family mol q) budget (length rings) (stateOf q) .listing) in
       ap (λ (x : Search). x .listed) after-is ∙ rise ∙ ap (λ (l : List (List ℕ)). q .listed + length l) ws-is
 
-  after-restores : searchFor mol (markText mol after) ≡ accepted after
+  after-restores : searchFor mol (markText mol after) ≡ acceptedSearch after
   after-restores =
       sym (search-restored mol (markText mol after) (λ none. absurd (omega (arith, mark-length mol after))))
       ∙ saved-restores mol after formed after-kept after-full
@@ -242,10 +242,10 @@ module _ (sheet mark : List ℕ) (budget : ℕ) (rings next : List ℕ) where
     pub mark-is : answer .nextMark ≡ markText mol returned ++ drop (length (markText mol returned)) next
     pub mark-fits : length (markText mol returned) ≤ 599
     pub size-is : markSize (answer .nextMark) ≡ length (markText mol returned)
-    pub restores : searchFor mol (markText mol returned) ≡ accepted returned
+    pub restores : searchFor mol (markText mol returned) ≡ acceptedSearch returned
     pub counted : listedIn (answer .nextMark) ≡ listedIn mark + length words
 
-  turned : (r : Refusal) → turnedBack r rings next ≡ answer → ((1 ≤ numberOf r) × (numberOf r ≤ 8)) ⊎ ((13 ≤ numberOf r) × (numberOf r ≤ 17)) → Turned
+  turned : (r : Refusal) → refusedCall r rings next ≡ answer → ((1 ≤ numberOf r) × (numberOf r ≤ 8)) ⊎ ((13 ≤ numberOf r) × (numberOf r ≤ 17)) → Turned
   turned r e h =
       record {
         rule = r;

@@ -16,7 +16,7 @@ use Rattle.enumeration.specs.Words.{Family}
 use Rattle.enumeration.specs.Machine.{State, isDone}
 use Rattle.enumeration.specs.Run.{Outcome, run, recordOf, stopNumber}
 use Rattle.enumeration.specs.Trials.{Valid, emitted, records}
-use Rattle.enumeration.specs.Ran.{Ran as RunHolds}
+use Rattle.enumeration.specs.RunFacts.{RunFacts}
 use Rattle.enumeration.proofs.Theorems.{run-outcome}
 use Rattle.refusal.specs.declared.Answer.the-variants.{Accepted}
 use Rattle.molecule.specs.declared.Molecule.{Molecule}
@@ -26,18 +26,18 @@ use Rattle.search.specs.declared.Search.{Search}
 use Rattle.search.specs.declared.Made.{Made}
 use Rattle.search.specs.declared.Ran.{Ran}
 use Rattle.search.specs.Place.{familyOf, family, stateOf, searchAt, kindKept}
-use Rattle.search.specs.Entries.{accepted, runSearch}
+use Rattle.search.specs.Entries.{acceptedSearch, runSearch, endedNumber}
 use Rattle.search.specs.Mark.{markText, restoreMark}
 use Rattle.search.proofs.Restores.{restored-facts}
 use Rattle.search.proofs.MarkLaws.{mark-length}
-use Rattle.history.specs.Calls.{Call, runs, saves, restores, Standing, after, standing, Allowed, History}
+use Rattle.history.specs.Calls.{Call, runs, saves, restores, Standing, afterCall, standing, Allowed, History}
 use Rattle.history.specs.Calls.{isDoneStop, saysDone}
 use Rattle.history.specs.Demand.{Progress, GoesOn}
 use Rattle.history.proofs.Entered.{ranAt, movedBy}
 use Rattle.history.proofs.Reached as history
 use Rattle.history.proofs.Joined.{standing-joined, history-joined}
 use Rattle.history.proofs.Stands as stands
-use Rattle.host.specs.Resume.{Resumed, endedNumber, searchFor, resume, markSize, listedIn}
+use Rattle.host.specs.Resume.{Resumed, searchFor, resume, markSize, listedIn}
 use Rattle.host.specs.Calls.{HostCall, returned, isRefused, Kept, firstRecords, markLeft, newRecords, keptAfter, callsIn}
 use Rattle.host.proofs.Answers.{search-restored}
 use Rattle.host.proofs.Sizes.{listed-restored}
@@ -103,7 +103,7 @@ ReachedIn L said n x = history.Reached (L .mol) (L .kind) (L .s) (L .t) (L .orig
 pub record Agrees (L : Listing) (said : Bool) (k : Kept) (x : Standing) : Type 0 where
   pub count : ℕ
   pub reached : ReachedIn L said count x
-  pub named : searchFor (L .mol) (k .mark) ≡ accepted (x .search)
+  pub named : searchFor (L .mol) (k .mark) ≡ acceptedSearch (x .search)
   pub mark-stands : (k .mark ≡ markText (L .mol) (x .search)) ⊎ ((k .mark ≡ []) × (L .first ≡ []) × (x ≡ L .began))
   pub listed-known : listedIn (k .mark) ≡ x .search .listed
   pub records-kept : k .rings ≡ x .sheet
@@ -130,12 +130,12 @@ module _ (L : Listing) {said : Bool} {n : ℕ} {x : Standing} (r : ReachedIn L s
       history.reached-state
       (L .mol) (L .kind) (L .s) (L .t) (L .formed) (L .kept) (L .origin) (L .sound) said n x r
 
-  restored-in : after x (restores (L .mol) (markText (L .mol) (x .search))) ≡ x
+  restored-in : afterCall x (restores (L .mol) (markText (L .mol) (x .search))) ≡ x
   restored-in =
       history.after-restore
       (L .mol) (L .kind) (L .s) (L .t) (L .formed) (L .kept) (L .origin) (L .sound) said n x r
 
-  allowed-in : (call : Call) → Allowed (L .mol) x call → (m : ℕ) × ReachedIn L (said || saysDone call) m (after x call)
+  allowed-in : (call : Call) → Allowed (L .mol) x call → (m : ℕ) × ReachedIn L (said || saysDone call) m (afterCall x call)
   allowed-in =
       history.allowed-reached
       (L .mol) (L .kind) (L .s) (L .t) (L .formed) (L .kept) (L .origin) (L .sound) said n x r
@@ -150,7 +150,7 @@ module _ (L : Listing) {said : Bool} {n : ℕ} {x : Standing} (r : ReachedIn L s
         history.reached-runs
         (L .mol) (L .kind) (L .s) (L .t) (L .formed) (L .kept) (L .origin) (L .sound) said n x r budget out
 
-    moved-in : after x (runs (L .mol) (x .search) budget out) ≡ movedBy (L .kind) (L .s) (L .t) x outcome-in
+    moved-in : afterCall x (runs (L .mol) (x .search) budget out) ≡ movedBy (L .kind) (L .s) (L .t) x outcome-in
     moved-in =
         history.after-run
         (L .mol) (L .kind) (L .s) (L .t) (L .formed) (L .kept) (L .origin) (L .sound) said n x r budget out
@@ -162,7 +162,7 @@ pub mark-some : (mol : Molecule) (q : Search) → length (markText mol q) ≡ 0 
 mark-some mol q z = omega (arith, mark-length mol q)
 
 pub mark-counts :
-    (mol : Molecule) (mark : List ℕ) (q : Search) → restoreMark mol mark ≡ accepted q → listedIn mark ≡ q .listed
+    (mol : Molecule) (mark : List ℕ) (q : Search) → restoreMark mol mark ≡ acceptedSearch q → listedIn mark ≡ q .listed
 mark-counts mol mark q e = listed-restored mol mark q (restored-facts mol mark q e)
 
 -- the members that a run of the search q lists, and the mark of the search that it returns
@@ -195,7 +195,7 @@ module _ (sheet mark : List ℕ) (budget : ℕ) (rings next : List ℕ) where
 
   answered :
       (mol : Molecule) (q : Search) → readSheet sheet .answer ≡ Accepted → readSheet sheet .molecule ≡ mol →
-      searchFor mol mark ≡ accepted q → 599 ≤ length next → AnsweredOn mol q
+      searchFor mol mark ≡ acceptedSearch q → 599 ≤ length next → AnsweredOn mol q
   answered mol q read is named room =
       let made : searchFor (readSheet sheet .molecule) mark .answer ≡ Accepted =
       ap (λ (m : Molecule). searchFor m mark .answer) is ∙ ap (λ (a : Made). a .answer) named in
@@ -279,7 +279,7 @@ module _
     abbrev new : List (List ℕ)
     new = emitted (lists L) (outcome .made) (stateIn L (v .count))
 
-    outcome-holds : RunHolds (lists L) (c .budget) (length (c .rings)) (stateIn L (v .count)) outcome
+    outcome-holds : RunFacts (lists L) (c .budget) (length (c .rings)) (stateIn L (v .count)) outcome
     outcome-holds = run-outcome (lists L) (c .budget) (length (c .rings)) (stateIn L (v .count))
 
     rings-is : returned c .rings ≡ records new ++ drop (length (records new)) (c .rings)
@@ -363,7 +363,7 @@ module _
     two-stand : standing x last-two ≡ ran-to
     unfolding standing
     two-stand =
-        let ran = after x (runs (L .mol) (x .search) (c .budget) (c .rings)) in
+        let ran = afterCall x (runs (L .mol) (x .search) (c .budget) (c .rings)) in
         history.after-save ran (L .mol) (ran-to .search) (c .next) ∙ moved-in L (v .reached) (c .budget) (c .rings)
 
     pub call-history : History (L .mol) x (callsIn c)

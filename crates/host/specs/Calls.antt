@@ -17,7 +17,7 @@ use Rattle.search.specs.Entries.{runSearch}
 use Rattle.search.specs.Mark.{markText}
 use Rattle.history.specs.Calls.{Call, runs, saves, restores, Standing, start, History}
 use Rattle.history.specs.Demand.{Demand}
-use Rattle.history.specs.Resumed.{from, followers, FromMark}
+use Rattle.history.specs.Resumed.{restoredStart, followers, FromMark}
 use Rattle.host.specs.Resume.{Resumed, searchFor, resume, markSize, listedIn}
 
 -- A call from C, handed anything at all: a sheet, a mark, a budget, a ring output and a mark output
@@ -120,7 +120,7 @@ listOf R kind s t = members (familyOf R kind s t)
 -- Calls handed the sheet of the record R and the mark as it stands, with 599 bytes for the next mark
 pub record HostGoesOn (sheet : List ℕ) (R : Molecule) (k : Kept) : Type 0 where
   -- are not refused
-  pub accepted : (c : HostCall) → c .sheet ≡ sheet → c .mark ≡ k .mark → 599 ≤ length (c .next) → isRefused c ≡ false
+  pub call-accepted : (c : HostCall) → c .sheet ≡ sheet → c .mark ≡ k .mark → 599 ≤ length (c .next) → isRefused c ≡ false
   -- and with 2 × n × n trials and n + 1 bytes list a member, or return 101 or 102
   pub progress :
       (c : HostCall) → c .sheet ≡ sheet → c .mark ≡ k .mark → 599 ≤ length (c .next) →
@@ -156,7 +156,7 @@ pub record HostDemand
 pub record HostFromMark
     (sheet : List ℕ) (R : Molecule) (mark : List ℕ) (q : Search)
     (calls : List HostCall) (k : Kept) (x : Standing) : Type 0 where
-  pub stands : HostStands sheet R mark (from q) calls k x
+  pub stands : HostStands sheet R mark (restoredStart q) calls k x
   pub from-mark : FromMark R q (allCallsIn calls) x
   -- the records kept are the first of the members that follow the mark's place, as many as listed has risen by since
   pub records-first : k .rings ≡ records (take (listedIn (k .mark) - q .listed) (followers R q))

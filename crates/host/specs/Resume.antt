@@ -4,7 +4,6 @@ use mathlib.Core.Bool.{_&&_, cond}
 use mathlib.Core.List.{List}
 use lib.ListN.{length}
 use lib.Dec.{leb, eqb}
-use Rattle.enumeration.specs.Run.{stopNumber}
 use Rattle.refusal.specs.declared.Refusal.{Refusal}
 use Rattle.refusal.specs.declared.Refusal.the-variants as refusal
 use Rattle.refusal.specs.declared.Answer.{Answer}
@@ -14,9 +13,7 @@ use Rattle.molecule.specs.declared.Molecule.{Molecule}
 use Rattle.sheet.specs.Read.{readSheet}
 use Rattle.search.specs.declared.Search.{Search}
 use Rattle.search.specs.declared.Made.{Made}
-use Rattle.search.specs.declared.Ended.{Ended}
-use Rattle.search.specs.declared.Ended.the-variants as ended
-use Rattle.search.specs.Entries.{startRings, runSearch, runOutput}
+use Rattle.search.specs.Entries.{startRings, runSearch, runOutput, endedNumber}
 use Rattle.search.specs.Mark.{fieldAt, isValue, valueAt, markLength, saveOutput, restoreMark}
 
 -- What the entry returns, and its two outputs after it
@@ -26,16 +23,12 @@ pub record Resumed : Type 0 where
   pub nextMark : List ℕ
 
 -- A refusal returns its number and changes neither output
-abbrev pub turnedBack : Refusal → List ℕ → List ℕ → Resumed
-turnedBack r rings next = record { number = numberOf r; rings = rings; nextMark = next }
+abbrev pub refusedCall : Refusal → List ℕ → List ℕ → Resumed
+refusedCall r rings next = record { number = numberOf r; rings = rings; nextMark = next }
 
 abbrev pub unlessRefused : Answer → List ℕ → List ℕ → Resumed → Resumed
 unlessRefused answer.Accepted rings next goes = goes
-unlessRefused (answer.Refused r) rings next goes = turnedBack r rings next
-
-abbrev pub endedNumber : Ended → ℕ
-endedNumber (ended.Stopped why) = stopNumber why
-endedNumber (ended.Refused r) = numberOf r
+unlessRefused (answer.Refused r) rings next goes = refusedCall r rings next
 
 -- The search to run: no mark bytes mean a fresh ring search
 unfoldable pub searchFor : Molecule → List ℕ → Made
@@ -54,7 +47,7 @@ resume sheet mark budget rings next =
     let made = searchFor mol mark in
     unlessRefused (readSheet sheet .answer) rings next
     (unlessRefused (made .answer) rings next
-    (cond (leb 599 (length next)) (runAndSave mol (made .search) budget rings next) (turnedBack refusal.MarkRoom rings next)))
+    (cond (leb 599 (length next)) (runAndSave mol (made .search) budget rings next) (refusedCall refusal.MarkRoom rings next)))
 
 -- The bytes of the mark at the start of a buffer, by the length of p in its sixth field; 0 where the buffer holds no mark of that length
 unfoldable pub markSize : List ℕ → ℕ

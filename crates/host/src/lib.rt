@@ -3,24 +3,13 @@ ghost use mathlib.Core.Path.{_≡_};
 ghost use mathlib.Core.Bool.{true};
 ghost use Rattle.molecule.specs.Record.{wellFormed};
 ghost use Rattle.search.specs.Place.{restorable};
-ghost use Rattle.host.specs.Resume.{endedNumber, searchFor, runAndSave, resume, markSize, listedIn};
+ghost use Rattle.host.specs.Resume.{searchFor, runAndSave, resume, markSize, listedIn};
 use fields::Number;
 use molecule::Molecule;
 use refusal::Answer;
 use refusal::Refusal;
-use search::Ended;
 use search::Made;
 use search::Search;
-
-// The number of a stop or of a refusal.
-fn ended_number(e: Ended) -> u32
-    ensures { λ r. ⌜ r ≡ endedNumber e ⌝ }
-{
-    match e {
-        Ended::Stopped(why) => enumeration::stop_number(why),
-        Ended::Refused(r) => refusal::number(r),
-    }
-}
 
 // The search that a mark names; no bytes mean a fresh ring search.
 fn search_for(m: Molecule, mark: &[u8]) -> Made
@@ -48,7 +37,7 @@ fn run_and_save(m: Molecule, q: Search, budget: u64, rings: &mut [u8], next_mark
     let search = ran.search;
     let ended = ran.ended;
     mark_writer::save_checked(m, search, next_mark);
-    ended_number(ended)
+    search::ended_number(ended)
 }
 
 // Reads a sheet, restores a mark, runs within a budget and saves: rules 1 to 8, 14 to 17, 13.

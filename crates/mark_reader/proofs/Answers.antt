@@ -15,7 +15,7 @@ use Rattle.molecule.specs.Record.{wellFormed}
 use Rattle.molecule.proofs.Bonds.{rule9}
 use Rattle.search.specs.declared.Search.{Search}
 use Rattle.search.specs.Place.{familyOf, family, beginning, held, searchAt, kindKept, placeKept}
-use Rattle.search.specs.Entries.{accepted, turnedBack}
+use Rattle.search.specs.Entries.{acceptedSearch, refusedSearch}
 use Rattle.search.specs.Mark.{valueAt, markLength, markBeginning, markSearch, layoutKept, restoreMark}
 use Rattle.search.proofs.Text.{values-four, values-length}
 use Rattle.search.proofs.Lines.{layout-facts}
@@ -25,22 +25,22 @@ use Rattle.mark_reader.specs.Parts.{low, searchOf}
 use Rattle.mark_reader.proofs.Stored.{low-length, stored-open, place-stored}
 
 module _ (mol : Molecule) (bytes : List ℕ) (formed : wellFormed mol ≡ true) where
-  pub restore-bytes : layoutKept bytes ≡ false → turnedBack refusal.MarkBytes ≡ restoreMark mol bytes
+  pub restore-bytes : layoutKept bytes ≡ false → refusedSearch refusal.MarkBytes ≡ restoreMark mol bytes
   unfolding restoreMark
   restore-bytes e = rw (formed, e)
 
   module _ (layout : layoutKept bytes ≡ true) where
-    pub restore-atoms : (valueAt 4 bytes 12 ≡ mol .atoms → ⊥) → turnedBack refusal.MarkMolecule ≡ restoreMark mol bytes
+    pub restore-atoms : (valueAt 4 bytes 12 ≡ mol .atoms → ⊥) → refusedSearch refusal.MarkMolecule ≡ restoreMark mol bytes
     unfolding restoreMark
     restore-atoms e = rw (formed, layout, ne-eqb (valueAt 4 bytes 12) (mol .atoms) e)
 
     module _ (atoms : valueAt 4 bytes 12 ≡ mol .atoms) where
-      pub restore-bonds : (valueAt 4 bytes 16 ≡ mol .bonds → ⊥) → turnedBack refusal.MarkMolecule ≡ restoreMark mol bytes
+      pub restore-bonds : (valueAt 4 bytes 16 ≡ mol .bonds → ⊥) → refusedSearch refusal.MarkMolecule ≡ restoreMark mol bytes
       unfolding restoreMark
       restore-bonds e = rw (formed, layout, eq-eqb (valueAt 4 bytes 12) (mol .atoms) atoms, ne-eqb (valueAt 4 bytes 16) (mol .bonds) e)
 
       module _ (bonds : valueAt 4 bytes 16 ≡ mol .bonds) where
-        pub restore-kind : kindKept (mol .atoms) (valueAt 4 bytes 0) (valueAt 4 bytes 4) (valueAt 4 bytes 8) ≡ false → turnedBack refusal.MarkKind ≡ restoreMark mol bytes
+        pub restore-kind : kindKept (mol .atoms) (valueAt 4 bytes 0) (valueAt 4 bytes 4) (valueAt 4 bytes 8) ≡ false → refusedSearch refusal.MarkKind ≡ restoreMark mol bytes
         unfolding restoreMark
         restore-kind e = rw (formed, layout, eq-eqb (valueAt 4 bytes 12) (mol .atoms) atoms, eq-eqb (valueAt 4 bytes 16) (mol .bonds) bonds, e)
 
@@ -48,11 +48,11 @@ module _ (mol : Molecule) (bytes : List ℕ) (formed : wellFormed mol ≡ true) 
           abbrev place : Bool
           place = placeKept (familyOf mol (valueAt 4 bytes 0) (valueAt 4 bytes 4) (valueAt 4 bytes 8)) (markBeginning bytes) (valueAt 4 bytes 24)
 
-          pub restore-place : place ≡ false → turnedBack refusal.MarkPlace ≡ restoreMark mol bytes
+          pub restore-place : place ≡ false → refusedSearch refusal.MarkPlace ≡ restoreMark mol bytes
           unfolding restoreMark
           restore-place e = rw (formed, layout, eq-eqb (valueAt 4 bytes 12) (mol .atoms) atoms, eq-eqb (valueAt 4 bytes 16) (mol .bonds) bonds, kinds, e)
 
-          pub restore-accepts : place ≡ true → accepted (markSearch bytes) ≡ restoreMark mol bytes
+          pub restore-accepts : place ≡ true → acceptedSearch (markSearch bytes) ≡ restoreMark mol bytes
           unfolding restoreMark
           restore-accepts e = rw (formed, layout, eq-eqb (valueAt 4 bytes 12) (mol .atoms) atoms, eq-eqb (valueAt 4 bytes 16) (mol .bonds) bonds, kinds, e)
 
@@ -112,12 +112,12 @@ module _ (mol : Molecule) (bytes : List ℕ) (formed : wellFormed mol ≡ true) 
       named-place = ap (λ x. placeKept (family mol x) (beginning x) (x .next)) is ∙ built-place
 
       module _ (atoms : valueAt 4 bytes 12 ≡ mol .atoms) (bonds : valueAt 4 bytes 16 ≡ mol .bonds) where
-        pub built-kind : kindKept (mol .atoms) (q .kind) (q .s) (q .t) ≡ false → turnedBack refusal.MarkKind ≡ restoreMark mol bytes
+        pub built-kind : kindKept (mol .atoms) (q .kind) (q .s) (q .t) ≡ false → refusedSearch refusal.MarkKind ≡ restoreMark mol bytes
         built-kind e = restore-kind mol bytes formed layout atoms bonds (sym named-kind ∙ e)
 
         module _ (kinds : kindKept (mol .atoms) (q .kind) (q .s) (q .t) ≡ true) where
-          pub built-turned : placeKept (family mol q) (beginning q) (q .next) ≡ false → turnedBack refusal.MarkPlace ≡ restoreMark mol bytes
+          pub built-turned : placeKept (family mol q) (beginning q) (q .next) ≡ false → refusedSearch refusal.MarkPlace ≡ restoreMark mol bytes
           built-turned e = restore-place mol bytes formed layout atoms bonds (sym named-kind ∙ kinds) (sym named-place ∙ e)
 
-          pub built-accepted : placeKept (family mol q) (beginning q) (q .next) ≡ true → accepted q ≡ restoreMark mol bytes
-          built-accepted e = ap accepted (is ∙ built-search (rw is at e)) ∙ restore-accepts mol bytes formed layout atoms bonds (sym named-kind ∙ kinds) (sym named-place ∙ e)
+          pub built-accepted : placeKept (family mol q) (beginning q) (q .next) ≡ true → acceptedSearch q ≡ restoreMark mol bytes
+          built-accepted e = ap acceptedSearch (is ∙ built-search (rw is at e)) ∙ restore-accepts mol bytes formed layout atoms bonds (sym named-kind ∙ kinds) (sym named-place ∙ e)

@@ -138,21 +138,21 @@ pub fn restore_checked(m: Molecule, bytes: &[u8]) -> Made
     ensures { λ r. ⌜ r ≡ restoreMark m (now (bytes .entry)) ⌝ }
 {
     if !layout_kept(bytes) {
-        return search::turned_back(Refusal::MarkBytes);
+        return search::refused_search(Refusal::MarkBytes);
     }
     if small_at(bytes, 12) != m.atoms {
-        return search::turned_back(Refusal::MarkMolecule);
+        return search::refused_search(Refusal::MarkMolecule);
     }
     if small_at(bytes, 16) != m.bonds {
-        return search::turned_back(Refusal::MarkMolecule);
+        return search::refused_search(Refusal::MarkMolecule);
     }
     let k = small_at(bytes, 20);
     let q = search_of(bytes, atoms_of(bytes, k));
     if !search_rules::kind_kept(m.atoms, q.kind, q.s, q.t) {
-        return search::turned_back(Refusal::MarkKind);
+        return search::refused_search(Refusal::MarkKind);
     }
     if !search_rules::place_kept(m, q) {
-        return search::turned_back(Refusal::MarkPlace);
+        return search::refused_search(Refusal::MarkPlace);
     }
     Made {
         answer: Answer::Accepted,

@@ -10,12 +10,12 @@ use Rattle.molecule.specs.Record.{wellFormed}
 use Rattle.search.specs.declared.Search.{Search}
 use Rattle.search.specs.declared.Saved.the-variants.{Refused}
 use Rattle.search.specs.Place.{restorable}
-use Rattle.search.specs.Entries.{turnedBack}
+use Rattle.search.specs.Entries.{refusedSearch}
 use Rattle.search.specs.Mark.{saveAnswer, saveOutput, restoreMark}
 use Rattle.search.proofs.MarkLaws.{save-record, save-search, save-refused}
 
 module _ (mol : Molecule) (bytes : List ℕ) where
-  pub restore-record : wellFormed mol ≡ false → turnedBack refusal.Record ≡ restoreMark mol bytes
+  pub restore-record : wellFormed mol ≡ false → refusedSearch refusal.Record ≡ restoreMark mol bytes
   unfolding restoreMark
   restore-record e = rw e
 

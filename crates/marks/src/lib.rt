@@ -25,7 +25,7 @@ pub fn restore(m: Molecule, bytes: &[u8]) -> Made
     ensures { λ r. ⌜ r ≡ restoreMark m (now (bytes .entry)) ⌝ }
 {
     if !molecule::well_formed(m) {
-        return search::turned_back(Refusal::Record);
+        return search::refused_search(Refusal::Record);
     }
     mark_reader::restore_checked(m, bytes)
 }

@@ -21,7 +21,7 @@ use Rattle.search.specs.declared.Search.{Search}
 use Rattle.search.specs.declared.Ran.{Ran}
 use Rattle.search.specs.declared.Saved.the-variants.{Written}
 use Rattle.search.specs.Place.{familyOf, family, stateOf, searchAt, freshSearch, kindKept, restorable}
-use Rattle.search.specs.Entries.{accepted, startRings, startPaths, outcome, ran, runSearch, runOutput}
+use Rattle.search.specs.Entries.{acceptedSearch, startRings, startPaths, outcome, ran, runSearch, runOutput}
 use Rattle.search.specs.Mark.{markText, saveOutput, restoreMark}
 use Rattle.search.proofs.Readings.{family-lawful, KindFacts, kind-facts, atom-of}
 use Rattle.search.proofs.Views.{restorable-valid, valid-full, fresh-restorable, run-restorable}
@@ -33,13 +33,13 @@ use Rattle.reference.specs.Table.{Line, moleculeOf, freshOf, Saves, Hold
 module _ (R : Molecule) (good : wellFormed R ≡ true) where
   start-answers :
       (kind s t : ℕ) → kindKept (R .atoms) kind s t ≡ true →
-      cond (eqb kind 0) (startRings R) (startPaths R s t) ≡ accepted (freshSearch kind s t)
+      cond (eqb kind 0) (startRings R) (startPaths R s t) ≡ acceptedSearch (freshSearch kind s t)
   unfolding startRings startPaths
   start-answers kind s t kept = go (kind-facts (R .atoms) kind s t kept)
     where
       go :
           KindFacts (R .atoms) kind s t →
-          cond (eqb kind 0) (startRings R) (startPaths R s t) ≡ accepted (freshSearch kind s t)
+          cond (eqb kind 0) (startRings R) (startPaths R s t) ≡ acceptedSearch (freshSearch kind s t)
       go (inl f) = rw (f .0, f .1, f .2, good)
       go (inr f) =
           let ends = f .1 in
@@ -64,7 +64,7 @@ module _ (R : Molecule) (good : wellFormed R ≡ true) where
     -- the mark of the search that it returns restores that search
     run-restores :
         let after = ran q (outcome R q budget out) .search in
-        restoreMark R (markText R after) ≡ accepted after
+        restoreMark R (markText R after) ≡ acceptedSearch after
     run-restores =
         let F = family R q in
         let lawful = family-lawful R (q .kind) (q .s) (q .t) in
@@ -142,7 +142,7 @@ module _ (l : Line) (c : Computed l) where
         saves = line-saves;
         restores =
             ap (restoreMark R) (sym (c .marks))
-            ∙ subst (λ (r : Ran). restoreMark R (markText R (r .search)) ≡ accepted (r .search)) returned-is
+            ∙ subst (λ (r : Ran). restoreMark R (markText R (r .search)) ≡ acceptedSearch (r .search)) returned-is
             (run-restores R good (freshOf l) fresh-kept (l .budget) (l .output));
       }
 

@@ -20,7 +20,7 @@ use Rattle.search.specs.declared.Ran.{Ran}
 use Rattle.search.specs.declared.Ended.the-variants.{Stopped}
 use Rattle.search.specs.declared.Saved.the-variants.{Written}
 use Rattle.search.specs.Place.{familyOf, searchAt, freshSearch}
-use Rattle.search.specs.Entries.{accepted, startRings, startPaths, runSearch, runOutput}
+use Rattle.search.specs.Entries.{acceptedSearch, startRings, startPaths, runSearch, runOutput}
 use Rattle.search.specs.Mark.{markText, saveAnswer, saveOutput, restoreMark}
 use Rattle.reference.specs.Text.{text}
 use Rattle.reference.specs.Molecules.{noAtoms, chain, fiveRing, allBonded, paperSheet, twoToThree}
@@ -61,14 +61,14 @@ pub record Saves (l : Line) (buffer : List ℕ) : Type 0 where
 -- is exactly these bytes, so many; saving writes just them into any buffer with room; and they restore the search
 pub record Holds (l : Line) : Type 0 where
   pub reads : readSheet (l .sheet) .answer ≡ Accepted
-  pub starts : started l ≡ accepted (freshOf l)
+  pub starts : started l ≡ acceptedSearch (freshOf l)
   pub lists : members (familyOf (moleculeOf l) (l .kind) (l .s) (l .t)) ≡ l .list
   pub returns : runSearch (moleculeOf l) (freshOf l) (l .budget) (l .output) ≡ l .returned
   pub writes : runOutput (moleculeOf l) (freshOf l) (l .budget) (l .output) ≡ l .written
   pub marks : markText (moleculeOf l) (l .returned .search) ≡ l .mark
   pub measures : length (l .mark) ≡ l .size
   pub saves : (buffer : List ℕ) → l .size ≤ length buffer → Saves l buffer
-  pub restores : restoreMark (moleculeOf l) (l .mark) ≡ accepted (l .returned .search)
+  pub restores : restoreMark (moleculeOf l) (l .mark) ≡ acceptedSearch (l .returned .search)
 
 -- Every line holds
 abbrev pub AllHold : List Line → Type 0

@@ -14,14 +14,14 @@ use Rattle.report.specs.Lines.{refusalLine, ringLines, printed, printedOn}
 use Rattle.refusal.specs.declared.Answer.{Answer}
 use Rattle.molecule.specs.declared.Molecule.{Molecule}
 use Rattle.molecule.specs.Record.{wellFormed, freshMolecule}
-use Rattle.sheet.specs.declared.Sheet.{Sheet}
+use Rattle.sheet.specs.declared.SheetAnswer.{SheetAnswer}
 use Rattle.sheet.specs.Read.{readSheet}
 use Rattle.enumeration.specs.Run.{Outcome}
 use Rattle.search.specs.declared.Search.{Search}
 use Rattle.search.specs.declared.Made.{Made}
 use Rattle.search.specs.declared.Ran.{Ran}
 use Rattle.search.specs.Place.{restorable, freshSearch}
-use Rattle.search.specs.Entries.{accepted, turnedBack, outcome, startRings, refusedRun, ran, runSearch, runOutput}
+use Rattle.search.specs.Entries.{acceptedSearch, refusedSearch, outcome, startRings, refusedRun, ran, runSearch, runOutput}
 use Rattle.report.proofs.Texts.{printed-within}
 use Rattle.ringlist.specs.declared.text.Part.{Part}
 use Rattle.ringlist.specs.declared.text.Part.the-variants.{Refused, Rings, Counts}
@@ -37,7 +37,7 @@ start-fresh : (m : Molecule) → startRings m .search ≡ freshSearch 0 0 0
 unfolding startRings
 start-fresh m = go (wellFormed m)
   where
-    go : (b : Bool) → cond b (accepted (freshSearch 0 0 0)) (turnedBack refusal.Record) .search ≡ freshSearch 0 0 0
+    go : (b : Bool) → cond b (acceptedSearch (freshSearch 0 0 0)) (refusedSearch refusal.Record) .search ≡ freshSearch 0 0 0
     go true = refl
     go false = refl
 
@@ -52,7 +52,7 @@ opened-long input h e = rw (e, lt-ltb 65529 (length input) h)
 
 -- the listing of a sheet, by its answer
 pub opened-sheet :
-    (input : List ℕ) {sheet : Sheet} {answer : Answer} → length input ≤ 65529 → sheet ≡ readSheet input →
+    (input : List ℕ) {sheet : SheetAnswer} {answer : Answer} → length input ≤ 65529 → sheet ≡ readSheet input →
     sheet .answer ≡ answer → begun (firstPart answer) (sheet .molecule) ≡ opened input
 unfolding opened
 opened-sheet input h e a = rw (le-ltb 65529 (length input) h, ← e, a)

@@ -15,7 +15,7 @@ use Rattle.enumeration.specs.Words.{members}
 use Rattle.enumeration.specs.Machine.{isDone, fresh}
 use Rattle.enumeration.specs.Run.{Outcome, atLimit}
 use Rattle.enumeration.specs.Trials.{steps, records}
-use Rattle.enumeration.specs.Ran.{Bounded}
+use Rattle.enumeration.specs.RunFacts.{Bounded}
 use Rattle.enumeration.proofs.Running.{records-append}
 use Rattle.enumeration.proofs.Theorems.{run-outcome, run-done, run-limit}
 use Rattle.molecule.specs.declared.Molecule.{Molecule}
@@ -25,7 +25,7 @@ use Rattle.search.specs.declared.Ended.the-variants.{Stopped}
 use Rattle.search.specs.Place.{family, stateOf, searchAt, freshSearch, restorable}
 use Rattle.search.specs.Entries.{outcome, ran, runSearch, runOutput}
 use Rattle.search.proofs.Views.{state-search}
-use Rattle.history.specs.Calls.{Call, runs, Standing, start, refused, afterAccepted, after, standing, History}
+use Rattle.history.specs.Calls.{Call, runs, Standing, start, refused, afterAccepted, afterCall, standing, History}
 use Rattle.history.specs.Demand.{Progress, Demand}
 use Rattle.history.proofs.Entered.{atoms-most, family-atoms}
 use Rattle.history.proofs.Each.{rings-demand3, rings-kept}
@@ -114,12 +114,12 @@ module _
     (x : Standing) (m : Molecule) (q : Search) (b : ℕ) (out : List ℕ) (why : Stop)
     (e : runSearch m q b out .ended ≡ Stopped why) where
   after-run : standing x (runs m q b out ∷ []) .search ≡ runSearch m q b out .search
-  unfolding standing after refused afterAccepted
+  unfolding standing afterCall refused afterAccepted
   after-run = rw e
 
   after-sheet :
       standing x (runs m q b out ∷ []) .sheet ≡ x .sheet ++ take (runSearch m q b out .used) (runOutput m q b out)
-  unfolding standing after refused afterAccepted
+  unfolding standing afterCall refused afterAccepted
   after-sheet = rw e
 
 cancel : (a b c : List ℕ) → a ++ b ≡ a ++ c → b ≡ c

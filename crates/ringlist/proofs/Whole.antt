@@ -18,7 +18,7 @@ use Rattle.enumeration.specs.Run.{Outcome, limit, atLimit, recordOf, recordIf, 
 use Rattle.enumeration.specs.Lawful.{Lawful}
 use Rattle.enumeration.specs.Listing.{opens, openWords}
 use Rattle.enumeration.specs.Trials.{steps, emitted, attempts, records}
-use Rattle.enumeration.specs.Ran.{Bounded}
+use Rattle.enumeration.specs.RunFacts.{Bounded}
 use Rattle.enumeration.proofs.Basics.{or-either}
 use Rattle.enumeration.proofs.Steps.{emitted-keep, attempts-most}
 use Rattle.enumeration.proofs.Theorems.{steps-composed, steps-stay, trials-rise, listed-rise, extensions-rise}

@@ -16,7 +16,7 @@ use Rattle.enumeration.specs.Machine.{State, tried, isEmpty, isDone, act, trial
 use Rattle.enumeration.specs.Run.{atLimit, lists, recordIf, recordOf, stopped, run}
 use Rattle.enumeration.specs.Lawful.{Lawful}
 use Rattle.enumeration.specs.Trials.{Valid}
-use Rattle.enumeration.specs.Ran.{Bounded}
+use Rattle.enumeration.specs.RunFacts.{Bounded}
 use Rattle.enumeration.proofs.Theorems.{trial-valid, valid-short}
 use Rattle.chordless.specs.Families.{rings, paths}
 use Rattle.chordless.proofs.Lawful.{rings-lawful, paths-lawful}
@@ -28,7 +28,7 @@ use Rattle.search.specs.Entries.{ran}
 use Rattle.openness.specs.declared.Plan.{Plan}
 use Rattle.openness.specs.Plan.{familyBy, Tells, Planned}
 use Rattle.trial.specs.declared.Spot.{Spot}
-use Rattle.trial.specs.Parts.{stackOf, stateAt, spotOf, searchHeld, Held, Standing, Counting, Acted, Stale}
+use Rattle.trial.specs.Parts.{stackOf, stateAt, spotOf, searchHeld, Held, HeldWithRoom, Counting, Acted, Stale}
 use Rattle.runner.specs.Parts.{stoppedAt, Ready, runOnto}
 use Rattle.trial.proofs.Arrays.{stack-length, stack-back, stack-more, act-same, search-held, tried-word}
 use Rattle.runner.proofs.Turns.{Going, below-limit, act-bounded, going-starts, going-length, going-used, going-turn, going-answers}
@@ -66,7 +66,7 @@ done-test n prefix at h = rw (stack-none prefix (at .len) h)
 -- ---- what a run keeps
 
 pub record Turning (F : Family) (budget : ℕ) (out₀ : List ℕ) (st₀ : State) (out prefix : List ℕ) (at : Spot) (found : Plan) (stale : Bool) (used made : ℕ) : Type 0 where
-  pub standing : Standing prefix (at .len)
+  pub standing : HeldWithRoom prefix (at .len)
   pub valid : Valid F (stateAt prefix at)
   pub bounded : Bounded (stateAt prefix at)
   -- a plan that is not stale tells of every atom

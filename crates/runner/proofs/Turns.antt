@@ -14,7 +14,7 @@ use Rattle.enumeration.specs.declared.Stop.the-variants.{Done, Limit, Spent, Fu
 use Rattle.enumeration.specs.Words.{Family}
 use Rattle.enumeration.specs.Machine.{State, isDone, act, trial}
 use Rattle.enumeration.specs.Run.{Outcome, limit, atLimit, lists, stopped, after, run}
-use Rattle.enumeration.specs.Ran.{Bounded}
+use Rattle.enumeration.specs.RunFacts.{Bounded}
 use Rattle.enumeration.proofs.Basics.{or-neither}
 use Rattle.search.specs.declared.Search.{Search}
 use Rattle.search.specs.declared.Ended.the-variants.{Stopped}

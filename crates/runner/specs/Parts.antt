@@ -6,7 +6,7 @@ use mathlib.Core.List.{List, _++_}
 use lib.ListN.{length, drop}
 use Rattle.enumeration.specs.Run.{Outcome, run}
 use Rattle.enumeration.specs.Trials.{Valid}
-use Rattle.enumeration.specs.Ran.{Bounded}
+use Rattle.enumeration.specs.RunFacts.{Bounded}
 use Rattle.enumeration.specs.declared.Stop.{Stop}
 use Rattle.search.specs.declared.Search.{Search}
 use Rattle.search.specs.declared.Ended.the-variants.{Stopped}
@@ -14,7 +14,7 @@ use Rattle.search.specs.declared.Ran.{Ran}
 use Rattle.search.specs.Place.{stateOf, kindKept}
 use Rattle.openness.specs.Plan.{familyBy, Words}
 use Rattle.trial.specs.declared.Spot.{Spot}
-use Rattle.trial.specs.Parts.{searchHeld, Standing}
+use Rattle.trial.specs.Parts.{searchHeld, HeldWithRoom}
 
 -- the answer of a run of q that has stopped there
 abbrev pub stoppedAt : Search → List ℕ → Spot → Stop → ℕ → ℕ → Ran
@@ -24,7 +24,7 @@ stoppedAt q prefix at stop used made = record { ended = Stopped stop; search = s
 pub record Ready (n : ℕ) (table : List ℕ) (q : Search) : Type 0 where
   pub words : Words n table
   pub kinds : kindKept n (q .kind) (q .s) (q .t) ≡ true
-  pub standing : Standing (q .prefix) (q .len)
+  pub standing : HeldWithRoom (q .prefix) (q .len)
   pub valid : Valid (familyBy n table (q .kind) (q .s) (q .t)) (stateOf q)
   pub bounded : Bounded (stateOf q)
 

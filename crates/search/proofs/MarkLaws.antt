@@ -13,7 +13,7 @@ use borrow.Author.Tests.{le-leb, lt-leb, leb-true, eqb-true}
 use Rattle.graph.proofs.Below.{and-parts}
 use Rattle.enumeration.specs.Machine.{State}
 use Rattle.enumeration.specs.Trials.{Valid}
-use Rattle.enumeration.specs.Ran.{Bounded}
+use Rattle.enumeration.specs.RunFacts.{Bounded}
 use Rattle.fields.specs.declared.Number.{Number}
 use Rattle.fields.specs.declared.Number.the-variants.{Value, Bad}
 use Rattle.fields.specs.Field.{limit, readField}
@@ -27,7 +27,7 @@ use Rattle.search.specs.declared.Search.{Search}
 use Rattle.search.specs.declared.Saved.{Saved}
 use Rattle.search.specs.declared.Saved.the-variants.{Written, Refused}
 use Rattle.search.specs.Place.{familyOf, beginning, searchAt, restorable}
-use Rattle.search.specs.Entries.{accepted}
+use Rattle.search.specs.Entries.{acceptedSearch}
 use Rattle.search.specs.Mark.{markText, saveAnswer, saveOutput, valueOf, valueAt, markLength, markBeginning, markSearch, restoreMark}
 use Rattle.search.proofs.Text.{valuesOf, values-four, values-length}
 use Rattle.search.proofs.Lines.{textOf, text-length, layout-facts, layout-text}
@@ -42,7 +42,7 @@ pub mark-length : (mol : Molecule) (q : Search) → length (markText mol q) ≡ 
 mark-length mol q = ap length (mark-text mol q) ∙ text-length (headOf mol q) (countsOf q) (beginning q) refl refl
 
 -- The mark of a search that rule 12 allows restores that search
-pub saved-restores : (mol : Molecule) (q : Search) → wellFormed mol ≡ true → restorable mol q ≡ true → length (q .prefix) ≡ 128 → restoreMark mol (markText mol q) ≡ accepted q
+pub saved-restores : (mol : Molecule) (q : Search) → wellFormed mol ≡ true → restorable mol q ≡ true → length (q .prefix) ≡ 128 → restoreMark mol (markText mol q) ≡ acceptedSearch q
 saved-restores mol q formed kept full = restored-of mol (markText mol q) q (text-restored mol q formed kept full (markText mol q) (mark-text mol q))
 
 -- ---- the search that an accepted mark restores
@@ -108,11 +108,11 @@ module _ (mol : Molecule) (bytes : List ℕ) (q : Search) (f : Restored mol byte
       same head counts atoms h c a = rw (h, c, a)
 
 -- Any accepted mark, saved again, has the same bytes
-pub restored-saves : (mol : Molecule) (bytes : List ℕ) (q : Search) → restoreMark mol bytes ≡ accepted q → markText mol q ≡ bytes
+pub restored-saves : (mol : Molecule) (bytes : List ℕ) (q : Search) → restoreMark mol bytes ≡ acceptedSearch q → markText mol q ≡ bytes
 restored-saves mol bytes q e = named-text mol bytes q (restored-facts mol bytes q e)
 
 -- An accepted mark restores a search that rule 12 allows, on a molecule that rule 9 allows
-pub restored-restorable : (mol : Molecule) (bytes : List ℕ) (q : Search) → restoreMark mol bytes ≡ accepted q → (wellFormed mol ≡ true) × (restorable mol q ≡ true) × (length (q .prefix) ≡ 128)
+pub restored-restorable : (mol : Molecule) (bytes : List ℕ) (q : Search) → restoreMark mol bytes ≡ acceptedSearch q → (wellFormed mol ≡ true) × (restorable mol q ≡ true) × (length (q .prefix) ≡ 128)
 restored-restorable mol bytes q e =
     let f = restored-facts mol bytes q e in
     (f .formed, named-restorable mol bytes q f, named-full mol bytes q f)
@@ -122,7 +122,7 @@ pub restorable-prefix : (mol : Molecule) (q : Search) → wellFormed mol ≡ tru
 restorable-prefix mol q formed kept full i = omega (arith, prefix-most mol q kept full i, rule9 mol formed .atoms-high)
 
 -- Rule 12: a search is allowed exactly when it could be restored from some mark on this molecule
-pub rule12 : (mol : Molecule) (q : Search) → wellFormed mol ≡ true → length (q .prefix) ≡ 128 → (restorable mol q ≡ true) ↔ ((bytes : List ℕ) × (restoreMark mol bytes ≡ accepted q))
+pub rule12 : (mol : Molecule) (q : Search) → wellFormed mol ≡ true → length (q .prefix) ≡ 128 → (restorable mol q ≡ true) ↔ ((bytes : List ℕ) × (restoreMark mol bytes ≡ acceptedSearch q))
 rule12 mol q formed full = (λ kept. (markText mol q, saved-restores mol q formed kept full), λ r. restored-restorable mol (r .0) q (r .1) .1)
 
 -- ---- saving

@@ -20,7 +20,7 @@ use Rattle.molecule.proofs.Bonds.{rule9}
 use Rattle.search.specs.declared.Search.{Search}
 use Rattle.search.specs.declared.Made.{Made}
 use Rattle.search.specs.Place.{familyOf, beginning, stateOf, kindKept, placeKept, restorable}
-use Rattle.search.specs.Entries.{accepted, turnedBack}
+use Rattle.search.specs.Entries.{acceptedSearch, refusedSearch}
 use Rattle.search.specs.Mark.{markText, valueAt, markLength, layoutKept, markBeginning, markSearch, belongs, restoreMark}
 use Rattle.search.proofs.Text.{Fits, valuesOf, values-four}
 use Rattle.search.proofs.Lines.{textOf, Layout, layout-of, head-values, count-values, atom-values, mark-length-is, text-layout}
@@ -38,34 +38,34 @@ pub record Restored (mol : Molecule) (bytes : List ℕ) (q : Search) : Type 0 wh
   pub search : markSearch bytes ≡ q
 
 -- a test that was passed on the way to an accepted answer
-passed : (t : Bool) (x : Made) (r : Refusal) (q : Search) → cond t x (turnedBack r) ≡ accepted q → (t ≡ true) × (x ≡ accepted q)
+passed : (t : Bool) (x : Made) (r : Refusal) (q : Search) → cond t x (refusedSearch r) ≡ acceptedSearch q → (t ≡ true) × (x ≡ acceptedSearch q)
 passed true x r q e = (refl, e)
 passed false x r q e = let f = ap (λ (m : Made). m .answer) e in let z : _≡_ {A = ℕ} 0 1 = cc in absurd (omega arith)
 
 module _ (mol : Molecule) (bytes : List ℕ) (q : Search) where
   abbrev rule17 : Made
-  rule17 = cond (placeKept (familyOf mol (valueAt 4 bytes 0) (valueAt 4 bytes 4) (valueAt 4 bytes 8)) (markBeginning bytes) (valueAt 4 bytes 24)) (accepted (markSearch bytes)) (turnedBack refusal.MarkPlace)
+  rule17 = cond (placeKept (familyOf mol (valueAt 4 bytes 0) (valueAt 4 bytes 4) (valueAt 4 bytes 8)) (markBeginning bytes) (valueAt 4 bytes 24)) (acceptedSearch (markSearch bytes)) (refusedSearch refusal.MarkPlace)
 
   abbrev rule16 : Made
-  rule16 = cond (kindKept (mol .atoms) (valueAt 4 bytes 0) (valueAt 4 bytes 4) (valueAt 4 bytes 8)) rule17 (turnedBack refusal.MarkKind)
+  rule16 = cond (kindKept (mol .atoms) (valueAt 4 bytes 0) (valueAt 4 bytes 4) (valueAt 4 bytes 8)) rule17 (refusedSearch refusal.MarkKind)
 
   abbrev rule15 : Made
-  rule15 = cond (belongs mol bytes) rule16 (turnedBack refusal.MarkMolecule)
+  rule15 = cond (belongs mol bytes) rule16 (refusedSearch refusal.MarkMolecule)
 
   abbrev rule14 : Made
-  rule14 = cond (layoutKept bytes) rule15 (turnedBack refusal.MarkBytes)
+  rule14 = cond (layoutKept bytes) rule15 (refusedSearch refusal.MarkBytes)
 
-  pub restored-facts : restoreMark mol bytes ≡ accepted q → Restored mol bytes q
+  pub restored-facts : restoreMark mol bytes ≡ acceptedSearch q → Restored mol bytes q
   unfolding restoreMark
   restored-facts e =
       let h9 = passed (wellFormed mol) rule14 refusal.Record q e in
       let h14 = passed (layoutKept bytes) rule15 refusal.MarkBytes q (h9 .1) in
       let h15 = passed (belongs mol bytes) rule16 refusal.MarkMolecule q (h14 .1) in
       let h16 = passed (kindKept (mol .atoms) (valueAt 4 bytes 0) (valueAt 4 bytes 4) (valueAt 4 bytes 8)) rule17 refusal.MarkKind q (h15 .1) in
-      let h17 = passed (placeKept (familyOf mol (valueAt 4 bytes 0) (valueAt 4 bytes 4) (valueAt 4 bytes 8)) (markBeginning bytes) (valueAt 4 bytes 24)) (accepted (markSearch bytes)) refusal.MarkPlace q (h16 .1) in
+      let h17 = passed (placeKept (familyOf mol (valueAt 4 bytes 0) (valueAt 4 bytes 4) (valueAt 4 bytes 8)) (markBeginning bytes) (valueAt 4 bytes 24)) (acceptedSearch (markSearch bytes)) refusal.MarkPlace q (h16 .1) in
       record { formed = h9 .0; layout = h14 .0; own = h15 .0; kinds = h16 .0; place = h17 .0; search = ap (λ (m : Made). m .search) (h17 .1) }
 
-  pub restored-of : Restored mol bytes q → restoreMark mol bytes ≡ accepted q
+  pub restored-of : Restored mol bytes q → restoreMark mol bytes ≡ acceptedSearch q
   unfolding restoreMark
   restored-of f = rw (f .formed, f .layout, f .own, f .kinds, f .place, f .search)
 

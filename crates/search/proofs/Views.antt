@@ -15,7 +15,7 @@ use Rattle.enumeration.specs.Words.{Family}
 use Rattle.enumeration.specs.Machine.{State, isEmpty, isDone, fresh}
 use Rattle.enumeration.specs.Run.{run}
 use Rattle.enumeration.specs.Trials.{Valid}
-use Rattle.enumeration.specs.Ran.{Bounded}
+use Rattle.enumeration.specs.RunFacts.{Bounded}
 use Rattle.enumeration.proofs.Trial.{done-place}
 use Rattle.enumeration.proofs.Theorems.{fresh-valid, valid-short, run-keeps-valid, run-keeps-bounded}
 use Rattle.molecule.specs.declared.Molecule.{Molecule}

@@ -6,7 +6,8 @@ use lib.ListN.{length, drop}
 use lib.Dec.{eqb}
 use Rattle.refusal.specs.declared.Refusal.{Refusal}
 use Rattle.refusal.specs.declared.Refusal.the-variants as refusal
-use Rattle.enumeration.specs.Run.{Outcome, run}
+use Rattle.refusal.specs.Number.{numberOf}
+use Rattle.enumeration.specs.Run.{Outcome, run, stopNumber}
 use Rattle.molecule.specs.declared.Molecule.{Molecule}
 use Rattle.molecule.specs.Record.{wellFormed, isAtom}
 use Rattle.search.specs.declared.Search.{Search}
@@ -14,29 +15,30 @@ use Rattle.search.specs.declared.Made.{Made}
 use Rattle.refusal.specs.declared.Answer.the-variants.{Accepted}
 use Rattle.refusal.specs.declared.Answer.the-variants as answer
 use Rattle.search.specs.declared.Ran.{Ran}
+use Rattle.search.specs.declared.Ended.{Ended}
 use Rattle.search.specs.declared.Ended.the-variants.{Stopped}
 use Rattle.search.specs.declared.Ended.the-variants as ended
 use Rattle.search.specs.Place.{family, stateOf, searchAt, freshSearch, restorable}
 
-abbrev pub accepted : Search → Made
-accepted q = record { answer = Accepted; search = q }
+abbrev pub acceptedSearch : Search → Made
+acceptedSearch q = record { answer = Accepted; search = q }
 
 -- A refusal that makes no search returns the fresh ring search
-abbrev pub turnedBack : Refusal → Made
-turnedBack r = record { answer = answer.Refused r; search = freshSearch 0 0 0 }
+abbrev pub refusedSearch : Refusal → Made
+refusedSearch r = record { answer = answer.Refused r; search = freshSearch 0 0 0 }
 
 -- A fresh ring search: rule 9
 unfoldable pub startRings : Molecule → Made
-startRings mol = cond (wellFormed mol) (accepted (freshSearch 0 0 0)) (turnedBack refusal.Record)
+startRings mol = cond (wellFormed mol) (acceptedSearch (freshSearch 0 0 0)) (refusedSearch refusal.Record)
 
 -- A fresh search for the paths from s to t: rules 9, 10, 11
 unfoldable pub startPaths : Molecule → ℕ → ℕ → Made
 startPaths mol s t =
     cond (wellFormed mol)
     (cond (isAtom (mol .atoms) s && isAtom (mol .atoms) t)
-    (cond (eqb s t) (turnedBack refusal.SameEnds) (accepted (freshSearch 1 s t)))
-    (turnedBack refusal.PathEnd))
-    (turnedBack refusal.Record)
+    (cond (eqb s t) (refusedSearch refusal.SameEnds) (acceptedSearch (freshSearch 1 s t)))
+    (refusedSearch refusal.PathEnd))
+    (refusedSearch refusal.Record)
 
 -- The run of a search by the definition
 abbrev pub outcome : Molecule → Search → ℕ → List ℕ → Outcome
@@ -62,3 +64,8 @@ runOutput mol q budget out =
     cond (wellFormed mol && restorable mol q)
     (outcome mol q budget out .bytes ++ drop (length (outcome mol q budget out .bytes)) out)
     out
+
+-- The number of a run's answer: of its stop or of its refusal
+abbrev pub endedNumber : Ended → ℕ
+endedNumber (Stopped why) = stopNumber why
+endedNumber (ended.Refused r) = numberOf r

@@ -15,7 +15,7 @@ use Rattle.search.specs.declared.Made.{Made}
 use Rattle.search.specs.declared.Saved.{Saved}
 use Rattle.search.specs.declared.Saved.the-variants.{Written, Refused}
 use Rattle.search.specs.Place.{beginning, familyOf, searchAt, kindKept, placeKept, restorable}
-use Rattle.search.specs.Entries.{accepted, turnedBack}
+use Rattle.search.specs.Entries.{acceptedSearch, refusedSearch}
 
 -- numbers, each in a field of so many columns
 unfoldable pub fieldsText : ℕ → List ℕ → List ℕ
@@ -101,9 +101,9 @@ restoreMark mol bytes =
     (cond (belongs mol bytes)
     (cond (kindKept (mol .atoms) (valueAt 4 bytes 0) (valueAt 4 bytes 4) (valueAt 4 bytes 8))
     (cond (placeKept (familyOf mol (valueAt 4 bytes 0) (valueAt 4 bytes 4) (valueAt 4 bytes 8)) (markBeginning bytes) (valueAt 4 bytes 24))
-    (accepted (markSearch bytes))
-    (turnedBack refusal.MarkPlace))
-    (turnedBack refusal.MarkKind))
-    (turnedBack refusal.MarkMolecule))
-    (turnedBack refusal.MarkBytes))
-    (turnedBack refusal.Record)
+    (acceptedSearch (markSearch bytes))
+    (refusedSearch refusal.MarkPlace))
+    (refusedSearch refusal.MarkKind))
+    (refusedSearch refusal.MarkMolecule))
+    (refusedSearch refusal.MarkBytes))
+    (refusedSearch refusal.Record)

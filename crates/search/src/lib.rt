@@ -1,7 +1,7 @@
 // The search of document 01 and the answers of the entries on it. What they mean is in specs/.
 ghost use mathlib.Core.Path.{_≡_};
 ghost use Rattle.search.specs.Place.{freshSearch};
-ghost use Rattle.search.specs.Entries.{accepted, turnedBack};
+ghost use Rattle.search.specs.Entries.{acceptedSearch, refusedSearch, endedNumber};
 use enumeration::Stop;
 use refusal::Answer;
 use refusal::Refusal;
@@ -62,8 +62,8 @@ pub fn fresh_search(kind: usize, s: usize, t: usize) -> Search
 }
 
 // The answer that accepts a search.
-pub fn accepted(q: Search) -> Made
-    ensures { λ r. ⌜ r ≡ accepted q ⌝ }
+pub fn accepted_search(q: Search) -> Made
+    ensures { λ r. ⌜ r ≡ acceptedSearch q ⌝ }
 {
     Made {
         answer: Answer::Accepted,
@@ -72,12 +72,22 @@ pub fn accepted(q: Search) -> Made
 }
 
 // A refusal, which returns the fresh ring search.
-pub fn turned_back(refusal: Refusal) -> Made
-    ensures { λ r. ⌜ r ≡ turnedBack refusal ⌝ }
+pub fn refused_search(refusal: Refusal) -> Made
+    ensures { λ r. ⌜ r ≡ refusedSearch refusal ⌝ }
 {
     let q = fresh_search(0, 0, 0);
     Made {
         answer: Answer::Refused(refusal),
         search: q,
+    }
+}
+
+// The number of a run's answer: of its stop or of its refusal.
+pub fn ended_number(e: Ended) -> u32
+    ensures { λ r. ⌜ r ≡ endedNumber e ⌝ }
+{
+    match e {
+        Ended::Stopped(why) => enumeration::stop_number(why),
+        Ended::Refused(r) => refusal::number(r),
     }
 }

@@ -16,13 +16,13 @@ use Rattle.molecule.specs.declared.Molecule.{Molecule}
 use Rattle.molecule.specs.Record.{bonded, onesOf, wellFormed}
 use Rattle.molecule.proofs.Rules.{Sound, bytes-of-sound, rule-in-range}
 use Rattle.molecule.proofs.Bonds.{bonded-cell, bonded-facts}
-use Rattle.sheet.specs.declared.Sheet.{Sheet}
+use Rattle.sheet.specs.declared.SheetAnswer.{SheetAnswer}
 use Rattle.sheet.specs.Bonds.{Bond, atomsKept, noneToItself, samePair, noneTwice, rowsOf}
-use Rattle.sheet.specs.Read.{lengthKept, linesKept, atomsOf, bondsOf, bondOf, turnedBack, accepted, readBonds, readSheet}
+use Rattle.sheet.specs.Read.{lengthKept, linesKept, atomsOf, bondsOf, bondOf, refusedSheet, acceptedSheet, readBonds, readSheet}
 use Rattle.sheet.proofs.Tables.{Kept, kept-of, Joins, joins-swaps, Table, tables}
 
 -- a rule that was kept on the way to an accepted sheet
-kept-on : (t : Bool) (x : Sheet) (r : Refusal) → cond t x (turnedBack r) .answer ≡ Accepted → (t ≡ true) × (x .answer ≡ Accepted)
+kept-on : (t : Bool) (x : SheetAnswer) (r : Refusal) → cond t x (refusedSheet r) .answer ≡ Accepted → (t ≡ true) × (x .answer ≡ Accepted)
 kept-on true x r e = (refl, e)
 kept-on false x r e = let z : _≡_ {A = ℕ} 0 1 = cc in absurd (omega arith)
 
@@ -36,7 +36,7 @@ pub record Rules (s : List ℕ) : Type 0 where
   pub atoms-kept : atomsKept (atomsOf s) (bondOf s) (bondsOf s) ≡ true
   pub none-to-itself : noneToItself (bondOf s) (bondsOf s) ≡ true
   pub none-twice : noneTwice (bondOf s) (bondsOf s) ≡ true
-  pub reads : readSheet s ≡ accepted (atomsOf s) (bondOf s) (bondsOf s)
+  pub reads : readSheet s ≡ acceptedSheet (atomsOf s) (bondOf s) (bondsOf s)
 
 pub accepted-rules : (s : List ℕ) → readSheet s .answer ≡ Accepted → Rules s
 unfolding readSheet readBonds

@@ -12,35 +12,35 @@ use Rattle.graph.proofs.Loops.{all-fails, all-more}
 use Rattle.refusal.specs.declared.Refusal.the-variants as refusal
 use Rattle.molecule.specs.Record.{cell}
 use Rattle.sheet.specs.Bonds.{Bond, atomsKept, noneToItself, samePair, noneTwice, withCell, withBond, rowsOf}
-use Rattle.sheet.specs.Read.{lengthKept, linesKept, lineKept, atomsOf, bondsOf, bondOf, turnedBack, accepted, readBonds, readSheet}
+use Rattle.sheet.specs.Read.{lengthKept, linesKept, lineKept, atomsOf, bondsOf, bondOf, refusedSheet, acceptedSheet, readBonds, readSheet}
 use Rattle.sheet.proofs.Stored.{left, right, bond-read}
 use Rattle.sheet.proofs.Tables.{Kept, kept-fewer, tables, new-bond}
 use Rattle.sheet.specs.Parts.{storedBond}
-use Rattle.sheet.specs.declared.Sheet.{Sheet}
+use Rattle.sheet.specs.declared.SheetAnswer.{SheetAnswer}
 use Rattle.refusal.specs.declared.Answer.the-variants.{Accepted}
 use native.Mathlib.Numerals.{add-one}
 
 -- a record with given rows
-abbrev pub filledSheet : ℕ → ℕ → List ℕ → Sheet
+abbrev pub filledSheet : ℕ → ℕ → List ℕ → SheetAnswer
 filledSheet n m rows = record { answer = Accepted; molecule = record { atoms = n; bonds = m; rows = rows } }
 
 -- rules 6 to 8
 module _ (n : ℕ) (bond : ℕ → Bond) (m : ℕ) where
-  pub bonds-out : atomsKept n bond m ≡ false → readBonds n bond m ≡ turnedBack refusal.BondAtom
+  pub bonds-out : atomsKept n bond m ≡ false → readBonds n bond m ≡ refusedSheet refusal.BondAtom
   unfolding readBonds
   bonds-out e = rw e
 
   module _ (range : atomsKept n bond m ≡ true) where
-    pub bonds-self : noneToItself bond m ≡ false → readBonds n bond m ≡ turnedBack refusal.SelfBond
+    pub bonds-self : noneToItself bond m ≡ false → readBonds n bond m ≡ refusedSheet refusal.SelfBond
     unfolding readBonds
     bonds-self e = rw (range, e)
 
     module _ (apart : noneToItself bond m ≡ true) where
-      pub bonds-twice : noneTwice bond m ≡ false → readBonds n bond m ≡ turnedBack refusal.RepeatedBond
+      pub bonds-twice : noneTwice bond m ≡ false → readBonds n bond m ≡ refusedSheet refusal.RepeatedBond
       unfolding readBonds
       bonds-twice e = rw (range, apart, e)
 
-      pub bonds-read : noneTwice bond m ≡ true → readBonds n bond m ≡ accepted n bond m
+      pub bonds-read : noneTwice bond m ≡ true → readBonds n bond m ≡ acceptedSheet n bond m
       unfolding readBonds
       bonds-read e = rw (range, apart, e)
 
@@ -62,32 +62,32 @@ module _ (n : ℕ) (bond : ℕ → Bond) (m : ℕ) (kept : Kept n bond m) (k : �
 
 -- rules 1 to 5
 module _ (s : List ℕ) where
-  pub sheet-short : length s < 9 → readSheet s ≡ turnedBack refusal.SheetLength
+  pub sheet-short : length s < 9 → readSheet s ≡ refusedSheet refusal.SheetLength
   unfolding readSheet lengthKept
   sheet-short h = rw (lt-leb 9 (length s) h)
 
   module _ (long : 9 ≤ length s) where
-    pub sheet-ragged : (length s % 9 ≡ 0 → ⊥) → readSheet s ≡ turnedBack refusal.SheetLength
+    pub sheet-ragged : (length s % 9 ≡ 0 → ⊥) → readSheet s ≡ refusedSheet refusal.SheetLength
     unfolding readSheet lengthKept
     sheet-ragged h = rw (le-leb 9 (length s) long, ne-eqb (length s % 9) 0 h)
 
     module _ (whole : length s % 9 ≡ 0) where
-      pub sheet-bytes : allBelow (length s / 9) (lineKept s) ≡ false → readSheet s ≡ turnedBack refusal.SheetBytes
+      pub sheet-bytes : allBelow (length s / 9) (lineKept s) ≡ false → readSheet s ≡ refusedSheet refusal.SheetBytes
       unfolding readSheet lengthKept linesKept
       sheet-bytes h = rw (le-leb 9 (length s) long, eq-eqb (length s % 9) 0 whole, h)
 
       module _ (lines : allBelow (length s / 9) (lineKept s) ≡ true) where
-        pub sheet-atoms : 128 < atomsOf s → readSheet s ≡ turnedBack refusal.TooManyAtoms
+        pub sheet-atoms : 128 < atomsOf s → readSheet s ≡ refusedSheet refusal.TooManyAtoms
         unfolding readSheet lengthKept linesKept
         sheet-atoms h = rw (le-leb 9 (length s) long, eq-eqb (length s % 9) 0 whole, lines, lt-leb (atomsOf s) 128 h)
 
         module _ (few : atomsOf s ≤ 128) where
-          pub sheet-bonds : 1024 < bondsOf s → readSheet s ≡ turnedBack refusal.TooManyBonds
+          pub sheet-bonds : 1024 < bondsOf s → readSheet s ≡ refusedSheet refusal.TooManyBonds
           unfolding readSheet lengthKept linesKept
           sheet-bonds h = rw (le-leb 9 (length s) long, eq-eqb (length s % 9) 0 whole, lines, le-leb (atomsOf s) 128 few, lt-leb (bondsOf s) 1024 h)
 
           module _ (light : bondsOf s ≤ 1024) where
-            pub sheet-size : (length s ≡ 9 * suc (bondsOf s) → ⊥) → readSheet s ≡ turnedBack refusal.SheetSize
+            pub sheet-size : (length s ≡ 9 * suc (bondsOf s) → ⊥) → readSheet s ≡ refusedSheet refusal.SheetSize
             unfolding readSheet lengthKept linesKept
             sheet-size h = rw (le-leb 9 (length s) long, eq-eqb (length s % 9) 0 whole, lines, le-leb (atomsOf s) 128 few, le-leb (bondsOf s) 1024 light, ne-eqb (length s) (9 * suc (bondsOf s)) h)
 

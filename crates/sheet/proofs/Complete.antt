@@ -16,7 +16,7 @@ use Rattle.fields.proofs.Laws.{written-reads-back, field-length}
 use Rattle.molecule.specs.Record.{isAtom}
 use Rattle.molecule.proofs.Bonds.{atom-bounds}
 use Rattle.sheet.specs.Bonds.{Bond, atomsKept, noneToItself, noneTwice}
-use Rattle.sheet.specs.Read.{lineKept, lineOf, atomsOf, bondsOf, bondOf, accepted, readBonds, readSheet}
+use Rattle.sheet.specs.Read.{lineKept, lineOf, atomsOf, bondsOf, bondOf, acceptedSheet, readBonds, readSheet}
 use Rattle.sheet.specs.Text.{linesText, sheetText, bondAt}
 use Rattle.sheet.proofs.Lines.{line-good, line-values}
 use Rattle.sheet.proofs.Answers.{bonds-read, sheet-read}
@@ -121,7 +121,7 @@ sheet-small n bonds few light kept (suc k) h =
 pub every-molecule-has-a-sheet :
     (n : ℕ) (bonds : List Bond) → n ≤ 128 → length bonds ≤ 1024 →
     atomsKept n (bondAt bonds) (length bonds) ≡ true → noneToItself (bondAt bonds) (length bonds) ≡ true → noneTwice (bondAt bonds) (length bonds) ≡ true →
-    readSheet (sheetText n bonds) ≡ accepted n (bondAt bonds) (length bonds)
+    readSheet (sheetText n bonds) ≡ acceptedSheet n (bondAt bonds) (length bonds)
 unfolding sheetText
 every-molecule-has-a-sheet n bonds few light atoms apart twice =
     sheet-read text long whole lines (rw (← atoms-here) at few) (rw (← bonds-here) at light) (size ∙ sym (ap (λ b. 9 * suc b) bonds-here))

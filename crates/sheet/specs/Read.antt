@@ -10,7 +10,7 @@ use Rattle.refusal.specs.declared.Refusal.{Refusal}
 use Rattle.refusal.specs.declared.Refusal.the-variants as refusal
 use Rattle.refusal.specs.declared.Answer.the-variants.{Accepted, Refused}
 use Rattle.molecule.specs.Record.{freshMolecule}
-use Rattle.sheet.specs.declared.Sheet.{Sheet}
+use Rattle.sheet.specs.declared.SheetAnswer.{SheetAnswer}
 use Rattle.sheet.specs.Bonds.{Bond, atomsKept, noneToItself, noneTwice, rowsOf}
 
 -- Rule 1 kept: at least 9 bytes, and a multiple of 9
@@ -40,24 +40,24 @@ abbrev pub bondOf : List ℕ → ℕ → Bond
 bondOf s k = lineOf s (suc k)
 
 -- A refused sheet reads as the fresh molecule
-abbrev pub turnedBack : Refusal → Sheet
-turnedBack r = record { answer = Refused r; molecule = freshMolecule }
+abbrev pub refusedSheet : Refusal → SheetAnswer
+refusedSheet r = record { answer = Refused r; molecule = freshMolecule }
 
 -- n atoms with the first m bonds
-abbrev pub accepted : ℕ → (ℕ → Bond) → ℕ → Sheet
-accepted n bond m = record { answer = Accepted; molecule = record { atoms = n; bonds = m; rows = rowsOf bond m } }
+abbrev pub acceptedSheet : ℕ → (ℕ → Bond) → ℕ → SheetAnswer
+acceptedSheet n bond m = record { answer = Accepted; molecule = record { atoms = n; bonds = m; rows = rowsOf bond m } }
 
 -- rules 6, 7, 8 on the bonds
-unfoldable pub readBonds : ℕ → (ℕ → Bond) → ℕ → Sheet
+unfoldable pub readBonds : ℕ → (ℕ → Bond) → ℕ → SheetAnswer
 readBonds n bond m =
     cond (atomsKept n bond m)
     (cond (noneToItself bond m)
-    (cond (noneTwice bond m) (accepted n bond m) (turnedBack refusal.RepeatedBond))
-    (turnedBack refusal.SelfBond))
-    (turnedBack refusal.BondAtom)
+    (cond (noneTwice bond m) (acceptedSheet n bond m) (refusedSheet refusal.RepeatedBond))
+    (refusedSheet refusal.SelfBond))
+    (refusedSheet refusal.BondAtom)
 
 -- What a sheet is read as
-unfoldable pub readSheet : List ℕ → Sheet
+unfoldable pub readSheet : List ℕ → SheetAnswer
 readSheet s =
     cond (lengthKept s)
     (cond (linesKept s)
@@ -65,8 +65,8 @@ readSheet s =
     (cond (leb (bondsOf s) 1024)
     (cond (eqb (length s) (9 * suc (bondsOf s)))
     (readBonds (atomsOf s) (bondOf s) (bondsOf s))
-    (turnedBack refusal.SheetSize))
-    (turnedBack refusal.TooManyBonds))
-    (turnedBack refusal.TooManyAtoms))
-    (turnedBack refusal.SheetBytes))
-    (turnedBack refusal.SheetLength)
+    (refusedSheet refusal.SheetSize))
+    (refusedSheet refusal.TooManyBonds))
+    (refusedSheet refusal.TooManyAtoms))
+    (refusedSheet refusal.SheetBytes))
+    (refusedSheet refusal.SheetLength)

@@ -4,14 +4,14 @@ ghost use mathlib.Core.Bool.{true};
 ghost use Prim.Native.Nat.{min, _+_, _*_, _≤_, _<_};
 ghost use lib.ListN.{length};
 ghost use Rattle.sheet.specs.Bonds.{atomsKept, noneToItself, withCell};
-ghost use Rattle.sheet.specs.Read.{turnedBack, readBonds, readSheet};
+ghost use Rattle.sheet.specs.Read.{refusedSheet, readBonds, readSheet};
 ghost use Rattle.sheet.specs.Parts.{storedBond, ReadsLine, ReadsLines};
 use fields::Number;
 use molecule::Molecule;
 use refusal::Answer;
 use refusal::Refusal;
 
-pub struct Sheet {
+pub struct SheetAnswer {
     pub answer: Answer,
     pub molecule: Molecule,
 }
@@ -155,18 +155,18 @@ fn link(rows: &mut [u8], i: usize, j: usize)
 }
 
 // A refused sheet: the fresh molecule.
-fn refused(r: Refusal) -> Sheet
-    ensures { λ s. ⌜ s ≡ turnedBack r ⌝ }
+fn refused(r: Refusal) -> SheetAnswer
+    ensures { λ s. ⌜ s ≡ refusedSheet r ⌝ }
 {
     let molecule = molecule::fresh();
-    Sheet {
+    SheetAnswer {
         answer: Answer::Refused(r),
         molecule: molecule,
     }
 }
 
 // Rule 8, and the rows of bonds that keep rules 6 and 7.
-fn fill(values: &[u16; 2052], n: usize, m: usize) -> Sheet
+fn fill(values: &[u16; 2052], n: usize, m: usize) -> SheetAnswer
     requires { ⌜ (n ≤ 128) × (m ≤ 1024) × (atomsKept n (storedBond (now values)) m ≡ true) × (noneToItself (storedBond (now values)) m ≡ true) ⌝ }
     ensures { λ r. ⌜ r ≡ readBonds n (storedBond (now (values .entry))) m ⌝ }
 {
@@ -187,14 +187,14 @@ fn fill(values: &[u16; 2052], n: usize, m: usize) -> Sheet
         bonds: m,
         rows: rows,
     };
-    Sheet {
+    SheetAnswer {
         answer: Answer::Accepted,
         molecule: molecule,
     }
 }
 
 // Rules 6, 7 and 8.
-fn read_bonds(values: &[u16; 2052], n: usize, m: usize) -> Sheet
+fn read_bonds(values: &[u16; 2052], n: usize, m: usize) -> SheetAnswer
     requires { ⌜ (n ≤ 128) × (m ≤ 1024) ⌝ }
     ensures { λ r. ⌜ r ≡ readBonds n (storedBond (now (values .entry))) m ⌝ }
 {
@@ -208,7 +208,7 @@ fn read_bonds(values: &[u16; 2052], n: usize, m: usize) -> Sheet
 }
 
 // Reads a bond sheet: any bytes give the molecule record of exactly its bonds, or one refusal.
-pub fn read_sheet(s: &[u8]) -> Sheet
+pub fn read_sheet(s: &[u8]) -> SheetAnswer
     ensures { λ r. ⌜ r ≡ readSheet (now (s .entry)) ⌝ }
 {
     if s.len() < 9 {

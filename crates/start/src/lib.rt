@@ -10,9 +10,9 @@ pub fn start_rings(m: Molecule) -> Made
     ensures { λ r. ⌜ r ≡ startRings m ⌝ }
 {
     if !molecule::well_formed(m) {
-        return search::turned_back(Refusal::Record);
+        return search::refused_search(Refusal::Record);
     }
-    search::accepted(search::fresh_search(0, 0, 0))
+    search::accepted_search(search::fresh_search(0, 0, 0))
 }
 
 // A fresh search for the paths from s to t: rules 9, 10, 11.
@@ -20,17 +20,17 @@ pub fn start_paths(m: Molecule, s: usize, t: usize) -> Made
     ensures { λ r. ⌜ r ≡ startPaths m s t ⌝ }
 {
     if !molecule::well_formed(m) {
-        return search::turned_back(Refusal::Record);
+        return search::refused_search(Refusal::Record);
     }
     let n = m.atoms;
     if !molecule::is_atom(n, s) {
-        return search::turned_back(Refusal::PathEnd);
+        return search::refused_search(Refusal::PathEnd);
     }
     if !molecule::is_atom(n, t) {
-        return search::turned_back(Refusal::PathEnd);
+        return search::refused_search(Refusal::PathEnd);
     }
     if s == t {
-        return search::turned_back(Refusal::SameEnds);
+        return search::refused_search(Refusal::SameEnds);
     }
-    search::accepted(search::fresh_search(1, s, t))
+    search::accepted_search(search::fresh_search(1, s, t))
 }

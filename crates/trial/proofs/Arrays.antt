@@ -16,7 +16,7 @@ use Rattle.search.specs.Place.{beginning, held, searchAt}
 use Rattle.search.proofs.Views.{held-beginning}
 use Rattle.trial.specs.declared.Spot.{Spot}
 use Rattle.trial.specs.declared.Place.{Place}
-use Rattle.trial.specs.Parts.{stackOf, stateAt, searchHeld, Held, Standing, Unwound, Acted}
+use Rattle.trial.specs.Parts.{stackOf, stateAt, searchHeld, Held, HeldWithRoom, Unwound, Acted}
 
 -- ---- an atom more and an atom less
 
@@ -35,7 +35,7 @@ stack-push prefix len v h = ap reverse (take-suc-set prefix len v h) ∙ reverse
 pub stack-set : (prefix : List ℕ) (len v : ℕ) → stackOf (set prefix len v) len ≡ stackOf prefix len
 stack-set prefix len v = ap reverse (take-set-le len prefix len v (omega arith))
 
-pub held-push : (prefix : List ℕ) (len v : ℕ) → Standing prefix len → Held (set prefix len v) (len + 1)
+pub held-push : (prefix : List ℕ) (len v : ℕ) → HeldWithRoom prefix len → Held (set prefix len v) (len + 1)
 held-push prefix len v h = record {
   size = length-set prefix len v ∙ h .within .size;
   most = omega (arith, h .short);
@@ -100,7 +100,7 @@ module _ (n : ℕ) (before after : List ℕ) (at : Spot) where
     state-is = rw (add-one (at .trials)) (ap (λ (q : List ℕ × ℕ). placed q (suc (at .trials)) (at .extensions) (at .listed)) (rw (add-one (at .next)) at (u .place-is)));
   }
 
-pub acted-extends : (n : ℕ) (before : List ℕ) (at : Spot) → Standing before (at .len) → 1 ≤ n → Acted n before at false true (set before (at .len) (at .next)) (record { len = at .len + 1; next = 1; trials = at .trials + 1; extensions = at .extensions + 1; listed = at .listed })
+pub acted-extends : (n : ℕ) (before : List ℕ) (at : Spot) → HeldWithRoom before (at .len) → 1 ≤ n → Acted n before at false true (set before (at .len) (at .next)) (record { len = at .len + 1; next = 1; trials = at .trials + 1; extensions = at .extensions + 1; listed = at .listed })
 unfolding act
 acted-extends n before at h some = record {
   within = held-push before (at .len) (at .next) h;
@@ -139,7 +139,7 @@ act-same n false false st some e = unwound-same n (st .stack) (suc (st .next)) e
 
 -- ---- the search at a place
 
-pub search-held : (kind s t : ℕ) (prefix : List ℕ) (at : Spot) → Standing prefix (at .len) → searchHeld kind s t prefix at ≡ searchAt kind s t (stateAt prefix at)
+pub search-held : (kind s t : ℕ) (prefix : List ℕ) (at : Spot) → HeldWithRoom prefix (at .len) → searchHeld kind s t prefix at ≡ searchAt kind s t (stateAt prefix at)
 unfolding searchAt beginning
 search-held kind s t prefix at h =
     let size : length (stackOf prefix (at .len)) ≡ at .len = stack-length prefix (at .len) (h .within) in

@@ -38,7 +38,7 @@ pub record Held (prefix : List ℕ) (len : ℕ) : Type 0 where
   pub zeros : (i : ℕ) → len ≤ i → i < 128 → getD prefix i 0 ≡ 0
 
 -- the same with room for one atom more
-pub record Standing (prefix : List ℕ) (len : ℕ) : Type 0 where
+pub record HeldWithRoom (prefix : List ℕ) (len : ℕ) : Type 0 where
   pub within : Held prefix len
   pub short : len ≤ 127
 

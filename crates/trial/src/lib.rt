@@ -7,7 +7,7 @@ ghost use Prim.Native.Nat.{suc, _+_, _≤_, _<_};
 ghost use lib.ListN.{length, take, drop};
 ghost use lib.Dec.{eqb};
 ghost use Rattle.enumeration.specs.Run.{limit, recordOf};
-ghost use Rattle.trial.specs.Parts.{Standing, Counting, Acted, Unwound, Stale, Gap, Idle, skip, spotOf};
+ghost use Rattle.trial.specs.Parts.{HeldWithRoom, Counting, Acted, Unwound, Stale, Gap, Idle, skip, spotOf};
 use openness::Plan;
 use search::Search;
 
@@ -126,7 +126,7 @@ pub fn skipped(at: Spot, k: usize) -> Spot
 
 // As long as the next atom is n + 1 and the beginning is not empty, its last atom is dropped, and the next atom is that atom + 1.
 fn unwind(prefix: &mut [u8; 128], from: usize, first: usize, n: usize) -> Place
-    requires { ⌜ Standing (now prefix) from × (n ≤ 128) ⌝ }
+    requires { ⌜ HeldWithRoom (now prefix) from × (n ≤ 128) ⌝ }
     ensures { λ r. ⌜ Unwound n (now (prefix .entry)) from first (now (prefix .exit)) r ⌝ }
 {
     let mut len = from;
@@ -144,7 +144,7 @@ fn unwind(prefix: &mut [u8; 128], from: usize, first: usize, n: usize) -> Place
 
 // One trial with the unwinding after it, by whether the word is a member and whether it is open.
 pub fn act(prefix: &mut [u8; 128], at: Spot, n: usize, member: bool, extends: bool) -> Spot
-    requires { ⌜ Standing (now prefix) (at .len) × Counting n at ⌝ }
+    requires { ⌜ HeldWithRoom (now prefix) (at .len) × Counting n at ⌝ }
     ensures { λ r. ⌜ Acted n (now (prefix .entry)) at member extends (now (prefix .exit)) r ⌝ }
 {
     let len = at.len;

@@ -2,7 +2,7 @@
 -- By the reader's answer.
 use mathlib.Core.Path.{ap, sym, _∙_}
 use Rattle.flat.specs.Codes.{flatBytes}
-use Rattle.sheet.specs.declared.Sheet.{Sheet}
+use Rattle.sheet.specs.declared.SheetAnswer.{SheetAnswer}
 use Rattle.flat.proofs.Buffers.{read-wrong-length, read-accepted, read-refused}
 use borrow.Author.Needs.{needs}
 use Rattle.flat.proofs.flat_read_sheet.Statement.{statement}
@@ -18,14 +18,14 @@ returns-2 : tie.Need-returns-2
 returns-2 c =
     let sheet = c .before .before .before .before .before .before .before .before .before .before .before .args .sheet .now in
     let same = c .before .before .before .before .before .before .before .read-sheet .ensures in
-    let r = read-accepted sheet (c .before .before .before .before .before .before .before .before .before .before .before .args .«record» .now) (c .before .before .before .before .before .before .before .before .if1 .left) (ap (λ (x : Sheet). x .answer) (sym same) ∙ c .before .before .before .before .enum-told .given .1) in
-    (r .0, c .before .before .flatten .ensures ∙ ap (λ (x : Sheet). flatBytes (x .molecule)) same ∙ r .1)
+    let r = read-accepted sheet (c .before .before .before .before .before .before .before .before .before .before .before .args .«record» .now) (c .before .before .before .before .before .before .before .before .if1 .left) (ap (λ (x : SheetAnswer). x .answer) (sym same) ∙ c .before .before .before .before .enum-told .given .1) in
+    (r .0, c .before .before .flatten .ensures ∙ ap (λ (x : SheetAnswer). flatBytes (x .molecule)) same ∙ r .1)
 
 returns-3 : tie.Need-returns-3
 returns-3 c =
     let sheet = c .before .before .before .before .before .before .before .before .before .args .sheet .now in
     let same = c .before .before .before .before .before .read-sheet .ensures in
-    let r = read-refused sheet (c .before .before .before .before .before .before .before .before .before .args .«record» .now) (c .before .before .before .before .before .before .if1 .left) _ (ap (λ (x : Sheet). x .answer) (sym same) ∙ c .before .before .answer .given .1) in
+    let r = read-refused sheet (c .before .before .before .before .before .before .before .before .before .args .«record» .now) (c .before .before .before .before .before .before .if1 .left) _ (ap (λ (x : SheetAnswer). x .answer) (sym same) ∙ c .before .before .answer .given .1) in
     (c .number .ensures ∙ r .0, r .1)
 
 pub flat-read-sheet-spec : {M : Type 1} → statement M

@@ -2,7 +2,7 @@
 -- By whether the mark has bytes.
 use mathlib.Core.Path.{ap, _∙_}
 use borrow.Author.Needs.{needs}
-use Rattle.search.specs.Entries.{accepted}
+use Rattle.search.specs.Entries.{acceptedSearch}
 use Rattle.host.proofs.Answers.{search-fresh, search-restored}
 use Rattle.host.proofs.search_for.Statement.{statement}
 use Rattle.host.proofs.search_for.Tie as tie
@@ -10,7 +10,7 @@ use Rattle.host.proofs.search_for.Tie as tie
 returns : tie.Need-returns
 returns c =
     let start = c .before .before .before in
-    ap accepted (c .fresh-search .ensures) ∙ search-fresh (start .args .m) (start .args .mark .now) (start .pre) (c .before .if1 .taken)
+    ap acceptedSearch (c .fresh-search .ensures) ∙ search-fresh (start .args .m) (start .args .mark .now) (start .pre) (c .before .if1 .taken)
 
 returns-2 : tie.Need-returns-2
 returns-2 c = c .restore-checked .ensures ∙ search-restored (c .before .before .before .args .m) (c .before .before .before .args .mark .now) (c .before .if1 .left)

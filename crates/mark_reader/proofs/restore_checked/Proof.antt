@@ -34,7 +34,7 @@ kinds c = sym (c .before .kind-kept .ensures) ∙ not-false _ (c .if4 .left)
 returns : tie.Need-returns
 returns c =
     let start = c .before .before .before .before in
-    c .turned-back .ensures ∙ restore-bytes (start .args .m) (start .args .bytes .now) (start .pre) (sym (c .before .before .layout-kept .ensures) ∙ not-true _ (c .before .if1 .taken))
+    c .refused-search .ensures ∙ restore-bytes (start .args .m) (start .args .bytes .now) (start .pre) (sym (c .before .before .layout-kept .ensures) ∙ not-true _ (c .before .if1 .taken))
 
 small-at-requires : tie.Need-small-at-requires
 small-at-requires c κs =
@@ -45,7 +45,7 @@ small-at-requires c κs =
 returns-2 : tie.Need-returns-2
 returns-2 c =
     let start = c .before .before .before .before .before .before .before in
-    c .turned-back2 .ensures ∙ restore-atoms (start .args .m) (start .args .bytes .now) (start .pre) (layout (c .before .before .before .before)) (λ e. c .before .if2 .taken (c .before .before .before .small-at .ensures ∙ e))
+    c .refused-search2 .ensures ∙ restore-atoms (start .args .m) (start .args .bytes .now) (start .pre) (layout (c .before .before .before .before)) (λ e. c .before .if2 .taken (c .before .before .before .small-at .ensures ∙ e))
 
 small-at-requires-2 : tie.Need-small-at-requires-2
 small-at-requires-2 c κs =
@@ -56,7 +56,7 @@ small-at-requires-2 c κs =
 returns-3 : tie.Need-returns-3
 returns-3 c =
     let start = c .before .before .before .before .before .before .before .before .before .before in
-    c .turned-back3 .ensures ∙ restore-bonds (start .args .m) (start .args .bytes .now) (start .pre) (layout (c .before .before .before .before .before .before .before)) (atoms (c .before .before .before .before)) (λ e. c .before .if3 .taken (c .before .before .before .small-at2 .ensures ∙ e))
+    c .refused-search3 .ensures ∙ restore-bonds (start .args .m) (start .args .bytes .now) (start .pre) (layout (c .before .before .before .before .before .before .before)) (atoms (c .before .before .before .before)) (λ e. c .before .if3 .taken (c .before .before .before .small-at2 .ensures ∙ e))
 
 small-at-requires-3 : tie.Need-small-at-requires-3
 small-at-requires-3 c κs =
@@ -80,7 +80,7 @@ search-of-requires c κs =
 returns-4 : tie.Need-returns-4
 returns-4 c =
     let start = c .before .before .before .before .before .before .before .before .before .before .before .before .before .before .before in
-    c .turned-back4 .ensures ∙ built-kind (start .args .m) (start .args .bytes .now) (start .pre) (layout (c .before .before .before .before .before .before .before .before .before .before .before .before)) (c .before .before .before .search-of .result) (is-built (c .before .before .before)) (atoms (c .before .before .before .before .before .before .before .before .before)) (bonds (c .before .before .before .before .before .before)) (sym (c .before .before .kind-kept .ensures) ∙ not-true _ (c .before .if4 .taken))
+    c .refused-search4 .ensures ∙ built-kind (start .args .m) (start .args .bytes .now) (start .pre) (layout (c .before .before .before .before .before .before .before .before .before .before .before .before)) (c .before .before .before .search-of .result) (is-built (c .before .before .before)) (atoms (c .before .before .before .before .before .before .before .before .before)) (bonds (c .before .before .before .before .before .before)) (sym (c .before .before .kind-kept .ensures) ∙ not-true _ (c .before .if4 .taken))
 
 place-kept-requires : tie.Need-place-kept-requires
 place-kept-requires c κs =
@@ -92,7 +92,7 @@ place-kept-requires c κs =
 returns-5 : tie.Need-returns-5
 returns-5 c =
     let start = c .before .before .before .before .before .before .before .before .before .before .before .before .before .before .before .before .before in
-    c .turned-back5 .ensures ∙ built-turned (start .args .m) (start .args .bytes .now) (start .pre) (layout (c .before .before .before .before .before .before .before .before .before .before .before .before .before .before)) (c .before .before .before .before .before .search-of .result) (is-built (c .before .before .before .before .before)) (atoms (c .before .before .before .before .before .before .before .before .before .before .before)) (bonds (c .before .before .before .before .before .before .before .before)) (kinds (c .before .before .before)) (sym (c .before .before .place-kept .ensures) ∙ not-true _ (c .before .if5 .taken))
+    c .refused-search5 .ensures ∙ built-turned (start .args .m) (start .args .bytes .now) (start .pre) (layout (c .before .before .before .before .before .before .before .before .before .before .before .before .before .before)) (c .before .before .before .before .before .search-of .result) (is-built (c .before .before .before .before .before)) (atoms (c .before .before .before .before .before .before .before .before .before .before .before)) (bonds (c .before .before .before .before .before .before .before .before)) (kinds (c .before .before .before)) (sym (c .before .before .place-kept .ensures) ∙ not-true _ (c .before .if5 .taken))
 
 returns-6 : tie.Need-returns-6
 returns-6 c =

@@ -7,7 +7,7 @@ use Rattle.marks.proofs.restore.Statement.{statement}
 use Rattle.marks.proofs.restore.Tie as tie
 
 returns : tie.Need-returns
-returns c = c .turned-back .ensures ∙ restore-record (c .before .before .before .before .args .m) (c .before .before .before .before .args .bytes .now) (sym (c .before .before .well-formed .ensures) ∙ not-true _ (c .before .if1 .taken))
+returns c = c .refused-search .ensures ∙ restore-record (c .before .before .before .before .args .m) (c .before .before .before .before .args .bytes .now) (sym (c .before .before .well-formed .ensures) ∙ not-true _ (c .before .if1 .taken))
 
 restore-checked-requires : tie.Need-restore-checked-requires
 restore-checked-requires c κs = sym (c .before .well-formed .ensures) ∙ not-false _ (c .if1 .left)

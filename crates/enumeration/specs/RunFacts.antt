@@ -23,7 +23,7 @@ Why F budget room o Limit = (isDone (F .atoms) (o .state) ≡ false) × (atLimit
 Why F budget room o Spent = (isDone (F .atoms) (o .state) ≡ false) × (atLimit (o .state) ≡ false) × (o .made ≡ budget)
 Why F budget room o Full = (isDone (F .atoms) (o .state) ≡ false) × (atLimit (o .state) ≡ false) × (o .made < budget) × (room < length (o .bytes) + length (lists F (o .state)))
 
-pub record Ran (F : Family) (budget room : ℕ) (st : State) (o : Outcome) : Type 0 where
+pub record RunFacts (F : Family) (budget room : ℕ) (st : State) (o : Outcome) : Type 0 where
   -- it is the search after the trials made, and it was not done before any of them
   pub stepped : o .state ≡ steps F (o .made) st
   pub busy : (j : ℕ) → j < o .made → isDone (F .atoms) (steps F j st) ≡ false
