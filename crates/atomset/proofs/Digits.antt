@@ -1,4 +1,5 @@
--- The bits of the words that the operations make: and, or, difference, one bit, the low bits, the lowest bit, and bytes joined.
+-- The bits of the words that the operations make: and, or, difference,
+-- one bit, the low bits, the lowest bit, and bytes joined.
 -- By induction on the place, a bit at a time from the lowest.
 use Prim.Native.Nat.{ℕ, zero, suc, _+_, _-_, _*_, _/_, _%_, _^_, _≤_, _<_, min}
 use native.Mathlib.Nat.{div-one, zero-div, pow-suc, mod-lt, min-le-left, zero-lt-suc}
@@ -43,7 +44,8 @@ or-digit (suc (suc p)) q hp hq = absurd (omega arith)
 pub bit-and : (x y k : ℕ) → bit (bitAnd x y) k ≡ (bit x k && bit y k)
 bit-and x y k =
     ap (λ (n : ℕ). eqb (n % 2) 1) (and-shr x y k) ∙ ap (λ (n : ℕ). eqb n 1) (and-mod (x / 2 ^ k) (y / 2 ^ k) 1)
-    ∙ and-digit (x / 2 ^ k % 2) (y / 2 ^ k % 2) (mod-lt (x / 2 ^ k) (zero-lt-suc 1)) (mod-lt (y / 2 ^ k) (zero-lt-suc 1))
+    ∙ and-digit (x / 2 ^ k % 2) (y / 2 ^ k % 2) (mod-lt (x / 2 ^ k) (zero-lt-suc 1))
+    (mod-lt (y / 2 ^ k) (zero-lt-suc 1))
 
 pub bit-or : (x y k : ℕ) → bit (bitOr x y) k ≡ (bit x k || bit y k)
 bit-or x y k =
@@ -70,12 +72,16 @@ less-digit (suc (suc p)) q hp hq = absurd (omega arith)
 pub bit-less : (x y k : ℕ) → bit (x - bitAnd x y) k ≡ (bit x k && not (bit y k))
 bit-less x y zero =
     bit-first (x - bitAnd x y)
-    ∙ ap (λ (n : ℕ). eqb n 1) (odd-less x (bitAnd x y) (bitAnd (x / 2) (y / 2)) (min (x % 2) (y % 2)) (and-step x y) (and-le-l (x / 2) (y / 2)) (min-le-left (x % 2) (y % 2)))
+    ∙ ap (λ (n : ℕ). eqb n 1)
+    (odd-less x (bitAnd x y) (bitAnd (x / 2) (y / 2)) (min (x % 2) (y % 2)) (and-step x y) (and-le-l (x / 2) (y / 2))
+    (min-le-left (x % 2) (y % 2)))
     ∙ less-digit (x % 2) (y % 2) (mod-lt x (zero-lt-suc 1)) (mod-lt y (zero-lt-suc 1))
     ∙ ap₂ (λ (p q : Bool). p && not q) (sym (bit-first x)) (sym (bit-first y))
 bit-less x y (suc k) =
     bit-next (x - bitAnd x y) k
-    ∙ ap (λ (n : ℕ). bit n k) (half-less x (bitAnd x y) (bitAnd (x / 2) (y / 2)) (min (x % 2) (y % 2)) (and-step x y) (and-le-l (x / 2) (y / 2)) (min-le-left (x % 2) (y % 2)))
+    ∙ ap (λ (n : ℕ). bit n k)
+    (half-less x (bitAnd x y) (bitAnd (x / 2) (y / 2)) (min (x % 2) (y % 2)) (and-step x y) (and-le-l (x / 2) (y / 2))
+    (min-le-left (x % 2) (y % 2)))
     ∙ bit-less (x / 2) (y / 2) k
     ∙ ap₂ (λ (p q : Bool). p && not q) (sym (bit-next x k)) (sym (bit-next y k))
 
@@ -120,7 +126,9 @@ trailing-below (suc k) n p h = split (low-digit n) (λ q. trailing-below k (n / 
     half : n / 2 < 2 ^ k
     half = let small : n < 2 ^ k * 2 = rw (pow-suc 2 k) at h in omega arith
 
-    split : (n % 2 ≡ 0) ⊎ (n % 2 ≡ 1) → (0 < n / 2 → trailingZeros k (n / 2) < k) → under (n % 2) (trailingZeros k (n / 2)) < suc k
+    split :
+        (n % 2 ≡ 0) ⊎ (n % 2 ≡ 1) → (0 < n / 2 → trailingZeros k (n / 2) < k) →
+        under (n % 2) (trailingZeros k (n / 2)) < suc k
     split (inl e) rest = let below : trailingZeros k (n / 2) < k = rest (omega arith) in rw e (omega arith)
     split (inr e) rest = rw e (omega arith)
 
@@ -129,13 +137,16 @@ unfolding trailingZeros
 trailing-set zero n h = absurd (omega arith)
 trailing-set (suc k) n h = split (low-digit n) h (λ q. trailing-set k (n / 2) q)
   where
-    split : (n % 2 ≡ 0) ⊎ (n % 2 ≡ 1) → under (n % 2) (trailingZeros k (n / 2)) < suc k → (trailingZeros k (n / 2) < k → bit (n / 2) (trailingZeros k (n / 2)) ≡ true)
+    split :
+        (n % 2 ≡ 0) ⊎ (n % 2 ≡ 1) → under (n % 2) (trailingZeros k (n / 2)) < suc k →
+        (trailingZeros k (n / 2) < k → bit (n / 2) (trailingZeros k (n / 2)) ≡ true)
         → bit n (under (n % 2) (trailingZeros k (n / 2))) ≡ true
     split (inl e) b rest =
         let below : suc (trailingZeros k (n / 2)) < suc k = rw e at b in
         let set : bit (n / 2) (trailingZeros k (n / 2)) ≡ true = rest (omega arith) in
         ap (λ (d : ℕ). bit n (under d (trailingZeros k (n / 2)))) e ∙ bit-next n (trailingZeros k (n / 2)) ∙ set
-    split (inr e) b rest = ap (λ (d : ℕ). bit n (under d (trailingZeros k (n / 2)))) e ∙ bit-first n ∙ ap (λ (d : ℕ). eqb d 1) e
+    split (inr e) b rest =
+        ap (λ (d : ℕ). bit n (under d (trailingZeros k (n / 2)))) e ∙ bit-first n ∙ ap (λ (d : ℕ). eqb d 1) e
 
 pub trailing-least : (k n j : ℕ) → bit n j ≡ true → trailingZeros k n ≤ j
 unfolding trailingZeros
@@ -152,9 +163,12 @@ trailing-least (suc k) n (suc j) b = split (low-digit n) (trailing-least k (n / 
 
 pub bit-low : (hi k lo j : ℕ) → j < k → bit (hi * 2 ^ k + lo) j ≡ bit lo j
 bit-low hi zero lo j h = absurd (omega arith)
-bit-low hi (suc k) lo zero h = bit-first (hi * 2 ^ suc k + lo) ∙ ap (λ (n : ℕ). eqb n 1) (block-odd hi k lo) ∙ sym (bit-first lo)
+bit-low hi (suc k) lo zero h =
+    bit-first (hi * 2 ^ suc k + lo) ∙ ap (λ (n : ℕ). eqb n 1) (block-odd hi k lo) ∙ sym (bit-first lo)
 bit-low hi (suc k) lo (suc j) h =
-    bit-next (hi * 2 ^ suc k + lo) j ∙ ap (λ (n : ℕ). bit n j) (block-half hi k lo) ∙ bit-low hi k (lo / 2) j (omega arith) ∙ sym (bit-next lo j)
+    bit-next (hi * 2 ^ suc k + lo) j ∙ ap (λ (n : ℕ). bit n j) (block-half hi k lo) ∙
+    bit-low hi k (lo / 2) j (omega arith) ∙ sym (bit-next lo j)
 
 pub bit-high : (hi k lo j : ℕ) → lo < 2 ^ k → bit (hi * 2 ^ k + lo) (k + j) ≡ bit hi j
-bit-high hi k lo j h = ap (λ (n : ℕ). eqb (n % 2) 1) (sym (shr-shr (hi * 2 ^ k + lo) k j) ∙ ap (λ (n : ℕ). n / 2 ^ j) (high hi k h))
+bit-high hi k lo j h =
+    ap (λ (n : ℕ). eqb (n % 2) 1) (sym (shr-shr (hi * 2 ^ k + lo) k j) ∙ ap (λ (n : ℕ). n / 2 ^ j) (high hi k h))

@@ -31,7 +31,9 @@ is-atom n a l h = rw (le-leb 1 a l, le-leb a n h)
 zone : (a : ℕ) → Zone a
 zone a = split (either (leb 1 a)) (either (leb a 128)) (either (leb a 64))
   where
-    split : (leb 1 a ≡ true) ⊎ (leb 1 a ≡ false) → (leb a 128 ≡ true) ⊎ (leb a 128 ≡ false) → (leb a 64 ≡ true) ⊎ (leb a 64 ≡ false) → Zone a
+    split :
+        (leb 1 a ≡ true) ⊎ (leb 1 a ≡ false) → (leb a 128 ≡ true) ⊎ (leb a 128 ≡ false) →
+        (leb a 64 ≡ true) ⊎ (leb a 64 ≡ false) → Zone a
     split (inr z) h m = let none = leb-false 1 a z in outside (rw z) (λ p. absurd (omega arith))
     split (inl l) (inr h) m = outside (rw (l, h)) (λ p. leb-false a 128 h)
     split (inl l) (inl h) (inl m) = first (leb-true 1 a l) (leb-true a 64 m)
@@ -57,7 +59,8 @@ has-second words a l h =
     let place : (a - 1) % 64 ≡ a - 65 = omega arith in
     rw (atom, word, place)
 
-pub has-atom : (words : List ℕ) (a : ℕ) → 1 ≤ a → a ≤ 128 → bit (getD words ((a - 1) / 64) 0) ((a - 1) % 64) ≡ has words a
+pub has-atom :
+    (words : List ℕ) (a : ℕ) → 1 ≤ a → a ≤ 128 → bit (getD words ((a - 1) / 64) 0) ((a - 1) % 64) ≡ has words a
 unfolding has
 has-atom words a l h = rw (is-atom 128 a l h)
 
@@ -79,7 +82,9 @@ has-range words a e =
     (leb-true 1 a (parts .0), leb-true a 128 (parts .1))
 
 -- a set of two words, by the places of its atoms
-by-zone : (words : List ℕ) (a : ℕ) (t : Bool) → ((1 ≤ a → 128 < a) → t ≡ false) → (1 ≤ a → a ≤ 64 → bit (getD words 0 0) (a - 1) ≡ t) → (65 ≤ a → a ≤ 128 → bit (getD words 1 0) (a - 65) ≡ t)
+by-zone :
+    (words : List ℕ) (a : ℕ) (t : Bool) → ((1 ≤ a → 128 < a) → t ≡ false) →
+    (1 ≤ a → a ≤ 64 → bit (getD words 0 0) (a - 1) ≡ t) → (65 ≤ a → a ≤ 128 → bit (getD words 1 0) (a - 65) ≡ t)
     → has words a ≡ t
 by-zone words a t out low high = split (zone a)
   where
@@ -89,27 +94,40 @@ by-zone words a t out low high = split (zone a)
     split (second l h) = has-second words a l h ∙ high l h
 
 -- An operation on the words that works place by place
-module _ (op : ℕ → ℕ → ℕ) (test : Bool → Bool → Bool) (none : test false false ≡ false) (same : (x y k : ℕ) → bit (op x y) k ≡ test (bit x k) (bit y k)) where
-  has-both : (x y : List ℕ) (a : ℕ) → has (op (getD x 0 0) (getD y 0 0) ∷ op (getD x 1 0) (getD y 1 0) ∷ []) a ≡ test (has x a) (has y a)
+module _ (op : ℕ → ℕ → ℕ) (test : Bool → Bool → Bool) (none : test false false ≡ false)
+    (same : (x y k : ℕ) → bit (op x y) k ≡ test (bit x k) (bit y k)) where
+  has-both :
+      (x y : List ℕ) (a : ℕ) → has (op (getD x 0 0) (getD y 0 0) ∷ op (getD x 1 0) (getD y 1 0) ∷ []) a ≡
+      test (has x a) (has y a)
   has-both x y a = split (zone a)
     where
-      split : Zone a → has (op (getD x 0 0) (getD y 0 0) ∷ op (getD x 1 0) (getD y 1 0) ∷ []) a ≡ test (has x a) (has y a)
-      split (outside e o) = has-outside (op (getD x 0 0) (getD y 0 0) ∷ op (getD x 1 0) (getD y 1 0) ∷ []) a e ∙ sym none ∙ ap₂ test (sym (has-outside x a e)) (sym (has-outside y a e))
+      split :
+          Zone a → has (op (getD x 0 0) (getD y 0 0) ∷ op (getD x 1 0) (getD y 1 0) ∷ []) a ≡ test (has x a) (has y a)
+      split (outside e o) =
+          has-outside (op (getD x 0 0) (getD y 0 0) ∷ op (getD x 1 0) (getD y 1 0) ∷ []) a e ∙ sym none ∙
+          ap₂ test (sym (has-outside x a e)) (sym (has-outside y a e))
       split (first l h) =
-          has-first (op (getD x 0 0) (getD y 0 0) ∷ op (getD x 1 0) (getD y 1 0) ∷ []) a l h ∙ same (getD x 0 0) (getD y 0 0) (a - 1)
+          has-first (op (getD x 0 0) (getD y 0 0) ∷ op (getD x 1 0) (getD y 1 0) ∷ []) a l h ∙
+          same (getD x 0 0) (getD y 0 0) (a - 1)
           ∙ ap₂ test (sym (has-first x a l h)) (sym (has-first y a l h))
       split (second l h) =
-          has-second (op (getD x 0 0) (getD y 0 0) ∷ op (getD x 1 0) (getD y 1 0) ∷ []) a l h ∙ same (getD x 1 0) (getD y 1 0) (a - 65)
+          has-second (op (getD x 0 0) (getD y 0 0) ∷ op (getD x 1 0) (getD y 1 0) ∷ []) a l h ∙
+          same (getD x 1 0) (getD y 1 0) (a - 65)
           ∙ ap₂ test (sym (has-second x a l h)) (sym (has-second y a l h))
 
-pub has-union : (x y : List ℕ) (a : ℕ) → has (bitOr (getD x 0 0) (getD y 0 0) ∷ bitOr (getD x 1 0) (getD y 1 0) ∷ []) a ≡ (has x a || has y a)
+pub has-union :
+    (x y : List ℕ) (a : ℕ) → has (bitOr (getD x 0 0) (getD y 0 0) ∷ bitOr (getD x 1 0) (getD y 1 0) ∷ []) a ≡
+    (has x a || has y a)
 has-union = has-both bitOr (λ p q. p || q) refl bit-or
 
-pub has-intersection : (x y : List ℕ) (a : ℕ) → has (bitAnd (getD x 0 0) (getD y 0 0) ∷ bitAnd (getD x 1 0) (getD y 1 0) ∷ []) a ≡ (has x a && has y a)
+pub has-intersection :
+    (x y : List ℕ) (a : ℕ) → has (bitAnd (getD x 0 0) (getD y 0 0) ∷ bitAnd (getD x 1 0) (getD y 1 0) ∷ []) a ≡
+    (has x a && has y a)
 has-intersection = has-both bitAnd (λ p q. p && q) refl bit-and
 
 pub has-minus : (x y : List ℕ) (a : ℕ)
-    → has ((getD x 0 0 - bitAnd (getD x 0 0) (getD y 0 0)) ∷ (getD x 1 0 - bitAnd (getD x 1 0) (getD y 1 0)) ∷ []) a ≡ (has x a && not (has y a))
+    → has ((getD x 0 0 - bitAnd (getD x 0 0) (getD y 0 0)) ∷ (getD x 1 0 - bitAnd (getD x 1 0) (getD y 1 0)) ∷ []) a ≡
+    (has x a && not (has y a))
 has-minus = has-both (λ m n. m - bitAnd m n) (λ p q. p && not q) refl bit-less
 
 pub has-empty : (a : ℕ) → has (0 ∷ 0 ∷ []) a ≡ false
@@ -122,7 +140,8 @@ pub shifted-one : (i : ℕ) → i < 64 → 1 * 2 ^ i % 18446744073709551616 ≡ 
 shifted-one i h = shl-exact {a = 1} 1 i 64 (omega arith) (omega arith) ∙ one-mul (2 ^ i)
 
 eqb-less : (a v d : ℕ) → d ≤ a → d ≤ v → eqb (a - d) (v - d) ≡ eqb a v
-eqb-less a v d ha hv = same-test (eqb (a - d) (v - d)) (eqb a v) (λ e. up (eqb-true (a - d) (v - d) e)) (λ e. down (eqb-true a v e))
+eqb-less a v d ha hv =
+    same-test (eqb (a - d) (v - d)) (eqb a v) (λ e. up (eqb-true (a - d) (v - d) e)) (λ e. down (eqb-true a v e))
   where
     up : a - d ≡ v - d → eqb a v ≡ true
     up e = eq-eqb a v (omega arith)
@@ -132,7 +151,8 @@ eqb-less a v d ha hv = same-test (eqb (a - d) (v - d)) (eqb a v) (λ e. up (eqb-
 
 pub has-single-first : (v : ℕ) → 1 ≤ v → v ≤ 64 → (a : ℕ) → has (2 ^ (v - 1) ∷ 0 ∷ []) a ≡ eqb a v
 has-single-first v l h a =
-    by-zone (2 ^ (v - 1) ∷ 0 ∷ []) a (eqb a v) (λ o. ne-eqb a v (λ e. far o e)) (λ la ha. bit-power (v - 1) (a - 1) ∙ eqb-less a v 1 la l)
+    by-zone (2 ^ (v - 1) ∷ 0 ∷ []) a (eqb a v) (λ o. ne-eqb a v (λ e. far o e))
+    (λ la ha. bit-power (v - 1) (a - 1) ∙ eqb-less a v 1 la l)
     (λ la ha. bit-none (a - 65) ∙ sym (ne-eqb a v (λ e. omega arith)))
   where
     far : (1 ≤ a → 128 < a) → a ≡ v → ⊥
@@ -140,7 +160,8 @@ has-single-first v l h a =
 
 pub has-single-second : (v : ℕ) → 65 ≤ v → v ≤ 128 → (a : ℕ) → has (0 ∷ 2 ^ (v - 65) ∷ []) a ≡ eqb a v
 has-single-second v l h a =
-    by-zone (0 ∷ 2 ^ (v - 65) ∷ []) a (eqb a v) (λ o. ne-eqb a v (λ e. far o e)) (λ la ha. bit-none (a - 1) ∙ sym (ne-eqb a v (λ e. omega arith)))
+    by-zone (0 ∷ 2 ^ (v - 65) ∷ []) a (eqb a v) (λ o. ne-eqb a v (λ e. far o e))
+    (λ la ha. bit-none (a - 1) ∙ sym (ne-eqb a v (λ e. omega arith)))
     (λ la ha. bit-power (v - 65) (a - 65) ∙ eqb-less a v 65 la l)
   where
     far : (1 ≤ a → 128 < a) → a ≡ v → ⊥
@@ -161,7 +182,8 @@ atom-upper : (n a : ℕ) → 1 ≤ a → isAtom n a ≡ leb a n
 atom-upper n a l = rw (le-leb 1 a l)
 
 ltb-less : (a n d k : ℕ) → suc d ≤ a → d + k ≡ n → ltb (a - suc d) k ≡ leb a n
-ltb-less a n d k l e = same-test (ltb (a - suc d) k) (leb a n) (λ t. up (ltb-true (a - suc d) k t)) (λ t. down (leb-true a n t))
+ltb-less a n d k l e =
+    same-test (ltb (a - suc d) k) (leb a n) (λ t. up (ltb-true (a - suc d) k t)) (λ t. down (leb-true a n t))
   where
     up : a - suc d < k → leb a n ≡ true
     up h = le-leb a n (omega arith)
@@ -171,20 +193,25 @@ ltb-less a n d k l e = same-test (ltb (a - suc d) k) (leb a n) (λ t. up (ltb-tr
 
 pub has-up-to-first : (n : ℕ) → n ≤ 64 → (a : ℕ) → has ((2 ^ n - 1) ∷ 0 ∷ []) a ≡ isAtom n a
 has-up-to-first n h a =
-    by-zone ((2 ^ n - 1) ∷ 0 ∷ []) a (isAtom n a) (λ o. not-atom n a (omega arith) o) (λ la ha. bit-ones n (a - 1) ∙ ltb-less a n 0 n la (omega arith) ∙ sym (atom-upper n a la))
+    by-zone ((2 ^ n - 1) ∷ 0 ∷ []) a (isAtom n a) (λ o. not-atom n a (omega arith) o)
+    (λ la ha. bit-ones n (a - 1) ∙ ltb-less a n 0 n la (omega arith) ∙ sym (atom-upper n a la))
     (λ la ha. bit-none (a - 65) ∙ sym (lt-leb a n (omega arith)) ∙ sym (atom-upper n a (omega arith)))
 
-pub has-up-to-second : (n : ℕ) → 64 ≤ n → n ≤ 128 → (a : ℕ) → has ((2 ^ 64 - 1) ∷ (2 ^ (n - 64) - 1) ∷ []) a ≡ isAtom n a
+pub has-up-to-second :
+    (n : ℕ) → 64 ≤ n → n ≤ 128 → (a : ℕ) → has ((2 ^ 64 - 1) ∷ (2 ^ (n - 64) - 1) ∷ []) a ≡ isAtom n a
 has-up-to-second n l h a =
     by-zone ((2 ^ 64 - 1) ∷ (2 ^ (n - 64) - 1) ∷ []) a (isAtom n a) (λ o. not-atom n a h o)
     (λ la ha. bit-ones 64 (a - 1) ∙ ltb-less a 64 0 64 la refl ∙ le-leb a 64 ha ∙ sym (is-atom n a la (omega arith)))
-    (λ la ha. bit-ones (n - 64) (a - 65) ∙ ltb-less a n 64 (n - 64) la (omega arith) ∙ sym (atom-upper n a (omega arith)))
+    (λ la ha. bit-ones (n - 64) (a - 65) ∙ ltb-less a n 64 (n - 64) la (omega arith) ∙
+    sym (atom-upper n a (omega arith)))
 
 -- the atoms up to n that are not up to `low`
 pub range-test : (low n a : ℕ) → (isAtom n a && not (isAtom low a)) ≡ (ltb low a && leb a n)
 range-test low n a = split (either (leb 1 a)) (either (leb a low))
   where
-    split : (leb 1 a ≡ true) ⊎ (leb 1 a ≡ false) → (leb a low ≡ true) ⊎ (leb a low ≡ false) → (isAtom n a && not (isAtom low a)) ≡ (ltb low a && leb a n)
+    split :
+        (leb 1 a ≡ true) ⊎ (leb 1 a ≡ false) → (leb a low ≡ true) ⊎ (leb a low ≡ false) →
+        (isAtom n a && not (isAtom low a)) ≡ (ltb low a && leb a n)
     split (inr z) m = let none = leb-false 1 a z in rw (z, le-ltb low a (omega arith))
     split (inl l) (inl m) = rw (l, m, le-ltb low a (leb-true a low m)) (off (leb a n))
       where
@@ -205,12 +232,14 @@ empty-none words e a =
     let parts = and-parts (eqb (getD words 0 0) 0) (eqb (getD words 1 0) 0) e in
     let w0 : getD words 0 0 ≡ 0 = eqb-true (getD words 0 0) 0 (parts .0) in
     let w1 : getD words 1 0 ≡ 0 = eqb-true (getD words 1 0) 0 (parts .1) in
-    by-zone words a false (λ o. refl) (λ l h. ap (λ (n : ℕ). bit n (a - 1)) w0 ∙ bit-none (a - 1)) (λ l h. ap (λ (n : ℕ). bit n (a - 65)) w1 ∙ bit-none (a - 65))
+    by-zone words a false (λ o. refl) (λ l h. ap (λ (n : ℕ). bit n (a - 1)) w0 ∙ bit-none (a - 1))
+    (λ l h. ap (λ (n : ℕ). bit n (a - 65)) w1 ∙ bit-none (a - 65))
 
 -- two words that are 0
 pub words-none : (words : List ℕ) → ((i : ℕ) → i < 2 → getD words i 0 ≡ 0) → (a : ℕ) → has words a ≡ false
 unfolding isEmpty
-words-none words z = empty-none words (rw (eq-eqb (getD words 0 0) 0 (z 0 (omega arith)), eq-eqb (getD words 1 0) 0 (z 1 (omega arith))))
+words-none words z =
+    empty-none words (rw (eq-eqb (getD words 0 0) 0 (z 0 (omega arith)), eq-eqb (getD words 1 0) 0 (z 1 (omega arith))))
 
 -- A set with an atom is not empty
 pub some-not-empty : (words : List ℕ) (a : ℕ) → has words a ≡ true → isEmpty words ≡ false
@@ -220,7 +249,13 @@ pub lowest-first : (words : List ℕ) (j : ℕ) → LowestBit (getD words 0 0) j
 lowest-first words j b =
     let below = b .below in
     let same : j + 1 - 1 ≡ j = omega arith in
-    record { low = omega arith; high = omega arith; member = has-first words (j + 1) (omega arith) (omega arith) ∙ ap (λ (k : ℕ). bit (getD words 0 0) k) same ∙ b .set; least = least }
+    record {
+      low = omega arith;
+      high = omega arith;
+      member = has-first words (j + 1) (omega arith) (omega arith) ∙
+          ap (λ (k : ℕ). bit (getD words 0 0) k) same ∙ b .set;
+      least = least;
+    }
   where
     least : (a : ℕ) → has words a ≡ true → j + 1 ≤ a
     least a e = split (zone a)
@@ -234,14 +269,21 @@ pub lowest-second : (words : List ℕ) (j : ℕ) → getD words 0 0 ≡ 0 → Lo
 lowest-second words j z b =
     let below = b .below in
     let same : j + 65 - 65 ≡ j = omega arith in
-    record { low = omega arith; high = omega arith; member = has-second words (j + 65) (omega arith) (omega arith) ∙ ap (λ (k : ℕ). bit (getD words 1 0) k) same ∙ b .set; least = least }
+    record {
+      low = omega arith;
+      high = omega arith;
+      member = has-second words (j + 65) (omega arith) (omega arith) ∙
+          ap (λ (k : ℕ). bit (getD words 1 0) k) same ∙ b .set;
+      least = least;
+    }
   where
     least : (a : ℕ) → has words a ≡ true → j + 65 ≤ a
     least a e = split (zone a)
       where
         split : Zone a → j + 65 ≤ a
         split (outside o p) = absurd (clash (has words a) e (has-outside words a o))
-        split (first l h) = absurd (clash (has words a) e (has-first words a l h ∙ ap (λ (n : ℕ). bit n (a - 1)) z ∙ bit-none (a - 1)))
+        split (first l h) =
+            absurd (clash (has words a) e (has-first words a l h ∙ ap (λ (n : ℕ). bit n (a - 1)) z ∙ bit-none (a - 1)))
         split (second l h) = let up : j ≤ a - 65 = b .least (a - 65) (sym (has-second words a l h) ∙ e) in omega arith
 
 pub lowest-in : (word : ℕ) → (word ≡ 0 → ⊥) → word < 2 ^ 64 → LowestBit word (trailingZeros 64 word)
@@ -251,21 +293,33 @@ lowest-in word z h =
 
 pub second-word : (words : List ℕ) → isEmpty words ≡ false → getD words 0 0 ≡ 0 → getD words 1 0 ≡ 0 → ⊥
 unfolding isEmpty
-second-word words e z0 z1 = let both : isEmpty words ≡ true = rw (eq-eqb (getD words 0 0) 0 z0, eq-eqb (getD words 1 0) 0 z1) in clash (isEmpty words) both e
+second-word words e z0 z1 =
+    let both : isEmpty words ≡ true = rw (eq-eqb (getD words 0 0) 0 z0, eq-eqb (getD words 1 0) 0 z1) in
+    clash (isEmpty words) both e
 
 -- the test of emptiness, by the word that it ends at
 
 pub not-empty-first : (words : List ℕ) → (getD words 0 0 ≡ 0 → ⊥) → getD words 0 0 < 2 ^ 64 → Emptiness words false
 unfolding isEmpty
 not-empty-first words z h =
-    record { test = rw (ne-eqb (getD words 0 0) 0 z); none = λ e. absurd (apart (sym e)); some = λ e. (trailingZeros 64 (getD words 0 0) + 1, lowest-first words (trailingZeros 64 (getD words 0 0)) (lowest-in (getD words 0 0) z h) .member) }
+    record {
+      test = rw (ne-eqb (getD words 0 0) 0 z);
+      none = λ e. absurd (apart (sym e));
+      some =
+          λ e. (
+            trailingZeros 64 (getD words 0 0) + 1,
+            lowest-first words (trailingZeros 64 (getD words 0 0)) (lowest-in (getD words 0 0) z h) .member,
+          );
+    }
 
 second-test : (words : List ℕ) → getD words 0 0 ≡ 0 → eqb (getD words 1 0) 0 ≡ isEmpty words
 unfolding isEmpty
 second-test words z = rw (eq-eqb (getD words 0 0) 0 z)
 
-pub empty-second : (words : List ℕ) → getD words 0 0 ≡ 0 → getD words 1 0 < 2 ^ 64 → Emptiness words (eqb (getD words 1 0) 0)
-empty-second words z h = record { test = second-test words z; none = λ e. empty-none words (sym (second-test words z) ∙ e); some = some }
+pub empty-second :
+    (words : List ℕ) → getD words 0 0 ≡ 0 → getD words 1 0 < 2 ^ 64 → Emptiness words (eqb (getD words 1 0) 0)
+empty-second words z h =
+    record { test = second-test words z; none = λ e. empty-none words (sym (second-test words z) ∙ e); some = some }
   where
     some : eqb (getD words 1 0) 0 ≡ false → (a : ℕ) × (has words a ≡ true)
     some e =

@@ -35,7 +35,8 @@ pub record LowestBit (word j : ℕ) : Type 0 where
   pub set : bit word j ≡ true
   pub least : (i : ℕ) → bit word i ≡ true → j ≤ i
 
--- The word table: words 2 × (a - 1) and 2 × (a - 1) + 1 are the row of atom a, a set. Atoms a and b are bonded when b is in it
+-- The word table: words 2 × (a - 1) and 2 × (a - 1) + 1 are the
+-- row of atom a, a set. Atoms a and b are bonded when b is in it
 unfoldable pub linkedBy : List ℕ → Adjacency
 linkedBy table a b = isAtom 128 a && isAtom 128 b && bit (getD table (2 * (a - 1) + (b - 1) / 64) 0) ((b - 1) % 64)
 

@@ -1,5 +1,6 @@
 -- The families of rings and of paths: members have at most n atoms, all from 1 to n, and no member begins another.
--- So a word is in the list exactly when it is a ring (a path), and a non-empty p is open exactly when some p ++ a ∷ r is one.
+-- So a word is in the list exactly when it is a ring (a path),
+-- and a non-empty p is open exactly when some p ++ a ∷ r is one.
 use Prim.Native.Nat.{ℕ, _≤_, _<_}
 use mathlib.Core.Path.{_≡_, subst}
 use mathlib.Core.Bool.{true, false}
@@ -18,32 +19,46 @@ module _ (n : ℕ) (adj : Adjacency) where
   pub rings-bounded : Bounded (rings n adj)
   rings-bounded w e = (ring-short n adj w e, ring-range n adj w e)
 
-  pub rings-sizes : (w : List ℕ) → isRing n adj w ≡ true → (1 ≤ length w) × (length w ≤ n) × ((i : ℕ) → i < length w → (1 ≤ getD w i 0) × (getD w i 0 ≤ n))
+  pub rings-sizes :
+      (w : List ℕ) → isRing n adj w ≡ true → (1 ≤ length w) × (length w ≤ n) ×
+      ((i : ℕ) → i < length w → (1 ≤ getD w i 0) × (getD w i 0 ≤ n))
   rings-sizes w e = let l = ring-long n adj w e in (omega arith, ring-short n adj w e, ring-range n adj w e)
 
   -- no ring begins another
   pub rings-stop : (v w : List ℕ) → isRing n adj v ≡ true → isRing n adj w ≡ true → begins v w ≡ false
-  rings-stop v w e f = false-of (begins v w) (λ g. let t = begins-split v w g in ring-stops n adj v (t .0) (t .1) e (subst (λ (u : List ℕ). isRing n adj u ≡ true) (t .2) f))
+  rings-stop v w e f =
+      false-of (begins v w)
+      (λ g. let t = begins-split v w g in
+      ring-stops n adj v (t .0) (t .1) e (subst (λ (u : List ℕ). isRing n adj u ≡ true) (t .2) f))
 
   pub rings-list : (w : List ℕ) → (isRing n adj w ≡ true) ↔ List·Memᴰ w (members (rings n adj))
   rings-list w = in-list (rings n adj) rings-bounded w
 
-  pub rings-open : (x : ℕ) (p : List ℕ) → (isOpen (rings n adj) (x ∷ p) ≡ true) ↔ ((a : ℕ) × (r : List ℕ) × (isRing n adj (x ∷ p ++ a ∷ r) ≡ true))
+  pub rings-open :
+      (x : ℕ) (p : List ℕ) →
+      (isOpen (rings n adj) (x ∷ p) ≡ true) ↔ ((a : ℕ) × (r : List ℕ) × (isRing n adj (x ∷ p ++ a ∷ r) ≡ true))
   rings-open x p = open-iff (rings n adj) rings-bounded x p
 
 module _ (n : ℕ) (adj : Adjacency) (s t : ℕ) where
   pub paths-bounded : Bounded (paths n adj s t)
   paths-bounded w e = (path-short n adj s t w e, path-range n adj s t w e)
 
-  pub paths-sizes : (w : List ℕ) → isPath n adj s t w ≡ true → (1 ≤ length w) × (length w ≤ n) × ((i : ℕ) → i < length w → (1 ≤ getD w i 0) × (getD w i 0 ≤ n))
+  pub paths-sizes :
+      (w : List ℕ) → isPath n adj s t w ≡ true → (1 ≤ length w) × (length w ≤ n) ×
+      ((i : ℕ) → i < length w → (1 ≤ getD w i 0) × (getD w i 0 ≤ n))
   paths-sizes w e = (path-long n adj s t w e, path-short n adj s t w e, path-range n adj s t w e)
 
   -- no path begins another
   pub paths-stop : (v w : List ℕ) → isPath n adj s t v ≡ true → isPath n adj s t w ≡ true → begins v w ≡ false
-  paths-stop v w e f = false-of (begins v w) (λ g. let d = begins-split v w g in path-stops n adj s t v (d .0) (d .1) e (subst (λ (u : List ℕ). isPath n adj s t u ≡ true) (d .2) f))
+  paths-stop v w e f =
+      false-of (begins v w)
+      (λ g. let d = begins-split v w g in
+      path-stops n adj s t v (d .0) (d .1) e (subst (λ (u : List ℕ). isPath n adj s t u ≡ true) (d .2) f))
 
   pub paths-list : (w : List ℕ) → (isPath n adj s t w ≡ true) ↔ List·Memᴰ w (members (paths n adj s t))
   paths-list w = in-list (paths n adj s t) paths-bounded w
 
-  pub paths-open : (x : ℕ) (p : List ℕ) → (isOpen (paths n adj s t) (x ∷ p) ≡ true) ↔ ((a : ℕ) × (r : List ℕ) × (isPath n adj s t (x ∷ p ++ a ∷ r) ≡ true))
+  pub paths-open :
+      (x : ℕ) (p : List ℕ) →
+      (isOpen (paths n adj s t) (x ∷ p) ≡ true) ↔ ((a : ℕ) × (r : List ℕ) × (isPath n adj s t (x ∷ p ++ a ∷ r) ≡ true))
   paths-open x p = open-iff (paths n adj s t) paths-bounded x p

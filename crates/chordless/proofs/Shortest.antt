@@ -1,5 +1,7 @@
--- The core of lemma 2 of document 003: b is reached from v through allowed atoms exactly when a chordless list leads from v to b through them.
--- By induction on the walk: before the chordless list from the next atom, v is put at the last atom of it that v is bonded to.
+-- The core of lemma 2 of document 003: b is reached from v through allowed
+-- atoms exactly when a chordless list leads from v to b through them.
+-- By induction on the walk: before the chordless list from the
+-- next atom, v is put at the last atom of it that v is bonded to.
 use Prim.Native.Nat.{ℕ}
 use mathlib.Core.Path.{_≡_, sym, subst}
 use mathlib.Core.Bool.{Bool, true, false}
@@ -22,17 +24,22 @@ module _ (adj : Adjacency) where
   differs x y z p q e = clash (adj x z) p (rw e q)
 
   -- an atom bonded to none of a chordless list to b is not in it, unless it is b
-  pub stays-out : (v b : ℕ) (q : List ℕ) → v ≢ b → Chordless adj (q ++ b ∷ []) → All (λ u. adj v u ≡ false) (q ++ b ∷ []) → All (λ u. v ≢ u) (q ++ b ∷ [])
+  pub stays-out :
+      (v b : ℕ) (q : List ℕ) → v ≢ b → Chordless adj (q ++ b ∷ []) → All (λ u. adj v u ≡ false) (q ++ b ∷ []) →
+      All (λ u. v ≢ u) (q ++ b ∷ [])
   stays-out v b [] h c a = h ◁ none
   stays-out v b (y ∷ []) h c a = (λ e. differs y v b (c .1) (all-head (all-tail a)) (sym e)) ◁ h ◁ none
-  stays-out v b (y ∷ z ∷ q) h c a = (λ e. differs y v z (c .1) (all-head (all-tail a)) (sym e)) ◁ stays-out v b (z ∷ q) h (c .3) (all-tail a)
+  stays-out v b (y ∷ z ∷ q) h c a =
+      (λ e. differs y v z (c .1) (all-head (all-tail a)) (sym e)) ◁ stays-out v b (z ∷ q) h (c .3) (all-tail a)
 
   -- a chordless list from v to b, through atoms with P
   abbrev pub Lane : (ℕ → Type 0) → ℕ → ℕ → Type 0
   Lane P v b = (q : List ℕ) × All P q × Chordless adj (v ∷ q ++ b ∷ [])
 
   -- v goes before the last atom of the list that it is bonded to; or it is bonded to none
-  cut : {P : ℕ → Type 0} → ((u : ℕ) → P u → adj u u ≡ false) → (v b : ℕ) (q : List ℕ) → v ≢ b → Chordless adj (q ++ b ∷ []) → All P q → Lane P v b ⊎ All (λ u. adj v u ≡ false) (q ++ b ∷ [])
+  cut :
+      {P : ℕ → Type 0} → ((u : ℕ) → P u → adj u u ≡ false) → (v b : ℕ) (q : List ℕ) → v ≢ b →
+      Chordless adj (q ++ b ∷ []) → All P q → Lane P v b ⊎ All (λ u. adj v u ≡ false) (q ++ b ∷ [])
   cut {P} irr v b [] h c a = go (either (adj v b))
     where
       go : (adj v b ≡ true) ⊎ (adj v b ≡ false) → Lane P v b ⊎ All (λ u. adj v u ≡ false) (b ∷ [])
@@ -40,17 +47,32 @@ module _ (adj : Adjacency) where
       go (inr e) = inr (e ◁ none)
   cut {P} irr v b (y ∷ q) h c a = go (either (adj v y)) (cut irr v b q h (chain-tail y (q ++ b ∷ []) c) (all-tail a))
     where
-      go : (adj v y ≡ true) ⊎ (adj v y ≡ false) → Lane P v b ⊎ All (λ u. adj v u ≡ false) (q ++ b ∷ []) → Lane P v b ⊎ All (λ u. adj v u ≡ false) (y ∷ q ++ b ∷ [])
+      go :
+          (adj v y ≡ true) ⊎ (adj v y ≡ false) → Lane P v b ⊎ All (λ u. adj v u ≡ false) (q ++ b ∷ []) →
+          Lane P v b ⊎ All (λ u. adj v u ≡ false) (y ∷ q ++ b ∷ [])
       go e (inl r) = inl r
       go (inl e) (inr r) =
-          inl (y ∷ q, a, (differs v y y e (irr y (all-head a)), e, all-both (stays-out v b q h (chain-tail y (q ++ b ∷ []) c) r) r, c))
+          inl (
+            y ∷ q,
+            a,
+            (
+              differs v y y e (irr y (all-head a)),
+              e,
+              all-both (stays-out v b q h (chain-tail y (q ++ b ∷ []) c) r) r,
+              c,
+            ),
+          )
       go (inr e) (inr r) = inr (e ◁ r)
 
-  pub shortest : {allowed : ℕ → Bool} {v b : ℕ} → ((u : ℕ) → allowed u ≡ true → adj u u ≡ false) → v ≢ b → Walk adj allowed b v → Lane (λ u. allowed u ≡ true) v b
+  pub shortest :
+      {allowed : ℕ → Bool} {v b : ℕ} → ((u : ℕ) → allowed u ≡ true → adj u u ≡ false) → v ≢ b → Walk adj allowed b v →
+      Lane (λ u. allowed u ≡ true) v b
   shortest irr h (there e) = ([], none, (h, e, none, tt))
   shortest {allowed} {b} irr h (through {v} {w} e a k) = split (ℕ-discrete w b) (λ g. shortest irr g k)
     where
-      place : (r : Lane (λ u. allowed u ≡ true) w b) → Lane (λ u. allowed u ≡ true) v b ⊎ All (λ u. adj v u ≡ false) (w ∷ r .0 ++ b ∷ []) → Lane (λ u. allowed u ≡ true) v b
+      place :
+          (r : Lane (λ u. allowed u ≡ true) w b) → Lane (λ u. allowed u ≡ true) v b ⊎
+          All (λ u. adj v u ≡ false) (w ∷ r .0 ++ b ∷ []) → Lane (λ u. allowed u ≡ true) v b
       place r (inl l) = l
       place r (inr n) = absurd (clash (adj v w) e (all-head n))
 
@@ -58,18 +80,27 @@ module _ (adj : Adjacency) where
       split (yes g) below = ([], none, (h, subst (λ (u : ℕ). adj v u ≡ true) g e, none, tt))
       split (no g) below = let r = below g in place r (cut irr v b (w ∷ r .0) h (r .2) (a ◁ r .1))
 
-  pub walks : {allowed : ℕ → Bool} {v b : ℕ} (q : List ℕ) → All (λ u. allowed u ≡ true) q → Chordless adj (v ∷ q ++ b ∷ []) → Walk adj allowed b v
+  pub walks :
+      {allowed : ℕ → Bool} {v b : ℕ} (q : List ℕ) → All (λ u. allowed u ≡ true) q → Chordless adj (v ∷ q ++ b ∷ []) →
+      Walk adj allowed b v
   walks [] a c = there (c .1)
   walks (y ∷ q) a c = through (c .1) (all-head a) (walks q (all-tail a) (c .3))
 
-  pub shortest-iff : (allowed : ℕ → Bool) (v b : ℕ) → ((u : ℕ) → allowed u ≡ true → adj u u ≡ false) → v ≢ b → Walk adj allowed b v ↔ Lane (λ u. allowed u ≡ true) v b
+  pub shortest-iff :
+      (allowed : ℕ → Bool) (v b : ℕ) → ((u : ℕ) → allowed u ≡ true → adj u u ≡ false) → v ≢ b →
+      Walk adj allowed b v ↔ Lane (λ u. allowed u ≡ true) v b
   shortest-iff allowed v b irr h = (shortest irr h, λ r. walks (r .0) (r .1) (r .2))
 
   -- the same with the test `induces`
   pub shortest-induces : (allowed : ℕ → Bool) (v b : ℕ) → ((u : ℕ) → allowed u ≡ true → adj u u ≡ false) → v ≢ b
-      → Walk adj allowed b v ↔ ((q : List ℕ) × All (λ u. allowed u ≡ true) q × (induces adj alongPath (v ∷ q ++ b ∷ []) ≡ true))
-  shortest-induces allowed v b irr h =
-      (λ k. let (q, a, c) = shortest irr h k in (q, a, chordless-iff adj (v ∷ q ++ b ∷ []) .1 c), λ r. walks (r .0) (r .1) (chordless-iff adj (v ∷ r .0 ++ b ∷ []) .0 (r .2)))
+      →
+      Walk adj allowed b v ↔
+      ((q : List ℕ) × All (λ u. allowed u ≡ true) q × (induces adj alongPath (v ∷ q ++ b ∷ []) ≡ true))
+  shortest-induces allowed v b irr h = (
+    λ k. let (q, a, c) = shortest irr h k in
+        (q, a, chordless-iff adj (v ∷ q ++ b ∷ []) .1 c),
+    λ r. walks (r .0) (r .1) (chordless-iff adj (v ∷ r .0 ++ b ∷ []) .0 (r .2)),
+  )
 
   -- through more atoms
   pub walk-more : {f g : ℕ → Bool} {b v : ℕ} → ((u : ℕ) → f u ≡ true → g u ≡ true) → Walk adj f b v → Walk adj g b v
@@ -81,7 +112,10 @@ module _ (adj : Adjacency) where
   walk-on a d (there e) = through e a (there d)
   walk-on a d (through e p k) = through e p (walk-on a d k)
 
-  -- what holds next to b, and next to an allowed atom that has it, holds wherever b is reached from: a set that is closed so has them all
-  pub walk-within : {f : ℕ → Bool} {b v : ℕ} (P : ℕ → Type 0) → ((u : ℕ) → adj u b ≡ true → P u) → ((u w : ℕ) → adj u w ≡ true → f w ≡ true → P w → P u) → Walk adj f b v → P v
+  -- what holds next to b, and next to an allowed atom that has it, holds
+  -- wherever b is reached from: a set that is closed so has them all
+  pub walk-within :
+      {f : ℕ → Bool} {b v : ℕ} (P : ℕ → Type 0) → ((u : ℕ) → adj u b ≡ true → P u) →
+      ((u w : ℕ) → adj u w ≡ true → f w ≡ true → P w → P u) → Walk adj f b v → P v
   walk-within P start step (there {v} e) = start v e
   walk-within P start step (through {v} {w} e a k) = step v w e a (walk-within P start step k)

@@ -1,4 +1,5 @@
--- Openness and membership of p with v added, as equations between tests: what a search computes for each v, once a sweep has found
+-- Openness and membership of p with v added, as equations between
+-- tests: what a search computes for each v, once a sweep has found
 -- the atoms from which a target is reached. From the theorems of `Rings` and `Paths`, part by part.
 use Prim.Native.Nat.{ℕ, _≤_}
 use mathlib.Core.Path.{_≡_, refl, subst}
@@ -28,72 +29,119 @@ module _ (n : ℕ) (adj : Adjacency) where
   abbrev ringTest : List ℕ → (ℕ → Bool) → ℕ → Bool
   ringTest p S v = ltb (atomAt p 0) v && leb v n && touchesOnlyLast adj p v && S v
 
-  ring-test : (p : List ℕ) (a v : ℕ) (S : ℕ → Bool) (t : Bool) → (t ≡ true) ↔ RingOpens n adj p a v → Sweeps n (atomAt p 0) adj (free n adj (atomAt p 0) p) (closing n adj p a) S → t ≡ ringTest p S v
+  ring-test :
+      (p : List ℕ) (a v : ℕ) (S : ℕ → Bool) (t : Bool) → (t ≡ true) ↔ RingOpens n adj p a v →
+      Sweeps n (atomAt p 0) adj (free n adj (atomAt p 0) p) (closing n adj p a) S → t ≡ ringTest p S v
   ring-test p a v S t e w = same-test t (ringTest p S v) (λ h. to (e .0 h)) (λ h. e .1 (back h))
     where
       to : RingOpens n adj p a v → ringTest p S v ≡ true
-      to o = and-both (ltb (atomAt p 0) v && leb v n && touchesOnlyLast adj p v) (S v) (all3 (ltb (atomAt p 0) v) (leb v n) (touchesOnlyLast adj p v) (lt-ltb (atomAt p 0) v (o .above)) (le-leb v n (o .range)) (o .touches)) (w v (o .above) (o .range) .1 (o .last, o .closes, o .reached))
+      to o =
+          and-both (ltb (atomAt p 0) v && leb v n && touchesOnlyLast adj p v) (S v)
+          (all3 (ltb (atomAt p 0) v) (leb v n) (touchesOnlyLast adj p v) (lt-ltb (atomAt p 0) v (o .above))
+          (le-leb v n (o .range)) (o .touches)) (w v (o .above) (o .range) .1 (o .last, o .closes, o .reached))
 
       back : ringTest p S v ≡ true → RingOpens n adj p a v
       back h =
-          let (x, y, z) = and3 (ltb (atomAt p 0) v) (leb v n) (touchesOnlyLast adj p v) (and-left (ltb (atomAt p 0) v && leb v n && touchesOnlyLast adj p v) (S v) h) in
-          let (b, c, k) = w v (ltb-true (atomAt p 0) v x) (leb-true v n y) .0 (and-right (ltb (atomAt p 0) v && leb v n && touchesOnlyLast adj p v) (S v) h) in
-          record { above = ltb-true (atomAt p 0) v x; range = leb-true v n y; touches = z; last = b; closes = c; reached = k }
+          let (x, y, z) =
+          and3 (ltb (atomAt p 0) v) (leb v n) (touchesOnlyLast adj p v)
+          (and-left (ltb (atomAt p 0) v && leb v n && touchesOnlyLast adj p v) (S v) h) in
+          let (b, c, k) =
+          w v (ltb-true (atomAt p 0) v x) (leb-true v n y) .0
+          (and-right (ltb (atomAt p 0) v && leb v n && touchesOnlyLast adj p v) (S v) h) in
+          record {
+            above = ltb-true (atomAt p 0) v x;
+            range = leb-true v n y;
+            touches = z;
+            last = b;
+            closes = c;
+            reached = k;
+          }
 
   module _ (irr : Irreflexive n adj) where
     -- two atoms or more: one S for every v
-    pub ring-sweep : (p : List ℕ) (S : ℕ → Bool) → 2 ≤ length p → isOpen (rings n adj) p ≡ true → Sweeps n (atomAt p 0) adj (free n adj (atomAt p 0) p) (closing n adj p (atomAt p 1)) S
-        → (v : ℕ) → isOpen (rings n adj) (p ++ v ∷ []) ≡ (ltb (atomAt p 0) v && leb v n && touchesOnlyLast adj p v && S v)
-    ring-sweep p S h e w v = ring-test p (atomAt p 1) v S (isOpen (rings n adj) (p ++ v ∷ [])) (ring-opens-long n adj irr p v h e) w
+    pub ring-sweep :
+        (p : List ℕ) (S : ℕ → Bool) → 2 ≤ length p → isOpen (rings n adj) p ≡ true →
+        Sweeps n (atomAt p 0) adj (free n adj (atomAt p 0) p) (closing n adj p (atomAt p 1)) S
+        → (v : ℕ) →
+        isOpen (rings n adj) (p ++ v ∷ []) ≡ (ltb (atomAt p 0) v && leb v n && touchesOnlyLast adj p v && S v)
+    ring-sweep p S h e w v =
+        ring-test p (atomAt p 1) v S (isOpen (rings n adj) (p ++ v ∷ [])) (ring-opens-long n adj irr p v h e) w
 
     -- one atom: S for this v
-    pub ring-sweep-one : (s v : ℕ) (S : ℕ → Bool) → 1 ≤ s → Sweeps n s adj (free n adj s (s ∷ [])) (closing n adj (s ∷ []) v) S
+    pub ring-sweep-one :
+        (s v : ℕ) (S : ℕ → Bool) → 1 ≤ s → Sweeps n s adj (free n adj s (s ∷ [])) (closing n adj (s ∷ []) v) S
         → isOpen (rings n adj) (s ∷ v ∷ []) ≡ (ltb s v && leb v n && touchesOnlyLast adj (s ∷ []) v && S v)
-    ring-sweep-one s v S h w = ring-test (s ∷ []) v v S (isOpen (rings n adj) (s ∷ v ∷ [])) (ring-opens-one n adj irr s v h) w
+    ring-sweep-one s v S h w =
+        ring-test (s ∷ []) v v S (isOpen (rings n adj) (s ∷ v ∷ [])) (ring-opens-one n adj irr s v h) w
 
     -- any open beginning that is not empty: S for this v
-    pub ring-sweep-each : (p : List ℕ) (v : ℕ) (S : ℕ → Bool) → 1 ≤ length p → isOpen (rings n adj) p ≡ true → Sweeps n (atomAt p 0) adj (free n adj (atomAt p 0) p) (closing n adj p (atomAt (p ++ v ∷ []) 1)) S
+    pub ring-sweep-each :
+        (p : List ℕ) (v : ℕ) (S : ℕ → Bool) → 1 ≤ length p → isOpen (rings n adj) p ≡ true →
+        Sweeps n (atomAt p 0) adj (free n adj (atomAt p 0) p) (closing n adj p (atomAt (p ++ v ∷ []) 1)) S
         → isOpen (rings n adj) (p ++ v ∷ []) ≡ (ltb (atomAt p 0) v && leb v n && touchesOnlyLast adj p v && S v)
-    ring-sweep-each p v S h e w = ring-test p (atomAt (p ++ v ∷ []) 1) v S (isOpen (rings n adj) (p ++ v ∷ [])) (ring-opens n adj irr p v h e) w
+    ring-sweep-each p v S h e w =
+        ring-test p (atomAt (p ++ v ∷ []) 1) v S (isOpen (rings n adj) (p ++ v ∷ [])) (ring-opens n adj irr p v h e) w
 
-  pub ring-member : (p : List ℕ) (v : ℕ) → 2 ≤ length p → isOpen (rings n adj) p ≡ true → isRing n adj (p ++ v ∷ []) ≡ (ltb (atomAt p 1) v && leb v n && touchesOnlyEnds adj p v)
-  ring-member p v h e = same-test (isRing n adj (p ++ v ∷ [])) (ltb (atomAt p 1) v && leb v n && touchesOnlyEnds adj p v) (λ f. to (ring-closes n adj p v h e .0 f)) (λ f. ring-closes n adj p v h e .1 (back f))
+  pub ring-member :
+      (p : List ℕ) (v : ℕ) → 2 ≤ length p → isOpen (rings n adj) p ≡ true →
+      isRing n adj (p ++ v ∷ []) ≡ (ltb (atomAt p 1) v && leb v n && touchesOnlyEnds adj p v)
+  ring-member p v h e =
+      same-test (isRing n adj (p ++ v ∷ [])) (ltb (atomAt p 1) v && leb v n && touchesOnlyEnds adj p v)
+      (λ f. to (ring-closes n adj p v h e .0 f)) (λ f. ring-closes n adj p v h e .1 (back f))
     where
       to : RingCloses n adj p v → ltb (atomAt p 1) v && leb v n && touchesOnlyEnds adj p v ≡ true
-      to k = all3 (ltb (atomAt p 1) v) (leb v n) (touchesOnlyEnds adj p v) (lt-ltb (atomAt p 1) v (k .above)) (le-leb v n (k .range)) (k .touches)
+      to k =
+          all3 (ltb (atomAt p 1) v) (leb v n) (touchesOnlyEnds adj p v) (lt-ltb (atomAt p 1) v (k .above))
+          (le-leb v n (k .range)) (k .touches)
 
       back : ltb (atomAt p 1) v && leb v n && touchesOnlyEnds adj p v ≡ true → RingCloses n adj p v
-      back f = let (x, y, z) = and3 (ltb (atomAt p 1) v) (leb v n) (touchesOnlyEnds adj p v) f in record { above = ltb-true (atomAt p 1) v x; range = leb-true v n y; touches = z }
+      back f =
+          let (x, y, z) = and3 (ltb (atomAt p 1) v) (leb v n) (touchesOnlyEnds adj p v) f in
+          record { above = ltb-true (atomAt p 1) v x; range = leb-true v n y; touches = z }
 
 module _ (n : ℕ) (adj : Adjacency) (s t : ℕ) where
-  pub path-member : (p : List ℕ) (v : ℕ) → 1 ≤ length p → isOpen (paths n adj s t) p ≡ true → isPath n adj s t (p ++ v ∷ []) ≡ (eqb v t && touchesOnlyLast adj p v)
+  pub path-member :
+      (p : List ℕ) (v : ℕ) → 1 ≤ length p → isOpen (paths n adj s t) p ≡ true →
+      isPath n adj s t (p ++ v ∷ []) ≡ (eqb v t && touchesOnlyLast adj p v)
   path-member p v h e =
       same-test (isPath n adj s t (p ++ v ∷ [])) (eqb v t && touchesOnlyLast adj p v)
-      (λ f. let (x, y) = path-closes n adj s t p v h e .0 f in and-both (eqb v t) (touchesOnlyLast adj p v) (eq-eqb v t x) y)
-      (λ f. path-closes n adj s t p v h e .1 (eqb-true v t (and-left (eqb v t) (touchesOnlyLast adj p v) f), and-right (eqb v t) (touchesOnlyLast adj p v) f))
+      (λ f. let (x, y) = path-closes n adj s t p v h e .0 f in
+      and-both (eqb v t) (touchesOnlyLast adj p v) (eq-eqb v t x) y)
+      (λ f. path-closes n adj s t p v h e .1
+      (eqb-true v t (and-left (eqb v t) (touchesOnlyLast adj p v) f), and-right (eqb v t) (touchesOnlyLast adj p v) f))
 
   -- v opens the beginning p of a path, tested
   abbrev pathTest : List ℕ → (ℕ → Bool) → ℕ → Bool
   pathTest p S v = leb 1 v && leb v n && not (eqb (atomAt p 0) v) && touchesOnlyLast adj p v && clear adj p t && S v
 
   -- one S for every v
-  pub path-sweep : Irreflexive n adj → (p : List ℕ) (S : ℕ → Bool) → 1 ≤ length p → isOpen (paths n adj s t) p ≡ true → Sweeps n 0 adj (free n adj 0 p) (λ b. eqb b t) S
-      → (v : ℕ) → isOpen (paths n adj s t) (p ++ v ∷ []) ≡ (leb 1 v && leb v n && not (eqb (atomAt p 0) v) && touchesOnlyLast adj p v && clear adj p t && S v)
-  path-sweep irr p S h e w v = same-test (isOpen (paths n adj s t) (p ++ v ∷ [])) (pathTest p S v) (λ f. to (path-opens n adj s t irr p v h e .0 f)) (λ f. path-opens n adj s t irr p v h e .1 (back f))
+  pub path-sweep :
+      Irreflexive n adj → (p : List ℕ) (S : ℕ → Bool) → 1 ≤ length p → isOpen (paths n adj s t) p ≡ true →
+      Sweeps n 0 adj (free n adj 0 p) (λ b. eqb b t) S
+      → (v : ℕ) →
+      isOpen (paths n adj s t) (p ++ v ∷ []) ≡
+      (leb 1 v && leb v n && not (eqb (atomAt p 0) v) && touchesOnlyLast adj p v && clear adj p t && S v)
+  path-sweep irr p S h e w v =
+      same-test (isOpen (paths n adj s t) (p ++ v ∷ [])) (pathTest p S v)
+      (λ f. to (path-opens n adj s t irr p v h e .0 f)) (λ f. path-opens n adj s t irr p v h e .1 (back f))
     where
       to : PathOpens n adj t p v → pathTest p S v ≡ true
       to o =
           all3 (leb 1 v && leb v n && not (eqb (atomAt p 0) v) && touchesOnlyLast adj p v) (clear adj p t) (S v)
           (and-both (leb 1 v && leb v n && not (eqb (atomAt p 0) v)) (touchesOnlyLast adj p v)
-          (all3 (leb 1 v) (leb v n) (not (eqb (atomAt p 0) v)) (le-leb 1 v (o .least)) (le-leb v n (o .range)) (not-of (eqb (atomAt p 0) v) (ne-eqb (atomAt p 0) v (o .other))))
+          (all3 (leb 1 v) (leb v n) (not (eqb (atomAt p 0) v)) (le-leb 1 v (o .least)) (le-leb v n (o .range))
+          (not-of (eqb (atomAt p 0) v) (ne-eqb (atomAt p 0) v (o .other))))
           (o .touches))
           (o .ahead)
           (w v (o .least) (o .range) .1 (t, eq-eqb t t refl, o .reached))
 
       back : pathTest p S v ≡ true → PathOpens n adj t p v
       back f =
-          let (i, j, k) = and3 (leb 1 v && leb v n && not (eqb (atomAt p 0) v) && touchesOnlyLast adj p v) (clear adj p t) (S v) f in
-          let (x, y, z) = and3 (leb 1 v) (leb v n) (not (eqb (atomAt p 0) v)) (and-left (leb 1 v && leb v n && not (eqb (atomAt p 0) v)) (touchesOnlyLast adj p v) i) in
+          let (i, j, k) =
+          and3 (leb 1 v && leb v n && not (eqb (atomAt p 0) v) && touchesOnlyLast adj p v) (clear adj p t) (S v) f in
+          let (x, y, z) =
+          and3 (leb 1 v) (leb v n) (not (eqb (atomAt p 0) v))
+          (and-left (leb 1 v && leb v n && not (eqb (atomAt p 0) v)) (touchesOnlyLast adj p v) i) in
           let (b, c, l) = w v (leb-true 1 v x) (leb-true v n y) .0 k in
           record {
             least = leb-true 1 v x;
@@ -105,8 +153,13 @@ module _ (n : ℕ) (adj : Adjacency) (s t : ℕ) where
           }
 
   -- the empty beginning
-  pub path-sweep-none : Irreflexive n adj → (S : ℕ → Bool) → s ≢ t → (1 ≤ s) × (s ≤ n) → (1 ≤ t) × (t ≤ n) → Sweeps n 0 adj (free n adj 0 []) (λ b. eqb b t) S → (v : ℕ) → isOpen (paths n adj s t) (v ∷ []) ≡ (eqb v s && S s)
+  pub path-sweep-none :
+      Irreflexive n adj → (S : ℕ → Bool) → s ≢ t → (1 ≤ s) × (s ≤ n) → (1 ≤ t) × (t ≤ n) →
+      Sweeps n 0 adj (free n adj 0 []) (λ b. eqb b t) S → (v : ℕ) → isOpen (paths n adj s t) (v ∷ []) ≡ (eqb v s && S s)
   path-sweep-none irr S h hs ht w v =
       same-test (isOpen (paths n adj s t) (v ∷ [])) (eqb v s && S s)
-      (λ f. let (e, k) = path-opens-none n adj s t irr v h hs ht .0 f in and-both (eqb v s) (S s) (eq-eqb v s e) (w s (hs .0) (hs .1) .1 (t, eq-eqb t t refl, k)))
-      (λ f. let (b, c, k) = w s (hs .0) (hs .1) .0 (and-right (eqb v s) (S s) f) in path-opens-none n adj s t irr v h hs ht .1 (eqb-true v s (and-left (eqb v s) (S s) f), subst (λ (u : ℕ). Walk adj (free n adj 0 []) u s) (eqb-true b t c) k))
+      (λ f. let (e, k) = path-opens-none n adj s t irr v h hs ht .0 f in
+      and-both (eqb v s) (S s) (eq-eqb v s e) (w s (hs .0) (hs .1) .1 (t, eq-eqb t t refl, k)))
+      (λ f. let (b, c, k) = w s (hs .0) (hs .1) .0 (and-right (eqb v s) (S s) f) in
+      path-opens-none n adj s t irr v h hs ht .1
+      (eqb-true v s (and-left (eqb v s) (S s) f), subst (λ (u : ℕ). Walk adj (free n adj 0 []) u s) (eqb-true b t c) k))

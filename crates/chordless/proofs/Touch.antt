@@ -1,5 +1,7 @@
--- The tests of `Reach` as plain facts, by recursion on the beginning; and how a beginning is joined to a chordless list, for rings and paths alike.
--- That no atom occurs twice in the joined list follows from the bonds: an atom of a chordless list is told by the atom before it or after it.
+-- The tests of `Reach` as plain facts, by recursion on the beginning; and
+-- how a beginning is joined to a chordless list, for rings and paths alike.
+-- That no atom occurs twice in the joined list follows from the bonds:
+-- an atom of a chordless list is told by the atom before it or after it.
 use Prim.Native.Nat.{ℕ, zero, suc, _≤_, _<_}
 use mathlib.Core.Path.{_≡_, sym, ap, _∙_}
 use mathlib.Core.Bool.{true, false, _&&_, _||_, not, Bool·beq}
@@ -30,42 +32,60 @@ Touches adj (x ∷ y ∷ p) v = (adj x v ≡ false) × Touches adj (y ∷ p) v
 module _ (adj : Adjacency) where
   pub clear-facts : (p : List ℕ) (u : ℕ) → clear adj p u ≡ true → Clear adj p u
   unfolding clear
-  clear-facts p u e = all-of p (λ i h. not-true (adj (atomAt p i) u) (allBelow-at (length p) (λ k. not (adj (atomAt p k) u)) e i h))
+  clear-facts p u e =
+      all-of p (λ i h. not-true (adj (atomAt p i) u) (allBelow-at (length p) (λ k. not (adj (atomAt p k) u)) e i h))
 
   pub clear-of : (p : List ℕ) (u : ℕ) → Clear adj p u → clear adj p u ≡ true
   unfolding clear
-  clear-of p u a = allBelow-of (length p) (λ k. not (adj (atomAt p k) u)) (λ i h. not-of (adj (atomAt p i) u) (all-at a i h))
+  clear-of p u a =
+      allBelow-of (length p) (λ k. not (adj (atomAt p k) u)) (λ i h. not-of (adj (atomAt p i) u) (all-at a i h))
 
-  touches-by : (p : List ℕ) (v : ℕ) → ((i : ℕ) → i < length p → adj (atomAt p i) v ≡ eqb (suc i) (length p)) → Touches adj p v
+  touches-by :
+      (p : List ℕ) (v : ℕ) → ((i : ℕ) → i < length p → adj (atomAt p i) v ≡ eqb (suc i) (length p)) → Touches adj p v
   touches-by [] v f = tt
   touches-by (x ∷ []) v f = f 0 (omega arith)
-  touches-by (x ∷ y ∷ p) v f = (f 0 (omega arith) ∙ ne-eqb 1 (suc (suc (length p))) (omega arith), touches-by (y ∷ p) v (λ i h. f (suc i) (omega arith) ∙ eqb·suc-suc (suc i) (suc (length p))))
+  touches-by (x ∷ y ∷ p) v f = (
+    f 0 (omega arith) ∙ ne-eqb 1 (suc (suc (length p))) (omega arith),
+    touches-by (y ∷ p) v (λ i h. f (suc i) (omega arith) ∙ eqb·suc-suc (suc i) (suc (length p))),
+  )
 
-  touches-at : (p : List ℕ) (v : ℕ) → Touches adj p v → (i : ℕ) → i < length p → adj (atomAt p i) v ≡ eqb (suc i) (length p)
+  touches-at :
+      (p : List ℕ) (v : ℕ) → Touches adj p v → (i : ℕ) → i < length p → adj (atomAt p i) v ≡ eqb (suc i) (length p)
   touches-at [] v f i h = absurd (not-suc-le-zero h)
   touches-at (x ∷ []) v f zero h = f
   touches-at (x ∷ []) v f (suc i) h = absurd (not-suc-le-zero (le-of-suc-le-suc h))
   touches-at (x ∷ y ∷ p) v f zero h = f .0 ∙ sym (ne-eqb 1 (suc (suc (length p))) (omega arith))
-  touches-at (x ∷ y ∷ p) v f (suc i) h = touches-at (y ∷ p) v (f .1) i (le-of-suc-le-suc h) ∙ sym (eqb·suc-suc (suc i) (suc (length p)))
+  touches-at (x ∷ y ∷ p) v f (suc i) h =
+      touches-at (y ∷ p) v (f .1) i (le-of-suc-le-suc h) ∙ sym (eqb·suc-suc (suc i) (suc (length p)))
 
   pub touches-facts : (p : List ℕ) (v : ℕ) → touchesOnlyLast adj p v ≡ true → Touches adj p v
   unfolding touchesOnlyLast
-  touches-facts p v e = touches-by p v (λ i h. beq-true (adj (atomAt p i) v) (eqb (suc i) (length p)) (allBelow-at (length p) (λ k. Bool·beq (adj (atomAt p k) v) (eqb (suc k) (length p))) e i h))
+  touches-facts p v e =
+      touches-by p v
+      (λ i h. beq-true (adj (atomAt p i) v) (eqb (suc i) (length p))
+      (allBelow-at (length p) (λ k. Bool·beq (adj (atomAt p k) v) (eqb (suc k) (length p))) e i h))
 
   pub touches-of : (p : List ℕ) (v : ℕ) → Touches adj p v → touchesOnlyLast adj p v ≡ true
   unfolding touchesOnlyLast
-  touches-of p v f = allBelow-of (length p) (λ k. Bool·beq (adj (atomAt p k) v) (eqb (suc k) (length p))) (λ i h. beq-same (adj (atomAt p i) v) (eqb (suc i) (length p)) (touches-at p v f i h))
+  touches-of p v f =
+      allBelow-of (length p) (λ k. Bool·beq (adj (atomAt p k) v) (eqb (suc k) (length p)))
+      (λ i h. beq-same (adj (atomAt p i) v) (eqb (suc i) (length p)) (touches-at p v f i h))
 
-  pub first-facts : (s : ℕ) (p : List ℕ) (b : ℕ) → touchesOnlyFirst adj (s ∷ p) b ≡ true → (adj s b ≡ true) × Clear adj p b
+  pub first-facts :
+      (s : ℕ) (p : List ℕ) (b : ℕ) → touchesOnlyFirst adj (s ∷ p) b ≡ true → (adj s b ≡ true) × Clear adj p b
   unfolding touchesOnlyFirst
   first-facts s p b e = (f 0 (omega arith), all-of p (λ i h. f (suc i) (omega arith) ∙ eqb·suc-zero i))
     where
       f : (i : ℕ) → i < suc (length p) → adj (atomAt (s ∷ p) i) b ≡ eqb i 0
-      f i h = beq-true (adj (atomAt (s ∷ p) i) b) (eqb i 0) (allBelow-at (suc (length p)) (λ k. Bool·beq (adj (atomAt (s ∷ p) k) b) (eqb k 0)) e i h)
+      f i h =
+          beq-true (adj (atomAt (s ∷ p) i) b) (eqb i 0)
+          (allBelow-at (suc (length p)) (λ k. Bool·beq (adj (atomAt (s ∷ p) k) b) (eqb k 0)) e i h)
 
   pub first-of : (s : ℕ) (p : List ℕ) (b : ℕ) → adj s b ≡ true → Clear adj p b → touchesOnlyFirst adj (s ∷ p) b ≡ true
   unfolding touchesOnlyFirst
-  first-of s p b e a = allBelow-of (suc (length p)) (λ k. Bool·beq (adj (atomAt (s ∷ p) k) b) (eqb k 0)) (λ i h. beq-same (adj (atomAt (s ∷ p) i) b) (eqb i 0) (f i h))
+  first-of s p b e a =
+      allBelow-of (suc (length p)) (λ k. Bool·beq (adj (atomAt (s ∷ p) k) b) (eqb k 0))
+      (λ i h. beq-same (adj (atomAt (s ∷ p) i) b) (eqb i 0) (f i h))
     where
       f : (i : ℕ) → i < suc (length p) → adj (atomAt (s ∷ p) i) b ≡ eqb i 0
       f zero h = e
@@ -74,20 +94,32 @@ module _ (adj : Adjacency) where
   ends-later : (i k : ℕ) → eqb (suc i) 0 || eqb (suc (suc i)) (suc k) ≡ eqb (suc i) k
   ends-later i k = rw (eqb·suc-zero i, eqb·suc-suc (suc i) k)
 
-  pub ends-facts : (s a : ℕ) (p : List ℕ) (v : ℕ) → touchesOnlyEnds adj (s ∷ a ∷ p) v ≡ true → (adj s v ≡ true) × Touches adj (a ∷ p) v
+  pub ends-facts :
+      (s a : ℕ) (p : List ℕ) (v : ℕ) → touchesOnlyEnds adj (s ∷ a ∷ p) v ≡ true →
+      (adj s v ≡ true) × Touches adj (a ∷ p) v
   unfolding touchesOnlyEnds
-  ends-facts s a p v e = (f 0 (omega arith), touches-by (a ∷ p) v (λ i h. f (suc i) (omega arith) ∙ ends-later i (suc (length p))))
+  ends-facts s a p v e =
+      (f 0 (omega arith), touches-by (a ∷ p) v (λ i h. f (suc i) (omega arith) ∙ ends-later i (suc (length p))))
     where
-      f : (i : ℕ) → i < suc (suc (length p)) → adj (atomAt (s ∷ a ∷ p) i) v ≡ (eqb i 0 || eqb (suc i) (suc (suc (length p))))
-      f i h = beq-true (adj (atomAt (s ∷ a ∷ p) i) v) (eqb i 0 || eqb (suc i) (suc (suc (length p)))) (allBelow-at (suc (suc (length p))) (λ k. Bool·beq (adj (atomAt (s ∷ a ∷ p) k) v) (eqb k 0 || eqb (suc k) (suc (suc (length p))))) e i h)
+      f :
+          (i : ℕ) → i < suc (suc (length p)) →
+          adj (atomAt (s ∷ a ∷ p) i) v ≡ (eqb i 0 || eqb (suc i) (suc (suc (length p))))
+      f i h =
+          beq-true (adj (atomAt (s ∷ a ∷ p) i) v) (eqb i 0 || eqb (suc i) (suc (suc (length p))))
+          (allBelow-at (suc (suc (length p)))
+          (λ k. Bool·beq (adj (atomAt (s ∷ a ∷ p) k) v) (eqb k 0 || eqb (suc k) (suc (suc (length p))))) e i h)
 
-  pub ends-of : (s a : ℕ) (p : List ℕ) (v : ℕ) → adj s v ≡ true → Touches adj (a ∷ p) v → touchesOnlyEnds adj (s ∷ a ∷ p) v ≡ true
+  pub ends-of :
+      (s a : ℕ) (p : List ℕ) (v : ℕ) → adj s v ≡ true → Touches adj (a ∷ p) v → touchesOnlyEnds adj (s ∷ a ∷ p) v ≡ true
   unfolding touchesOnlyEnds
   ends-of s a p v e t =
-      allBelow-of (suc (suc (length p))) (λ k. Bool·beq (adj (atomAt (s ∷ a ∷ p) k) v) (eqb k 0 || eqb (suc k) (suc (suc (length p)))))
+      allBelow-of (suc (suc (length p)))
+      (λ k. Bool·beq (adj (atomAt (s ∷ a ∷ p) k) v) (eqb k 0 || eqb (suc k) (suc (suc (length p)))))
       (λ i h. beq-same (adj (atomAt (s ∷ a ∷ p) i) v) (eqb i 0 || eqb (suc i) (suc (suc (length p)))) (f i h))
     where
-      f : (i : ℕ) → i < suc (suc (length p)) → adj (atomAt (s ∷ a ∷ p) i) v ≡ (eqb i 0 || eqb (suc i) (suc (suc (length p))))
+      f :
+          (i : ℕ) → i < suc (suc (length p)) →
+          adj (atomAt (s ∷ a ∷ p) i) v ≡ (eqb i 0 || eqb (suc i) (suc (suc (length p))))
       f zero h = e
       f (suc i) h = touches-at (a ∷ p) v t i (le-of-suc-le-suc h) ∙ sym (ends-later i (suc (length p)))
 
@@ -95,12 +127,17 @@ module _ (adj : Adjacency) where
     pub free-facts : free n adj low p u ≡ true → (low < u) × (u ≤ n) × Clear adj p u
     unfolding free
     free-facts e =
-        let l = and-left (ltb low u && leb u n) (clear adj p u) e in
-        (ltb-true low u (and-left (ltb low u) (leb u n) l), leb-true u n (and-right (ltb low u) (leb u n) l), clear-facts p u (and-right (ltb low u && leb u n) (clear adj p u) e))
+        let l = and-left (ltb low u && leb u n) (clear adj p u) e in (
+          ltb-true low u (and-left (ltb low u) (leb u n) l),
+          leb-true u n (and-right (ltb low u) (leb u n) l),
+          clear-facts p u (and-right (ltb low u && leb u n) (clear adj p u) e),
+        )
 
     pub free-of : low < u → u ≤ n → Clear adj p u → free n adj low p u ≡ true
     unfolding free
-    free-of h g a = and-both (ltb low u && leb u n) (clear adj p u) (and-both (ltb low u) (leb u n) (lt-ltb low u h) (le-leb u n g)) (clear-of p u a)
+    free-of h g a =
+        and-both (ltb low u && leb u n) (clear adj p u) (and-both (ltb low u) (leb u n) (lt-ltb low u h) (le-leb u n g))
+        (clear-of p u a)
 
     -- a free atom is not bonded to itself
     pub free-irreflexive : Irreflexive n adj → free n adj low p u ≡ true → adj u u ≡ false
@@ -116,7 +153,9 @@ module _ (adj : Adjacency) where
 
     pub closing-of : a < b → b ≤ n → adj s b ≡ true → Clear adj p b → closing n adj (s ∷ p) a b ≡ true
     unfolding closing
-    closing-of h g e c = and-both (ltb a b && leb b n) (touchesOnlyFirst adj (s ∷ p) b) (and-both (ltb a b) (leb b n) (lt-ltb a b h) (le-leb b n g)) (first-of s p b e c)
+    closing-of h g e c =
+        and-both (ltb a b && leb b n) (touchesOnlyFirst adj (s ∷ p) b)
+        (and-both (ltb a b) (leb b n) (lt-ltb a b h) (le-leb b n g)) (first-of s p b e c)
 
   pub follows-of : (p : List ℕ) (v : ℕ) → All (λ x. x ≢ v) p → Touches adj p v → Follows adj p v
   follows-of [] v a t = tt
@@ -142,7 +181,8 @@ module _ (adj : Adjacency) where
   off-clear p r a = all-swap r (all-map (λ x b. all-map (λ u o. o .1) b) a)
 
   -- v touches only the last atom of a chordless y ∷ p, and is not y: then it is not in it
-  pub fresh : (y : ℕ) (p : List ℕ) (v : ℕ) → y ≢ v → Chordless adj (y ∷ p) → Touches adj (y ∷ p) v → All (λ x. x ≢ v) (y ∷ p)
+  pub fresh :
+      (y : ℕ) (p : List ℕ) (v : ℕ) → y ≢ v → Chordless adj (y ∷ p) → Touches adj (y ∷ p) v → All (λ x. x ≢ v) (y ∷ p)
   fresh y [] v h c t = h ◁ none
   fresh y (z ∷ p) v h c t = h ◁ fresh z p v (told-apart y z v (c .1) (t .0)) (c .3) (t .1)
 
@@ -152,9 +192,11 @@ module _ (adj : Adjacency) where
   touch-apart x (y ∷ p) v t f a = touch-apart y p v t (f .1) (all-tail a)
 
   -- a beginning, then a chordless list from v to b through atoms that it does not meet, is chordless
-  pub join : (p : List ℕ) (v : ℕ) (q : List ℕ) (b : ℕ) → Chordless adj p → Follows adj p v → Chordless adj (v ∷ q ++ b ∷ [])
+  pub join :
+      (p : List ℕ) (v : ℕ) (q : List ℕ) (b : ℕ) → Chordless adj p → Follows adj p v → Chordless adj (v ∷ q ++ b ∷ [])
       → All (λ u. Clear adj p u) q → Clear adj p b → All (λ x. x ≢ b) p → Chordless adj (p ++ v ∷ q ++ b ∷ [])
-  join p v q b c f d a e h = rw append-assoc (glue adj p v (q ++ b ∷ []) c f (all-map off (all-both (all-both (all-swap p a) e) h)) d)
+  join p v q b c f d a e h =
+      rw append-assoc (glue adj p v (q ++ b ∷ []) c f (all-map off (all-both (all-both (all-swap p a) e) h)) d)
     where
       off : (x : ℕ) → (All (λ u. adj x u ≡ false) q × (adj x b ≡ false)) × (x ≢ b) → All (Off adj x) (q ++ b ∷ [])
       off x k =

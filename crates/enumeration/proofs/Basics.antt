@@ -66,7 +66,9 @@ unfolding keep
 keep-append t [] ys = refl
 keep-append t (x ∷ xs) ys = go (t x) (keep-append t xs ys)
   where
-    go : (b : Bool) → keep t (xs ++ ys) ≡ keep t xs ++ keep t ys → cond b (x ∷ keep t (xs ++ ys)) (keep t (xs ++ ys)) ≡ cond b (x ∷ keep t xs) (keep t xs) ++ keep t ys
+    go :
+        (b : Bool) → keep t (xs ++ ys) ≡ keep t xs ++ keep t ys → cond b (x ∷ keep t (xs ++ ys)) (keep t (xs ++ ys)) ≡
+        cond b (x ∷ keep t xs) (keep t xs) ++ keep t ys
     go true e = ap (λ (r : List (List ℕ)). x ∷ r) e
     go false e = e
 
@@ -75,7 +77,8 @@ unfolding keep
 keep-false t x xs e = rw e
 
 -- a word that is kept is of the list and passes
-pub keep-mem : (t : List ℕ → Bool) (xs : List (List ℕ)) {w : List ℕ} → List·Memᴰ w (keep t xs) → List·Memᴰ w xs × (t w ≡ true)
+pub keep-mem :
+    (t : List ℕ → Bool) (xs : List (List ℕ)) {w : List ℕ} → List·Memᴰ w (keep t xs) → List·Memᴰ w xs × (t w ≡ true)
 unfolding keep
 keep-mem t [] m = absurd (List·Memᴰ·not-nil m)
 keep-mem t (x ∷ xs) {w} m = go (t x) refl (λ (m′ : List·Memᴰ w (keep t xs)). keep-mem t xs m′) m
@@ -83,16 +86,21 @@ keep-mem t (x ∷ xs) {w} m = go (t x) refl (λ (m′ : List·Memᴰ w (keep t x
     deeper : (List·Memᴰ w xs × (t w ≡ true)) → List·Memᴰ w (x ∷ xs) × (t w ≡ true)
     deeper r = (List·Memᴰ·tail (r .0), r .1)
 
-    first : t x ≡ true → (List·Memᴰ w (keep t xs) → List·Memᴰ w xs × (t w ≡ true)) → (w ≡ x) ⊎ List·Memᴰ w (keep t xs) → List·Memᴰ w (x ∷ xs) × (t w ≡ true)
+    first :
+        t x ≡ true → (List·Memᴰ w (keep t xs) → List·Memᴰ w xs × (t w ≡ true)) → (w ≡ x) ⊎ List·Memᴰ w (keep t xs) →
+        List·Memᴰ w (x ∷ xs) × (t w ≡ true)
     first e ih (inl q) = (List·Memᴰ·head q, ap t q ∙ e)
     first e ih (inr m′) = deeper (ih m′)
 
-    go : (b : Bool) → t x ≡ b → (List·Memᴰ w (keep t xs) → List·Memᴰ w xs × (t w ≡ true)) → List·Memᴰ w (cond b (x ∷ keep t xs) (keep t xs)) → List·Memᴰ w (x ∷ xs) × (t w ≡ true)
+    go :
+        (b : Bool) → t x ≡ b → (List·Memᴰ w (keep t xs) → List·Memᴰ w xs × (t w ≡ true)) →
+        List·Memᴰ w (cond b (x ∷ keep t xs) (keep t xs)) → List·Memᴰ w (x ∷ xs) × (t w ≡ true)
     go true e ih m′ = first e ih (List·Memᴰ·cases-cons m′)
     go false e ih m′ = deeper (ih m′)
 
 -- a word of the list that passes is kept
-pub mem-keep : (t : List ℕ → Bool) {xs : List (List ℕ)} {w : List ℕ} → List·Memᴰ w xs → t w ≡ true → List·Memᴰ w (keep t xs)
+pub mem-keep :
+    (t : List ℕ → Bool) {xs : List (List ℕ)} {w : List ℕ} → List·Memᴰ w xs → t w ≡ true → List·Memᴰ w (keep t xs)
 unfolding keep
 mem-keep t {w = w} (List·Memᴰ·head {x} {xs} q) e = go (t x) (sym (ap t q) ∙ e)
   where
@@ -106,13 +114,15 @@ mem-keep t {w = w} (List·Memᴰ·tail {x} {xs} m) e = go (t x) (mem-keep t m e)
     go false h = h
 
 -- where none passes, none is kept
-pub keep-none : (t : List ℕ → Bool) (xs : List (List ℕ)) → ((w : List ℕ) → List·Memᴰ w xs → t w ≡ false) → keep t xs ≡ []
+pub keep-none :
+    (t : List ℕ → Bool) (xs : List (List ℕ)) → ((w : List ℕ) → List·Memᴰ w xs → t w ≡ false) → keep t xs ≡ []
 unfolding keep
 keep-none t [] h = refl
 keep-none t (x ∷ xs) h = rw (h x (List·Memᴰ·head refl)) (keep-none t xs (λ w m. h w (List·Memᴰ·tail m)))
 
 -- two tests that agree on the list keep the same
-pub keep-cong : (s t : List ℕ → Bool) (xs : List (List ℕ)) → ((w : List ℕ) → List·Memᴰ w xs → s w ≡ t w) → keep s xs ≡ keep t xs
+pub keep-cong :
+    (s t : List ℕ → Bool) (xs : List (List ℕ)) → ((w : List ℕ) → List·Memᴰ w xs → s w ≡ t w) → keep s xs ≡ keep t xs
 unfolding keep
 keep-cong s t [] h = refl
 keep-cong s t (x ∷ xs) h = rw (h x (List·Memᴰ·head refl), keep-cong s t xs (λ w m. h w (List·Memᴰ·tail m)))
@@ -129,7 +139,9 @@ unfolding keep
 keep-swap s t [] = refl
 keep-swap s t (x ∷ xs) = go (s x) refl (t x) refl (keep-swap s t xs)
   where
-    go : (a : Bool) → s x ≡ a → (b : Bool) → t x ≡ b → keep s (keep t xs) ≡ keep t (keep s xs) → keep s (cond b (x ∷ keep t xs) (keep t xs)) ≡ keep t (cond a (x ∷ keep s xs) (keep s xs))
+    go :
+        (a : Bool) → s x ≡ a → (b : Bool) → t x ≡ b → keep s (keep t xs) ≡ keep t (keep s xs) →
+        keep s (cond b (x ∷ keep t xs) (keep t xs)) ≡ keep t (cond a (x ∷ keep s xs) (keep s xs))
     go true e true f ih = rw (e, f, ih)
     go true e false f ih = rw (f, ih)
     go false e true f ih = rw (e, ih)
@@ -143,7 +155,9 @@ unfolding any
 any-mem t [] e = absurd (apart (sym e))
 any-mem t (x ∷ xs) e = go (any-mem t xs) (or-either (t x) (any t xs) e)
   where
-    go : (any t xs ≡ true → (w : List ℕ) × List·Memᴰ w xs × (t w ≡ true)) → (t x ≡ true) ⊎ (any t xs ≡ true) → (w : List ℕ) × List·Memᴰ w (x ∷ xs) × (t w ≡ true)
+    go :
+        (any t xs ≡ true → (w : List ℕ) × List·Memᴰ w xs × (t w ≡ true)) → (t x ≡ true) ⊎ (any t xs ≡ true) →
+        (w : List ℕ) × List·Memᴰ w (x ∷ xs) × (t w ≡ true)
     go ih (inl q) = (x, List·Memᴰ·head refl, q)
     go ih (inr q) = let r = ih q in (r .0, List·Memᴰ·tail (r .1), r .2)
 
@@ -164,32 +178,44 @@ unfolding joined
 joined-append f [] m = refl
 joined-append f (a ∷ l) m = rw (joined-append f l m, append-assoc)
 
-pub map-joined : (h : List ℕ → List ℕ) (f : ℕ → List (List ℕ)) (l : List ℕ) → map h (joined f l) ≡ joined (λ a. map h (f a)) l
+pub map-joined :
+    (h : List ℕ → List ℕ) (f : ℕ → List (List ℕ)) (l : List ℕ) → map h (joined f l) ≡ joined (λ a. map h (f a)) l
 unfolding joined
 map-joined h f [] = refl
-map-joined h f (a ∷ l) = map-append′ (f a) (joined f l) ∙ ap (λ (r : List (List ℕ)). map h (f a) ++ r) (map-joined h f l)
+map-joined h f (a ∷ l) =
+    map-append′ (f a) (joined f l) ∙ ap (λ (r : List (List ℕ)). map h (f a) ++ r) (map-joined h f l)
   where
     map-append′ : (xs ys : List (List ℕ)) → map h (xs ++ ys) ≡ map h xs ++ map h ys
     map-append′ [] ys = refl
     map-append′ (x ∷ xs) ys = ap (λ (r : List (List ℕ)). h x ∷ r) (map-append′ xs ys)
 
-pub keep-joined : (t : List ℕ → Bool) (f g : ℕ → List (List ℕ)) (l : List ℕ) → ((a : ℕ) → keep t (f a) ≡ keep t (g a)) → keep t (joined f l) ≡ keep t (joined g l)
+pub keep-joined :
+    (t : List ℕ → Bool) (f g : ℕ → List (List ℕ)) (l : List ℕ) → ((a : ℕ) → keep t (f a) ≡ keep t (g a)) →
+    keep t (joined f l) ≡ keep t (joined g l)
 unfolding joined
 keep-joined t f g [] h = refl
-keep-joined t f g (a ∷ l) h = keep-append t (f a) (joined f l) ∙ cc (h a, keep-joined t f g l h) ∙ sym (keep-append t (g a) (joined g l))
+keep-joined t f g (a ∷ l) h =
+    keep-append t (f a) (joined f l) ∙ cc (h a, keep-joined t f g l h) ∙ sym (keep-append t (g a) (joined g l))
 
-pub joined-mem : (f : ℕ → List (List ℕ)) (l : List ℕ) {w : List ℕ} → List·Memᴰ w (joined f l) → (a : ℕ) × List·Memᴰ a l × List·Memᴰ w (f a)
+pub joined-mem :
+    (f : ℕ → List (List ℕ)) (l : List ℕ) {w : List ℕ} → List·Memᴰ w (joined f l) →
+    (a : ℕ) × List·Memᴰ a l × List·Memᴰ w (f a)
 unfolding joined
 joined-mem f [] m = absurd (List·Memᴰ·not-nil m)
 joined-mem f (a ∷ l) {w} m = go (λ (m′ : List·Memᴰ w (joined f l)). joined-mem f l m′) (List·Memᴰ·append-cases (f a) m)
   where
-    go : (List·Memᴰ w (joined f l) → (b : ℕ) × List·Memᴰ b l × List·Memᴰ w (f b)) → List·Memᴰ w (f a) ⊎ List·Memᴰ w (joined f l) → (b : ℕ) × List·Memᴰ b (a ∷ l) × List·Memᴰ w (f b)
+    go :
+        (List·Memᴰ w (joined f l) → (b : ℕ) × List·Memᴰ b l × List·Memᴰ w (f b)) →
+        List·Memᴰ w (f a) ⊎ List·Memᴰ w (joined f l) → (b : ℕ) × List·Memᴰ b (a ∷ l) × List·Memᴰ w (f b)
     go ih (inl q) = (a, List·Memᴰ·head refl, q)
     go ih (inr q) = let r = ih q in (r .0, List·Memᴰ·tail (r .1), r .2)
 
-pub mem-joined : (f : ℕ → List (List ℕ)) {l : List ℕ} {a : ℕ} {w : List ℕ} → List·Memᴰ a l → List·Memᴰ w (f a) → List·Memᴰ w (joined f l)
+pub mem-joined :
+    (f : ℕ → List (List ℕ)) {l : List ℕ} {a : ℕ} {w : List ℕ} → List·Memᴰ a l → List·Memᴰ w (f a) →
+    List·Memᴰ w (joined f l)
 unfolding joined
-mem-joined f {w = w} (List·Memᴰ·head {x} {xs} q) m = Memᴰ·append-left (joined f xs) (subst (λ (b : ℕ). List·Memᴰ w (f b)) q m)
+mem-joined f {w = w} (List·Memᴰ·head {x} {xs} q) m =
+    Memᴰ·append-left (joined f xs) (subst (λ (b : ℕ). List·Memᴰ w (f b)) q m)
 mem-joined f (List·Memᴰ·tail {x} {xs} h) m = Memᴰ·append-right (f x) (mem-joined f h m)
 
 pub from-mem : (c k : ℕ) {a : ℕ} → List·Memᴰ a (from c k) → (c ≤ a) × (a < c + k)
@@ -197,7 +223,9 @@ unfolding from
 from-mem c zero m = absurd (List·Memᴰ·not-nil m)
 from-mem c (suc k) {a} m = go (λ (m′ : List·Memᴰ a (from (suc c) k)). from-mem (suc c) k m′) (List·Memᴰ·cases-cons m)
   where
-    go : (List·Memᴰ a (from (suc c) k) → (suc c ≤ a) × (a < suc c + k)) → (a ≡ c) ⊎ List·Memᴰ a (from (suc c) k) → (c ≤ a) × (a < c + suc k)
+    go :
+        (List·Memᴰ a (from (suc c) k) → (suc c ≤ a) × (a < suc c + k)) → (a ≡ c) ⊎ List·Memᴰ a (from (suc c) k) →
+        (c ≤ a) × (a < c + suc k)
     go ih (inl q) = (omega arith, omega arith)
     go ih (inr q) = let r = ih q in (omega arith, omega arith)
 

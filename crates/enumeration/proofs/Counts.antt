@@ -1,5 +1,6 @@
 -- The counts of a search: a balance that every trial and unwinding keeps, and a bound on the open words.
--- The balance: trials + n × |p| and n × extensions + the sum of p + c rise alike. The bound: each open word is one of the at most n − 1 beginnings of some member.
+-- The balance: trials + n × |p| and n × extensions + the sum of p + c rise alike.
+-- The bound: each open word is one of the at most n − 1 beginnings of some member.
 use Prim.Native.Nat.{ℕ, zero, suc, _+_, _-_, _*_, _≤_}
 use native.Mathlib.Omega.{arith}
 use native.Mathlib.Nat.{mul-suc, mul-zero}
@@ -29,13 +30,16 @@ Balanced n x y p c trials extensions = trials + n * length p + x ≡ n * extensi
 abbrev pub BalancedAt : ℕ → ℕ → ℕ → State → Type 0
 BalancedAt n x y st = Balanced n x y (st .stack) (st .next) (st .trials) (st .extensions)
 
-unwound-balanced : (n x y : ℕ) (p : List ℕ) (c t e : ℕ) → Balanced n x y p c t e → Balanced n x y (unwound n p c .0) (unwound n p c .1) t e
+unwound-balanced :
+    (n x y : ℕ) (p : List ℕ) (c t e : ℕ) → Balanced n x y p c t e →
+    Balanced n x y (unwound n p c .0) (unwound n p c .1) t e
 unfolding unwound
 unwound-balanced n x y [] c t e h = h
 unwound-balanced n x y (a ∷ p) c t e h = go (eqb c (suc n)) refl (unwound-balanced n x y p (suc a) t e)
   where
     go :
-        (b : Bool) → eqb c (suc n) ≡ b → (Balanced n x y p (suc a) t e → Balanced n x y (unwound n p (suc a) .0) (unwound n p (suc a) .1) t e) →
+        (b : Bool) → eqb c (suc n) ≡ b →
+        (Balanced n x y p (suc a) t e → Balanced n x y (unwound n p (suc a) .0) (unwound n p (suc a) .1) t e) →
         Balanced n x y (cond b (unwound n p (suc a)) (a ∷ p, c) .0) (cond b (unwound n p (suc a)) (a ∷ p, c) .1) t e
     go true q ih = ih (omega (arith, eqb-true c (suc n) q, mul-suc n (length p)))
     go false q ih = h
@@ -46,9 +50,13 @@ module _ (F : Family) (x y : ℕ) where
   trial-balanced st h = go (F .member (tried st)) (isOpen F (tried st))
     where
       go : (m o : Bool) → BalancedAt (F .atoms) x y (act (F .atoms) m o st)
-      go true o = unwound-balanced (F .atoms) x y (st .stack) (suc (st .next)) (suc (st .trials)) (st .extensions) (omega arith)
-      go false true = unwound-balanced (F .atoms) x y (st .next ∷ st .stack) 1 (suc (st .trials)) (suc (st .extensions)) (omega (arith, mul-suc (F .atoms) (length (st .stack)), mul-suc (F .atoms) (st .extensions)))
-      go false false = unwound-balanced (F .atoms) x y (st .stack) (suc (st .next)) (suc (st .trials)) (st .extensions) (omega arith)
+      go true o =
+          unwound-balanced (F .atoms) x y (st .stack) (suc (st .next)) (suc (st .trials)) (st .extensions) (omega arith)
+      go false true =
+          unwound-balanced (F .atoms) x y (st .next ∷ st .stack) 1 (suc (st .trials)) (suc (st .extensions))
+          (omega (arith, mul-suc (F .atoms) (length (st .stack)), mul-suc (F .atoms) (st .extensions)))
+      go false false =
+          unwound-balanced (F .atoms) x y (st .stack) (suc (st .next)) (suc (st .trials)) (st .extensions) (omega arith)
 
   steps-balanced : (k : ℕ) (st : State) → BalancedAt (F .atoms) x y st → BalancedAt (F .atoms) x y (steps F k st)
   unfolding steps
@@ -68,16 +76,30 @@ worth n st = n * st .extensions + sum (st .stack) + st .next
 
 module _ (F : Family) where
   -- from any search on, whatever its counts, both rise alike
-  pub balance : (k : ℕ) (st : State) → cost (F .atoms) (steps F k st) + worth (F .atoms) st ≡ worth (F .atoms) (steps F k st) + cost (F .atoms) st
+  pub balance :
+      (k : ℕ) (st : State) → cost (F .atoms) (steps F k st) + worth (F .atoms) st ≡
+      worth (F .atoms) (steps F k st) + cost (F .atoms) st
   balance k st = steps-balanced F (worth (F .atoms) st) (cost (F .atoms) st) k st (omega arith)
 
   -- once done
-  pub balance-done : (k : ℕ) (st : State) → isDone (F .atoms) (steps F k st) ≡ true → steps F k st .trials + worth (F .atoms) st ≡ F .atoms * suc (steps F k st .extensions) + 1 + cost (F .atoms) st
+  pub balance-done :
+      (k : ℕ) (st : State) → isDone (F .atoms) (steps F k st) ≡ true → steps F k st .trials + worth (F .atoms) st ≡
+      F .atoms * suc (steps F k st .extensions) + 1 + cost (F .atoms) st
   balance-done k st d =
       let r = done-place (F .atoms) (steps F k st) d in
-      omega (arith, balance k st, mul-suc (F .atoms) (steps F k st .extensions), mul-zero (F .atoms), ap sum (r .0), ap (λ (q : List ℕ). F .atoms * length q) (r .0), r .1)
+      omega (
+        arith,
+        balance k st,
+        mul-suc (F .atoms) (steps F k st .extensions),
+        mul-zero (F .atoms),
+        ap sum (r .0),
+        ap (λ (q : List ℕ). F .atoms * length q) (r .0),
+        r .1,
+      )
 
-  pub fresh-balance : (k : ℕ) → isDone (F .atoms) (steps F k fresh) ≡ true → steps F k fresh .trials ≡ F .atoms * suc (steps F k fresh .extensions)
+  pub fresh-balance :
+      (k : ℕ) → isDone (F .atoms) (steps F k fresh) ≡ true →
+      steps F k fresh .trials ≡ F .atoms * suc (steps F k fresh .extensions)
   unfolding fresh
   fresh-balance k d = omega (arith, balance-done k fresh d, mul-zero (F .atoms))
 
@@ -92,33 +114,43 @@ unfolding without
 without-length (List·Memᴰ·head e) = refl
 without-length (List·Memᴰ·tail m) = ap suc (without-length m)
 
-without-mem : {x y : List ℕ} {ys : List (List ℕ)} (m : List·Memᴰ x ys) → List·Memᴰ y ys → (y ≡ x) ⊎ List·Memᴰ y (without m)
+without-mem :
+    {x y : List ℕ} {ys : List (List ℕ)} (m : List·Memᴰ x ys) → List·Memᴰ y ys → (y ≡ x) ⊎ List·Memᴰ y (without m)
 unfolding without
 without-mem {x} {y} (List·Memᴰ·head {x = z} {xs} e) q = go (List·Memᴰ·cases-cons q)
   where
     go : (y ≡ z) ⊎ List·Memᴰ y xs → (y ≡ x) ⊎ List·Memᴰ y xs
     go (inl f) = inl (f ∙ sym e)
     go (inr f) = inr f
-without-mem {x} {y} (List·Memᴰ·tail {x = z} {xs} m) q = go (List·Memᴰ·cases-cons q) (λ (f : List·Memᴰ y xs). without-mem m f)
+without-mem {x} {y} (List·Memᴰ·tail {x = z} {xs} m) q =
+    go (List·Memᴰ·cases-cons q) (λ (f : List·Memᴰ y xs). without-mem m f)
   where
     down : (y ≡ x) ⊎ List·Memᴰ y (without m) → (y ≡ x) ⊎ List·Memᴰ y (z ∷ without m)
     down (inl f) = inl f
     down (inr f) = inr (List·Memᴰ·tail f)
 
-    go : (y ≡ z) ⊎ List·Memᴰ y xs → (List·Memᴰ y xs → (y ≡ x) ⊎ List·Memᴰ y (without m)) → (y ≡ x) ⊎ List·Memᴰ y (z ∷ without m)
+    go :
+        (y ≡ z) ⊎ List·Memᴰ y xs → (List·Memᴰ y xs → (y ≡ x) ⊎ List·Memᴰ y (without m)) →
+        (y ≡ x) ⊎ List·Memᴰ y (z ∷ without m)
     go (inl f) ih = inr (List·Memᴰ·head f)
     go (inr f) ih = down (ih f)
 
-pub no-longer : (xs ys : List (List ℕ)) → NoRepeats xs → ((x : List ℕ) → List·Memᴰ x xs → List·Memᴰ x ys) → length xs ≤ length ys
+pub no-longer :
+    (xs ys : List (List ℕ)) → NoRepeats xs → ((x : List ℕ) → List·Memᴰ x xs → List·Memᴰ x ys) → length xs ≤ length ys
 no-longer [] ys d h = omega arith
 no-longer (x ∷ xs) ys d h = go (h x (List·Memᴰ·head refl)) (λ zs h′. no-longer xs zs (d .1) h′)
   where
-    other : (m : List·Memᴰ x ys) (y : List ℕ) → List·Memᴰ y xs → (y ≡ x) ⊎ List·Memᴰ y (without m) → List·Memᴰ y (without m)
+    other :
+        (m : List·Memᴰ x ys) (y : List ℕ) → List·Memᴰ y xs → (y ≡ x) ⊎ List·Memᴰ y (without m) → List·Memᴰ y (without m)
     other m y q (inl e) = absurd (d .0 (Memᴰ·cast (sym e) q))
     other m y q (inr r) = r
 
-    go : List·Memᴰ x ys → ((zs : List (List ℕ)) → ((y : List ℕ) → List·Memᴰ y xs → List·Memᴰ y zs) → length xs ≤ length zs) → suc (length xs) ≤ length ys
-    go m ih = omega (arith, without-length m, ih (without m) (λ y q. other m y q (without-mem m (h y (List·Memᴰ·tail q)))))
+    go :
+        List·Memᴰ x ys →
+        ((zs : List (List ℕ)) → ((y : List ℕ) → List·Memᴰ y xs → List·Memᴰ y zs) → length xs ≤ length zs) →
+        suc (length xs) ≤ length ys
+    go m ih =
+        omega (arith, without-length m, ih (without m) (λ y q. other m y q (without-mem m (h y (List·Memᴰ·tail q)))))
 
 -- ---- the beginnings of a word
 
@@ -163,17 +195,36 @@ abbrev allStarts : List (List ℕ) → List (List ℕ)
 allStarts [] = []
 allStarts (m ∷ ms) = starts m ++ allStarts ms
 
-allStarts-length : (n : ℕ) (ms : List (List ℕ)) → ((m : List ℕ) → List·Memᴰ m ms → length m ≤ n) → length (allStarts ms) ≤ (n - 1) * length ms
+allStarts-length :
+    (n : ℕ) (ms : List (List ℕ)) → ((m : List ℕ) → List·Memᴰ m ms → length m ≤ n) →
+    length (allStarts ms) ≤ (n - 1) * length ms
 allStarts-length n [] h = omega arith
-allStarts-length n (m ∷ ms) h = omega (arith, length-append (starts m) (allStarts ms), starts-length n m (h m (List·Memᴰ·head refl)), allStarts-length n ms (λ w q. h w (List·Memᴰ·tail q)), mul-suc (n - 1) (length ms))
+allStarts-length n (m ∷ ms) h =
+    omega (
+      arith,
+      length-append (starts m) (allStarts ms),
+      starts-length n m (h m (List·Memᴰ·head refl)),
+      allStarts-length n ms (λ w q. h w (List·Memᴰ·tail q)),
+      mul-suc (n - 1) (length ms),
+    )
 
-mem-allStarts : {m : List ℕ} {ms : List (List ℕ)} {v : List ℕ} → List·Memᴰ m ms → List·Memᴰ v (starts m) → List·Memᴰ v (allStarts ms)
-mem-allStarts {v = v} (List·Memᴰ·head {x} {xs} e) q = Memᴰ·append-left (allStarts xs) (subst (λ (u : List ℕ). List·Memᴰ v (starts u)) e q)
+mem-allStarts :
+    {m : List ℕ} {ms : List (List ℕ)} {v : List ℕ} → List·Memᴰ m ms → List·Memᴰ v (starts m) →
+    List·Memᴰ v (allStarts ms)
+mem-allStarts {v = v} (List·Memᴰ·head {x} {xs} e) q =
+    Memᴰ·append-left (allStarts xs) (subst (λ (u : List ℕ). List·Memᴰ v (starts u)) e q)
 mem-allStarts (List·Memᴰ·tail {x} {xs} m) q = Memᴰ·append-right (starts x) (mem-allStarts m q)
 
 pub openWords-bound : (F : Family) → Lawful F → length (openWords F) ≤ (F .atoms - 1) * length (members F)
 openWords-bound F L =
-    omega (arith, no-longer (openWords F) (allStarts (members F)) (openWords-once F) (λ q h. covered q (openWords-sound F q h)), allStarts-length (F .atoms) (members F) (λ m h. L .short m (members-sound F m h)))
+    omega (
+      arith,
+      no-longer (openWords F) (allStarts (members F)) (openWords-once F)
+          (λ q h. covered q (openWords-sound F q h)),
+      allStarts-length (F .atoms) (members F) (λ m h. L .short m (members-sound F m h)),
+    )
   where
-    covered : (q : List ℕ) → (isEmpty q ≡ false) × (m : List ℕ) × (F .member m ≡ true) × (begins q m ≡ true) → List·Memᴰ q (allStarts (members F))
+    covered :
+        (q : List ℕ) → (isEmpty q ≡ false) × (m : List ℕ) × (F .member m ≡ true) × (begins q m ≡ true) →
+        List·Memᴰ q (allStarts (members F))
     covered q r = mem-allStarts (members-complete F L (r .1) (r .2)) (begins-starts q (r .1) (r .0) (r .3))

@@ -20,14 +20,18 @@ use Rattle.enumeration.proofs.Open.{begins-open, begins-opened, stack-s
 -- ---- what the definitions say
 
 -- w begins with p and goes on with an atom that is at least c
-pub goesOn-means : (p : List ℕ) (c : ℕ) (w : List ℕ) → goesOn p c w ≡ true → (b : ℕ) × (v : List ℕ) × (w ≡ p ++ b ∷ v) × (c ≤ b)
+pub goesOn-means :
+    (p : List ℕ) (c : ℕ) (w : List ℕ) → goesOn p c w ≡ true → (b : ℕ) × (v : List ℕ) × (w ≡ p ++ b ∷ v) × (c ≤ b)
 unfolding goesOn
 goesOn-means [] c [] e = absurd (apart (sym e))
 goesOn-means [] c (b ∷ w) e = (b, w, refl, leb-true c b e)
 goesOn-means (a ∷ p) c [] e = absurd (apart (sym e))
 goesOn-means (a ∷ p) c (b ∷ w) e = go (and-both (eqb a b) (goesOn p c w) e) (goesOn-means p c w)
   where
-    go : (eqb a b ≡ true) × (goesOn p c w ≡ true) → (goesOn p c w ≡ true → (d : ℕ) × (v : List ℕ) × (w ≡ p ++ d ∷ v) × (c ≤ d)) → (d : ℕ) × (v : List ℕ) × (b ∷ w ≡ a ∷ p ++ d ∷ v) × (c ≤ d)
+    go :
+        (eqb a b ≡ true) × (goesOn p c w ≡ true) →
+        (goesOn p c w ≡ true → (d : ℕ) × (v : List ℕ) × (w ≡ p ++ d ∷ v) × (c ≤ d)) →
+        (d : ℕ) × (v : List ℕ) × (b ∷ w ≡ a ∷ p ++ d ∷ v) × (c ≤ d)
     go s ih =
         let r = ih (s .1) in
         let q : a ≡ b = eqb-true a b (s .0) in
@@ -43,11 +47,15 @@ pub past-means : (p w : List ℕ) → past p w ≡ true → (v : List ℕ) → e
 unfolding past
 past-means [] w e v = absurd (apart (sym e))
 past-means (a ∷ p) [] e v = absurd (apart (sym e))
-past-means (a ∷ p) (b ∷ w) e v = go (or-either (ltb a b) (eqb a b && past p w) e) (λ (q : past p w ≡ true). past-means p w q v)
+past-means (a ∷ p) (b ∷ w) e v =
+    go (or-either (ltb a b) (eqb a b && past p w) e) (λ (q : past p w ≡ true). past-means p w q v)
   where
-    go : (ltb a b ≡ true) ⊎ ((eqb a b && past p w) ≡ true) → (past p w ≡ true → earlier (p ++ v) w ≡ true) → earlier (a ∷ (p ++ v)) (b ∷ w) ≡ true
+    go :
+        (ltb a b ≡ true) ⊎ ((eqb a b && past p w) ≡ true) → (past p w ≡ true → earlier (p ++ v) w ≡ true) →
+        earlier (a ∷ (p ++ v)) (b ∷ w) ≡ true
     go (inl q) ih = earlier-less a b (p ++ v) w (ltb-true a b q)
-    go (inr q) ih = let r = and-both (eqb a b) (past p w) q in earlier-same a b (p ++ v) w (eqb-true a b (r .0)) (ih (r .1))
+    go (inr q) ih =
+        let r = and-both (eqb a b) (past p w) q in earlier-same a b (p ++ v) w (eqb-true a b (r .0)) (ih (r .1))
 
 pub means-past : (p w : List ℕ) → ((v : List ℕ) → earlier (p ++ v) w ≡ true) → past p w ≡ true
 unfolding past earlier
@@ -63,14 +71,19 @@ means-past (a ∷ p) (b ∷ w) h = go (compared a b) (means-past p w)
     never l (inl q) = omega arith
     never l (inr q) = omega arith
 
-    go : Compared a b → (((v : List ℕ) → earlier (p ++ v) w ≡ true) → past p w ≡ true) → (ltb a b || eqb a b && past p w) ≡ true
+    go :
+        Compared a b → (((v : List ℕ) → earlier (p ++ v) w ≡ true) → past p w ≡ true) →
+        (ltb a b || eqb a b && past p w) ≡ true
     go (less q) ih = rw (lt-ltb a b q)
-    go (same q) ih = or-right (ltb a b) (eqb a b && past p w) (rw (eq-eqb a b q) (ih (λ v. tail-of q v (earlier-cases a b (p ++ v) w (h v)))))
+    go (same q) ih =
+        or-right (ltb a b) (eqb a b && past p w)
+        (rw (eq-eqb a b q) (ih (λ v. tail-of q v (earlier-cases a b (p ++ v) w (h v)))))
     go (more q) ih = absurd (never q (earlier-cases a b (p ++ []) w (h [])))
 
 -- ---- what follows a place
 
-follows-cons : (a : ℕ) (p : List ℕ) (c b : ℕ) (w : List ℕ) → follows (a ∷ p) c (b ∷ w) ≡ (ltb a b || eqb a b && follows p c w)
+follows-cons :
+    (a : ℕ) (p : List ℕ) (c b : ℕ) (w : List ℕ) → follows (a ∷ p) c (b ∷ w) ≡ (ltb a b || eqb a b && follows p c w)
 unfolding follows goesOn past
 follows-cons a p c b w = go (ltb a b) (eqb a b) (goesOn p c w) (past p w)
   where
@@ -144,12 +157,15 @@ upto-split n c low high =
 
 level-split : (n : ℕ) (p : List ℕ) (c : ℕ) → 1 ≤ c → c ≤ suc n → level always n p 1 ≡ lower n p c ++ level always n p c
 unfolding level lower
-level-split n p c low high = ap (joined (turn always n p)) (upto-one n ∙ upto-split n c low high) ∙ joined-append (turn always n p) (from 1 (c - 1)) (upto n c)
+level-split n p c low high =
+    ap (joined (turn always n p)) (upto-one n ∙ upto-split n c low high) ∙
+    joined-append (turn always n p) (from 1 (c - 1)) (upto n c)
 
 regroup : (A B C D E : List (List ℕ)) (w : List ℕ) → A ++ (B ++ (w ∷ C ++ D) ++ E) ≡ A ++ B ++ w ∷ [] ++ (C ++ (D ++ E))
 regroup A B C D E w = simp append-assoc
 
-turn-level : (n : ℕ) (p : List ℕ) (a : ℕ) → suc (length p) < n → turn always n p a ≡ reverse (a ∷ p) ∷ level always n (a ∷ p) 1
+turn-level :
+    (n : ℕ) (p : List ℕ) (a : ℕ) → suc (length p) < n → turn always n p a ≡ reverse (a ∷ p) ∷ level always n (a ∷ p) 1
 unfolding turn
 turn-level n p a l =
     let d : n - suc (length p) ≡ suc (n - suc (suc (length p))) = omega arith in
@@ -157,7 +173,9 @@ turn-level n p a l =
 
 module _ (F : Family) (L : Lawful F) where
   -- all words are those up to p, those below it and those after them
-  words-cut : (p : List ℕ) → isOpen F (reverse p) ≡ true → words (F .atoms) (F .atoms) ≡ before (F .atoms) p ++ (level always (F .atoms) p 1 ++ later always (F .atoms) p)
+  words-cut :
+      (p : List ℕ) → isOpen F (reverse p) ≡ true →
+      words (F .atoms) (F .atoms) ≡ before (F .atoms) p ++ (level always (F .atoms) p 1 ++ later always (F .atoms) p)
   unfolding before later
   words-cut [] o = words-root (F .atoms) ∙ rw (append-nil (level always (F .atoms) [] 1))
   words-cut (a ∷ p) o =
@@ -166,31 +184,41 @@ module _ (F : Family) (L : Lawful F) where
       words-cut p (stack-pop F L p a o)
       ∙ ap (λ (l : List (List ℕ)). before (F .atoms) p ++ (l ++ later always (F .atoms) p))
       (level-split (F .atoms) p a (top .0) h ∙ ap (λ (l : List (List ℕ)). lower (F .atoms) p a ++ l)
-      (level-cons always (F .atoms) p a (top .1) ∙ ap (λ (l : List (List ℕ)). l ++ level always (F .atoms) p (suc a)) (turn-level (F .atoms) p a (stack-short F L p a o))))
-      ∙ regroup (before (F .atoms) p) (lower (F .atoms) p a) (level always (F .atoms) (a ∷ p) 1) (level always (F .atoms) p (suc a)) (later always (F .atoms) p) (reverse (a ∷ p))
+      (level-cons always (F .atoms) p a (top .1) ∙
+      ap (λ (l : List (List ℕ)). l ++ level always (F .atoms) p (suc a))
+      (turn-level (F .atoms) p a (stack-short F L p a o))))
+      ∙ regroup (before (F .atoms) p) (lower (F .atoms) p a) (level always (F .atoms) (a ∷ p) 1)
+      (level always (F .atoms) p (suc a)) (later always (F .atoms) p) (reverse (a ∷ p))
 
 -- ---- on each side
 
 -- the words of one level: p, an atom and more
-level-word : (n : ℕ) (p l : List ℕ) {w : List ℕ} → List·Memᴰ w (joined (turn always n p) l) → (b : ℕ) × List·Memᴰ b l × (v : List ℕ) × (w ≡ reverseAux p (b ∷ v))
+level-word :
+    (n : ℕ) (p l : List ℕ) {w : List ℕ} → List·Memᴰ w (joined (turn always n p) l) →
+    (b : ℕ) × List·Memᴰ b l × (v : List ℕ) × (w ≡ reverseAux p (b ∷ v))
 level-word n p l m =
     let r = joined-mem (turn always n p) l m in
     let s = turn-mem always n p (r .0) (r .2) in
     (r .0, r .1, s .0, s .1)
 
-lower-word : (n : ℕ) (p : List ℕ) (c : ℕ) {w : List ℕ} → List·Memᴰ w (lower n p c) → (b : ℕ) × (v : List ℕ) × (w ≡ reverseAux p (b ∷ v)) × (b < c)
+lower-word :
+    (n : ℕ) (p : List ℕ) (c : ℕ) {w : List ℕ} → List·Memᴰ w (lower n p c) →
+    (b : ℕ) × (v : List ℕ) × (w ≡ reverseAux p (b ∷ v)) × (b < c)
 unfolding lower
 lower-word n p c m =
     let r = level-word n p (from 1 (c - 1)) m in
     (r .0, r .2, r .3, omega (arith, from-mem 1 (c - 1) (r .1)))
 
-level-higher : (n : ℕ) (p : List ℕ) (c : ℕ) {w : List ℕ} → List·Memᴰ w (level always n p c) → (b : ℕ) × (v : List ℕ) × (w ≡ reverseAux p (b ∷ v)) × (c ≤ b)
+level-higher :
+    (n : ℕ) (p : List ℕ) (c : ℕ) {w : List ℕ} → List·Memᴰ w (level always n p c) →
+    (b : ℕ) × (v : List ℕ) × (w ≡ reverseAux p (b ∷ v)) × (c ≤ b)
 unfolding level upto
 level-higher n p c m =
     let r = level-word n p (from c (suc n - c)) m in
     (r .0, r .2, r .3, from-mem c (suc n - c) (r .1) .0)
 
-before-not : (n : ℕ) (p q : List ℕ) (c : ℕ) (w : List ℕ) → List·Memᴰ w (before n p) → follows (reverseAux p q) c w ≡ false
+before-not :
+    (n : ℕ) (p q : List ℕ) (c : ℕ) (w : List ℕ) → List·Memᴰ w (before n p) → follows (reverseAux p q) c w ≡ false
 unfolding before
 before-not n [] q c w m = go (List·Memᴰ·cases-cons m)
   where
@@ -203,14 +231,21 @@ before-not n (a ∷ p) q c w m = go (List·Memᴰ·append-cases (before n p ++ l
     itself (inl e) = rw e (follows-on p (a ∷ q) c (a ∷ []) ∙ follows-same a q c [] ∙ follows-end q c)
     itself (inr x) = absurd (List·Memᴰ·not-nil x)
 
-    under-it : (b : ℕ) × (v : List ℕ) × (w ≡ reverseAux p (b ∷ v)) × (b < a) → follows (reverseAux p (a ∷ q)) c w ≡ false
+    under-it :
+        (b : ℕ) × (v : List ℕ) × (w ≡ reverseAux p (b ∷ v)) × (b < a) → follows (reverseAux p (a ∷ q)) c w ≡ false
     under-it r = rw (r .2) (follows-on p (a ∷ q) c (r .0 ∷ r .1) ∙ follows-lower a q c (r .0) (r .1) (r .3))
 
-    two : List·Memᴰ w (before n p) ⊎ List·Memᴰ w (lower n p a) → (List·Memᴰ w (before n p) → follows (reverseAux p (a ∷ q)) c w ≡ false) → follows (reverseAux p (a ∷ q)) c w ≡ false
+    two :
+        List·Memᴰ w (before n p) ⊎ List·Memᴰ w (lower n p a) →
+        (List·Memᴰ w (before n p) → follows (reverseAux p (a ∷ q)) c w ≡ false) →
+        follows (reverseAux p (a ∷ q)) c w ≡ false
     two (inl x) ih = ih x
     two (inr x) ih = under-it (lower-word n p a x)
 
-    go : List·Memᴰ w (before n p ++ lower n p a) ⊎ List·Memᴰ w (reverse (a ∷ p) ∷ []) → (List·Memᴰ w (before n p) → follows (reverseAux p (a ∷ q)) c w ≡ false) → follows (reverseAux p (a ∷ q)) c w ≡ false
+    go :
+        List·Memᴰ w (before n p ++ lower n p a) ⊎ List·Memᴰ w (reverse (a ∷ p) ∷ []) →
+        (List·Memᴰ w (before n p) → follows (reverseAux p (a ∷ q)) c w ≡ false) →
+        follows (reverseAux p (a ∷ q)) c w ≡ false
     go (inl x) ih = two (List·Memᴰ·append-cases (before n p) x) ih
     go (inr x) ih = itself (List·Memᴰ·cases-cons x)
 
@@ -220,42 +255,57 @@ lower-not n p c w m = go (lower-word n p c m)
     go : (b : ℕ) × (v : List ℕ) × (w ≡ reverseAux p (b ∷ v)) × (b < c) → follows (reverse p) c w ≡ false
     go r = rw (r .2) (follows-on p [] c (r .0 ∷ r .1) ∙ follows-before c (r .0) (r .1) (r .3))
 
-level-all : (n : ℕ) (p : List ℕ) (c : ℕ) (w : List ℕ) → List·Memᴰ w (level always n p c) → follows (reverse p) c w ≡ true
+level-all :
+    (n : ℕ) (p : List ℕ) (c : ℕ) (w : List ℕ) → List·Memᴰ w (level always n p c) → follows (reverse p) c w ≡ true
 level-all n p c w m = go (level-higher n p c m)
   where
     go : (b : ℕ) × (v : List ℕ) × (w ≡ reverseAux p (b ∷ v)) × (c ≤ b) → follows (reverse p) c w ≡ true
     go r = rw (r .2) (follows-on p [] c (r .0 ∷ r .1) ∙ follows-next c (r .0) (r .1) (r .3))
 
-later-all : (n : ℕ) (p q : List ℕ) (c : ℕ) (w : List ℕ) → List·Memᴰ w (later always n p) → follows (reverseAux p q) c w ≡ true
+later-all :
+    (n : ℕ) (p q : List ℕ) (c : ℕ) (w : List ℕ) → List·Memᴰ w (later always n p) → follows (reverseAux p q) c w ≡ true
 unfolding later
 later-all n [] q c w m = absurd (List·Memᴰ·not-nil m)
 later-all n (a ∷ p) q c w m = go (List·Memᴰ·append-cases (level always n p (suc a)) m) (later-all n p (a ∷ q) c w)
   where
-    over-it : (b : ℕ) × (v : List ℕ) × (w ≡ reverseAux p (b ∷ v)) × (suc a ≤ b) → follows (reverseAux p (a ∷ q)) c w ≡ true
+    over-it :
+        (b : ℕ) × (v : List ℕ) × (w ≡ reverseAux p (b ∷ v)) × (suc a ≤ b) → follows (reverseAux p (a ∷ q)) c w ≡ true
     over-it r = rw (r .2) (follows-on p (a ∷ q) c (r .0 ∷ r .1) ∙ follows-higher a q c (r .0) (r .1) (r .3))
 
-    go : List·Memᴰ w (level always n p (suc a)) ⊎ List·Memᴰ w (later always n p) → (List·Memᴰ w (later always n p) → follows (reverseAux p (a ∷ q)) c w ≡ true) → follows (reverseAux p (a ∷ q)) c w ≡ true
+    go :
+        List·Memᴰ w (level always n p (suc a)) ⊎ List·Memᴰ w (later always n p) →
+        (List·Memᴰ w (later always n p) → follows (reverseAux p (a ∷ q)) c w ≡ true) →
+        follows (reverseAux p (a ∷ q)) c w ≡ true
     go (inl x) ih = over-it (level-higher n p (suc a) x)
     go (inr x) ih = ih x
 
 -- ---- together
 
-cut-kept : (t : List ℕ → Bool) (A B C D : List (List ℕ)) → keep t A ≡ [] → keep t B ≡ [] → keep t C ≡ C → keep t D ≡ D → keep t (A ++ (B ++ C ++ D)) ≡ C ++ D
-cut-kept t A B C D a b c d = keep-append t A (B ++ C ++ D) ∙ rw a (keep-append t (B ++ C) D ∙ rw (keep-append t B C) (cc))
+cut-kept :
+    (t : List ℕ → Bool) (A B C D : List (List ℕ)) → keep t A ≡ [] → keep t B ≡ [] → keep t C ≡ C → keep t D ≡ D →
+    keep t (A ++ (B ++ C ++ D)) ≡ C ++ D
+cut-kept t A B C D a b c d =
+    keep-append t A (B ++ C ++ D) ∙ rw a (keep-append t (B ++ C) D ∙ rw (keep-append t B C) (cc))
 
 module _ (F : Family) (L : Lawful F) where
-  words-follow : (p : List ℕ) (c : ℕ) → isOpen F (reverse p) ≡ true → 1 ≤ c → c ≤ suc (F .atoms) → keep (follows (reverse p) c) (words (F .atoms) (F .atoms)) ≡ rest always (F .atoms) p c
+  words-follow :
+      (p : List ℕ) (c : ℕ) → isOpen F (reverse p) ≡ true → 1 ≤ c → c ≤ suc (F .atoms) →
+      keep (follows (reverse p) c) (words (F .atoms) (F .atoms)) ≡ rest always (F .atoms) p c
   unfolding rest
   words-follow p c o low high =
-      ap (keep (follows (reverse p) c)) (words-cut F L p o ∙ ap (λ (l : List (List ℕ)). before (F .atoms) p ++ (l ++ later always (F .atoms) p)) (level-split (F .atoms) p c low high))
-      ∙ cut-kept (follows (reverse p) c) (before (F .atoms) p) (lower (F .atoms) p c) (level always (F .atoms) p c) (later always (F .atoms) p)
+      ap (keep (follows (reverse p) c))
+      (words-cut F L p o ∙ ap (λ (l : List (List ℕ)). before (F .atoms) p ++ (l ++ later always (F .atoms) p))
+      (level-split (F .atoms) p c low high))
+      ∙ cut-kept (follows (reverse p) c) (before (F .atoms) p) (lower (F .atoms) p c) (level always (F .atoms) p c)
+      (later always (F .atoms) p)
       (keep-none (follows (reverse p) c) (before (F .atoms) p) (before-not (F .atoms) p [] c))
       (keep-none (follows (reverse p) c) (lower (F .atoms) p c) (lower-not (F .atoms) p c))
       (keep-all (follows (reverse p) c) (level always (F .atoms) p c) (level-all (F .atoms) p c))
       (keep-all (follows (reverse p) c) (later always (F .atoms) p) (later-all (F .atoms) p [] c))
 
   kept-follow :
-      (t : List ℕ → Bool) → ((q w : List ℕ) → t w ≡ true → begins q w ≡ true → isOpen F q ≡ true) → (p : List ℕ) (c : ℕ) → isOpen F (reverse p) ≡ true → 1 ≤ c → c ≤ suc (F .atoms) →
+      (t : List ℕ → Bool) → ((q w : List ℕ) → t w ≡ true → begins q w ≡ true → isOpen F q ≡ true) →
+      (p : List ℕ) (c : ℕ) → isOpen F (reverse p) ≡ true → 1 ≤ c → c ≤ suc (F .atoms) →
       keep t (rest (isOpen F) (F .atoms) p c) ≡ keep (follows (reverse p) c) (keep t (words (F .atoms) (F .atoms)))
   kept-follow t shown p c o low high =
       keep-rest (isOpen F) t shown (F .atoms) p c
@@ -263,11 +313,15 @@ module _ (F : Family) (L : Lawful F) where
       ∙ keep-swap t (follows (reverse p) c) (words (F .atoms) (F .atoms))
 
   -- the members of the stream from a place on are the members that follow it
-  pub members-follow : (p : List ℕ) (c : ℕ) → isOpen F (reverse p) ≡ true → 1 ≤ c → c ≤ suc (F .atoms) → keep (F .member) (rest (isOpen F) (F .atoms) p c) ≡ keep (follows (reverse p) c) (members F)
+  pub members-follow :
+      (p : List ℕ) (c : ℕ) → isOpen F (reverse p) ≡ true → 1 ≤ c → c ≤ suc (F .atoms) →
+      keep (F .member) (rest (isOpen F) (F .atoms) p c) ≡ keep (follows (reverse p) c) (members F)
   unfolding members
   members-follow = kept-follow (F .member) (λ q w e b. begins-open F L q w e b)
 
   -- and its open words are the open words that follow it
-  pub opens-follow : (p : List ℕ) (c : ℕ) → isOpen F (reverse p) ≡ true → 1 ≤ c → c ≤ suc (F .atoms) → keep (opens F) (rest (isOpen F) (F .atoms) p c) ≡ keep (follows (reverse p) c) (openWords F)
+  pub opens-follow :
+      (p : List ℕ) (c : ℕ) → isOpen F (reverse p) ≡ true → 1 ≤ c → c ≤ suc (F .atoms) →
+      keep (opens F) (rest (isOpen F) (F .atoms) p c) ≡ keep (follows (reverse p) c) (openWords F)
   unfolding openWords
   opens-follow = kept-follow (opens F) (λ q w e b. begins-opened F L q w e b)

@@ -1,4 +1,5 @@
--- Members are exactly the words that are listed, and open words are the beginnings of members: shorter than n, in range, none a member.
+-- Members are exactly the words that are listed, and open words are
+-- the beginnings of members: shorter than n, in range, none a member.
 -- From the two laws of a family.
 use Prim.Native.Nat.{ℕ, zero, suc, _-_, _≤_, _<_}
 use native.Mathlib.Omega.{arith}
@@ -60,10 +61,14 @@ module _ (F : Family) where
 
   pub openWords-once : NoRepeats (openWords F)
   unfolding openWords
-  openWords-once = ascending-once (keep (opens F) (words (F .atoms) (F .atoms))) (ascending-keep (opens F) (words (F .atoms) (F .atoms)) (ascending-words (F .atoms) (F .atoms)))
+  openWords-once =
+      ascending-once (keep (opens F) (words (F .atoms) (F .atoms)))
+      (ascending-keep (opens F) (words (F .atoms) (F .atoms)) (ascending-words (F .atoms) (F .atoms)))
 
   -- an open word that is listed is not empty and begins a member
-  pub openWords-sound : (q : List ℕ) → List·Memᴰ q (openWords F) → (isEmpty q ≡ false) × (m : List ℕ) × (F .member m ≡ true) × (begins q m ≡ true)
+  pub openWords-sound :
+      (q : List ℕ) → List·Memᴰ q (openWords F) → (isEmpty q ≡ false) × (m : List ℕ) × (F .member m ≡ true) ×
+      (begins q m ≡ true)
   unfolding openWords opens
   openWords-sound q h =
       let o = keep-mem (opens F) (words (F .atoms) (F .atoms)) h .1 in
@@ -76,7 +81,8 @@ module _ (F : Family) (L : Lawful F) where
 
   pub members-complete : (w : List ℕ) → F .member w ≡ true → List·Memᴰ w (members F)
   unfolding members
-  members-complete w e = mem-keep (F .member) (words-complete (F .atoms) (F .atoms) w (member-range w e) (L .short w e)) e
+  members-complete w e =
+      mem-keep (F .member) (words-complete (F .atoms) (F .atoms) w (member-range w e) (L .short w e)) e
 
   -- a beginning of a member is open
   pub begins-open : (q m : List ℕ) → F .member m ≡ true → begins q m ≡ true → isOpen F q ≡ true
@@ -95,17 +101,20 @@ module _ (F : Family) (L : Lawful F) where
 
   -- a member is not open
   pub member-shut : (w : List ℕ) → F .member w ≡ true → opens F w ≡ false
-  member-shut w e = not-true-false (opens F w) (λ o. let r = opens-below F w o in L .prefixFree w (r .0) e (r .1) (r .2))
+  member-shut w e =
+      not-true-false (opens F w) (λ o. let r = opens-below F w o in L .prefixFree w (r .0) e (r .1) (r .2))
 
   -- a beginning of an open word is open
   pub begins-opened : (q w : List ℕ) → opens F w ≡ true → begins q w ≡ true → isOpen F q ≡ true
-  begins-opened q w e b = let r = opens-below F w e in begins-open q (r .0) (r .1) (begins-transitive q w (r .0) b (r .2))
+  begins-opened q w e b =
+      let r = opens-below F w e in begins-open q (r .0) (r .1) (begins-transitive q w (r .0) b (r .2))
 
   pub stack-short : (p : List ℕ) (a : ℕ) → isOpen F (reverse (a ∷ p)) ≡ true → suc (length p) < F .atoms
   stack-short p a e = rw (length-reverse (a ∷ p)) at (opens-short (reverse (a ∷ p)) (tried-open F p a ∙ e))
 
   pub stack-top : (p : List ℕ) (a : ℕ) → isOpen F (reverse (a ∷ p)) ≡ true → (1 ≤ a) × (a ≤ F .atoms)
-  stack-top p a e = let r = range-on (F .atoms) p (a ∷ []) (opens-range (reverse (a ∷ p)) (tried-open F p a ∙ e)) in (r .0, r .1)
+  stack-top p a e =
+      let r = range-on (F .atoms) p (a ∷ []) (opens-range (reverse (a ∷ p)) (tried-open F p a ∙ e)) in (r .0, r .1)
 
   pub stack-pop : (p : List ℕ) (a : ℕ) → isOpen F (reverse (a ∷ p)) ≡ true → isOpen F (reverse p) ≡ true
   unfolding begins
@@ -116,13 +125,15 @@ module _ (F : Family) (L : Lawful F) where
   stack-most [] o = omega arith
   stack-most (a ∷ p) o = omega (arith, stack-short p a o)
 
-  pub stack-range : (p : List ℕ) → isOpen F (reverse p) ≡ true → (i : ℕ) → i < length p → (1 ≤ getD p i 0) × (getD p i 0 ≤ F .atoms)
+  pub stack-range :
+      (p : List ℕ) → isOpen F (reverse p) ≡ true → (i : ℕ) → i < length p → (1 ≤ getD p i 0) × (getD p i 0 ≤ F .atoms)
   stack-range [] o i h = absurd (omega arith)
   stack-range (a ∷ p) o zero h = stack-top p a o
   stack-range (a ∷ p) o (suc i) h = stack-range p (stack-pop p a o) i (omega arith)
 
   -- the open words are the non-empty proper beginnings of members
-  pub openWords-complete : (q m : List ℕ) → isEmpty q ≡ false → F .member m ≡ true → begins q m ≡ true → List·Memᴰ q (openWords F)
+  pub openWords-complete :
+      (q m : List ℕ) → isEmpty q ≡ false → F .member m ≡ true → begins q m ≡ true → List·Memᴰ q (openWords F)
   unfolding openWords
   openWords-complete q m s e b =
       let o : opens F q ≡ true = begins-opens q m s e b in
@@ -140,8 +151,12 @@ module _ (F : Family) (L : Lawful F) where
 
   pub members-stream : keep (F .member) (rest (isOpen F) (F .atoms) [] 1) ≡ members F
   unfolding members
-  members-stream = keep-rest (isOpen F) (F .member) (λ q w e b. begins-open q w e b) (F .atoms) [] 1 ∙ all-kept (F .member) (F .atoms) nil-member
+  members-stream =
+      keep-rest (isOpen F) (F .member) (λ q w e b. begins-open q w e b) (F .atoms) [] 1 ∙
+      all-kept (F .member) (F .atoms) nil-member
 
   pub opens-stream : keep (opens F) (rest (isOpen F) (F .atoms) [] 1) ≡ openWords F
   unfolding openWords
-  opens-stream = keep-rest (isOpen F) (opens F) (λ q w e b. begins-opened q w e b) (F .atoms) [] 1 ∙ all-kept (opens F) (F .atoms) nil-opens
+  opens-stream =
+      keep-rest (isOpen F) (opens F) (λ q w e b. begins-opened q w e b) (F .atoms) [] 1 ∙
+      all-kept (opens F) (F .atoms) nil-opens

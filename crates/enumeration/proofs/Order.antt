@@ -15,7 +15,8 @@ use Rattle.enumeration.proofs.Basics.{starting, apart, and-both, or-eit
 
 -- ---- the order of words
 
-pub earlier-cases : (a b : ℕ) (v w : List ℕ) → earlier (a ∷ v) (b ∷ w) ≡ true → (a < b) ⊎ ((a ≡ b) × (earlier v w ≡ true))
+pub earlier-cases :
+    (a b : ℕ) (v w : List ℕ) → earlier (a ∷ v) (b ∷ w) ≡ true → (a < b) ⊎ ((a ≡ b) × (earlier v w ≡ true))
 unfolding earlier
 earlier-cases a b v w e = go (or-either (ltb a b) (eqb a b && earlier v w) e)
   where
@@ -50,7 +51,9 @@ transitive (a ∷ u) [] w e f = absurd (apart (sym e))
 transitive (a ∷ u) (b ∷ v) [] e f = absurd (apart (sym f))
 transitive (a ∷ u) (b ∷ v) (c ∷ w) e f = go (transitive u v w) (earlier-cases a b u v e) (earlier-cases b c v w f)
   where
-    go : (earlier u v ≡ true → earlier v w ≡ true → earlier u w ≡ true) → (a < b) ⊎ ((a ≡ b) × (earlier u v ≡ true)) → (b < c) ⊎ ((b ≡ c) × (earlier v w ≡ true)) → earlier (a ∷ u) (c ∷ w) ≡ true
+    go :
+        (earlier u v ≡ true → earlier v w ≡ true → earlier u w ≡ true) → (a < b) ⊎ ((a ≡ b) × (earlier u v ≡ true)) →
+        (b < c) ⊎ ((b ≡ c) × (earlier v w ≡ true)) → earlier (a ∷ u) (c ∷ w) ≡ true
     go ih (inl p) (inl q) = earlier-less a c u w (omega arith)
     go ih (inl p) (inr q) = earlier-less a c u w (omega arith)
     go ih (inr p) (inl q) = earlier-less a c u w (omega arith)
@@ -64,36 +67,50 @@ total [] (b ∷ w) d = inl refl
 total (a ∷ v) [] d = inr refl
 total (a ∷ v) (b ∷ w) d = go (compared a b) (total v w)
   where
-    both : a ≡ b → (earlier v w ≡ true) ⊎ (earlier w v ≡ true) → (earlier (a ∷ v) (b ∷ w) ≡ true) ⊎ (earlier (b ∷ w) (a ∷ v) ≡ true)
+    both :
+        a ≡ b → (earlier v w ≡ true) ⊎ (earlier w v ≡ true) → (earlier (a ∷ v) (b ∷ w) ≡ true) ⊎
+        (earlier (b ∷ w) (a ∷ v) ≡ true)
     both q (inl e) = inl (earlier-same a b v w q e)
     both q (inr e) = inr (earlier-same b a w v (sym q) e)
 
-    go : Compared a b → ((v ≡ w → ⊥) → (earlier v w ≡ true) ⊎ (earlier w v ≡ true)) → (earlier (a ∷ v) (b ∷ w) ≡ true) ⊎ (earlier (b ∷ w) (a ∷ v) ≡ true)
+    go :
+        Compared a b → ((v ≡ w → ⊥) → (earlier v w ≡ true) ⊎ (earlier w v ≡ true)) → (earlier (a ∷ v) (b ∷ w) ≡ true) ⊎
+        (earlier (b ∷ w) (a ∷ v) ≡ true)
     go (less q) ih = inl (earlier-less a b v w q)
     go (same q) ih = both q (ih (λ e. d (cc)))
     go (more q) ih = inr (earlier-less b a w v q)
 
 -- ---- ascending lists
 
-ascending-append : (xs ys : List (List ℕ)) → Ascending xs → Ascending ys → ((x y : List ℕ) → List·Memᴰ x xs → List·Memᴰ y ys → earlier x y ≡ true) → Ascending (xs ++ ys)
+ascending-append :
+    (xs ys : List (List ℕ)) → Ascending xs → Ascending ys →
+    ((x y : List ℕ) → List·Memᴰ x xs → List·Memᴰ y ys → earlier x y ≡ true) → Ascending (xs ++ ys)
 ascending-append [] ys p q h = q
-ascending-append (x ∷ xs) ys p q h = (λ v m. go v (List·Memᴰ·append-cases xs m), ascending-append xs ys (p .1) q (λ u v m m′. h u v (List·Memᴰ·tail m) m′))
+ascending-append (x ∷ xs) ys p q h = (
+  λ v m. go v (List·Memᴰ·append-cases xs m),
+  ascending-append xs ys (p .1) q (λ u v m m′. h u v (List·Memᴰ·tail m) m′),
+)
   where
     go : (v : List ℕ) → List·Memᴰ v xs ⊎ List·Memᴰ v ys → earlier x v ≡ true
     go v (inl m) = p .0 v m
     go v (inr m) = h x v (List·Memᴰ·head refl) m
 
-pub map-mem : (a : ℕ) (ws : List (List ℕ)) {v : List ℕ} → List·Memᴰ v (map (λ (w : List ℕ). a ∷ w) ws) → (u : List ℕ) × List·Memᴰ u ws × (v ≡ a ∷ u)
+pub map-mem :
+    (a : ℕ) (ws : List (List ℕ)) {v : List ℕ} → List·Memᴰ v (map (λ (w : List ℕ). a ∷ w) ws) →
+    (u : List ℕ) × List·Memᴰ u ws × (v ≡ a ∷ u)
 map-mem a [] m = absurd (List·Memᴰ·not-nil m)
-map-mem a (w ∷ ws) {v} m = go (λ (m′ : List·Memᴰ v (map (λ (w : List ℕ). a ∷ w) ws)). map-mem a ws m′) (List·Memᴰ·cases-cons m)
+map-mem a (w ∷ ws) {v} m =
+    go (λ (m′ : List·Memᴰ v (map (λ (w : List ℕ). a ∷ w) ws)). map-mem a ws m′) (List·Memᴰ·cases-cons m)
   where
     go :
-        (List·Memᴰ v (map (λ (w : List ℕ). a ∷ w) ws) → (u : List ℕ) × List·Memᴰ u ws × (v ≡ a ∷ u)) → (v ≡ a ∷ w) ⊎ List·Memᴰ v (map (λ (w : List ℕ). a ∷ w) ws) →
+        (List·Memᴰ v (map (λ (w : List ℕ). a ∷ w) ws) → (u : List ℕ) × List·Memᴰ u ws × (v ≡ a ∷ u)) →
+        (v ≡ a ∷ w) ⊎ List·Memᴰ v (map (λ (w : List ℕ). a ∷ w) ws) →
         (u : List ℕ) × List·Memᴰ u (w ∷ ws) × (v ≡ a ∷ u)
     go ih (inl q) = (w, List·Memᴰ·head refl, q)
     go ih (inr q) = let r = ih q in (r .0, List·Memᴰ·tail (r .1), r .2)
 
-pub mem-map : (a : ℕ) {ws : List (List ℕ)} {u : List ℕ} → List·Memᴰ u ws → List·Memᴰ (a ∷ u) (map (λ (w : List ℕ). a ∷ w) ws)
+pub mem-map :
+    (a : ℕ) {ws : List (List ℕ)} {u : List ℕ} → List·Memᴰ u ws → List·Memᴰ (a ∷ u) (map (λ (w : List ℕ). a ∷ w) ws)
 mem-map a (List·Memᴰ·head q) = List·Memᴰ·head (ap (λ (w : List ℕ). a ∷ w) q)
 mem-map a (List·Memᴰ·tail m) = List·Memᴰ·tail (mem-map a m)
 
@@ -105,13 +122,18 @@ ascending-map a (w ∷ ws) p = (λ v m. go v (map-mem a ws m), ascending-map a w
     go v r = rw (r .2) (earlier-same a a w (r .0) refl (p .0 (r .0) (r .1)))
 
 ascending-joined :
-    (f : ℕ → List (List ℕ)) → ((a : ℕ) → Ascending (f a)) → ((a b : ℕ) (x y : List ℕ) → a < b → List·Memᴰ x (f a) → List·Memᴰ y (f b) → earlier x y ≡ true) → (c k : ℕ) →
+    (f : ℕ → List (List ℕ)) → ((a : ℕ) → Ascending (f a)) →
+    ((a b : ℕ) (x y : List ℕ) → a < b → List·Memᴰ x (f a) → List·Memᴰ y (f b) → earlier x y ≡ true) → (c k : ℕ) →
     Ascending (joined f (from c k))
 unfolding joined from
 ascending-joined f p h c zero = tt
-ascending-joined f p h c (suc k) = ascending-append (f c) (joined f (from (suc c) k)) (p c) (ascending-joined f p h (suc c) k) (λ x y m m′. go x y m (joined-mem f (from (suc c) k) m′))
+ascending-joined f p h c (suc k) =
+    ascending-append (f c) (joined f (from (suc c) k)) (p c) (ascending-joined f p h (suc c) k)
+    (λ x y m m′. go x y m (joined-mem f (from (suc c) k) m′))
   where
-    go : (x y : List ℕ) → List·Memᴰ x (f c) → (a : ℕ) × List·Memᴰ a (from (suc c) k) × List·Memᴰ y (f a) → earlier x y ≡ true
+    go :
+        (x y : List ℕ) → List·Memᴰ x (f c) → (a : ℕ) × List·Memᴰ a (from (suc c) k) × List·Memᴰ y (f a) →
+        earlier x y ≡ true
     go x y m r = h c (r .0) x y (from-mem (suc c) k (r .1) .0) m (r .2)
 
 pub ascending-words : (n k : ℕ) → Ascending (words n k)
@@ -119,7 +141,8 @@ unfolding words earlier
 ascending-words n zero = (λ v m. absurd (List·Memᴰ·not-nil m), tt)
 ascending-words n (suc k) = (
   λ v m. first v (joined-mem (starting n k) (from 1 n) m),
-  ascending-joined (starting n k) (λ a. ascending-map a (words n k) (ascending-words n k)) (λ a b x y l m m′. later a b x y l (map-mem a (words n k) m) (map-mem b (words n k) m′)) 1 n,
+  ascending-joined (starting n k) (λ a. ascending-map a (words n k) (ascending-words n k))
+      (λ a b x y l m m′. later a b x y l (map-mem a (words n k) m) (map-mem b (words n k) m′)) 1 n,
 )
   where
     start : (v : List ℕ) (a : ℕ) (u : List ℕ) → v ≡ a ∷ u → earlier [] v ≡ true
@@ -128,7 +151,9 @@ ascending-words n (suc k) = (
     first : (v : List ℕ) → (a : ℕ) × List·Memᴰ a (from 1 n) × List·Memᴰ v (starting n k a) → earlier [] v ≡ true
     first v r = let s = map-mem (r .0) (words n k) (r .2) in start v (r .0) (s .0) (s .2)
 
-    later : (a b : ℕ) (x y : List ℕ) → a < b → (u : List ℕ) × List·Memᴰ u (words n k) × (x ≡ a ∷ u) → (u : List ℕ) × List·Memᴰ u (words n k) × (y ≡ b ∷ u) → earlier x y ≡ true
+    later :
+        (a b : ℕ) (x y : List ℕ) → a < b → (u : List ℕ) × List·Memᴰ u (words n k) × (x ≡ a ∷ u) →
+        (u : List ℕ) × List·Memᴰ u (words n k) × (y ≡ b ∷ u) → earlier x y ≡ true
     later a b x y l r s = rw (r .2, s .2) (earlier-less a b (r .0) (s .0) l)
 
 pub ascending-keep : (t : List ℕ → Bool) (ws : List (List ℕ)) → Ascending ws → Ascending (keep t ws)

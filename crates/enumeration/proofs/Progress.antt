@@ -1,5 +1,6 @@
 -- From every valid search, within 2 × n × n trials, a member is listed or the search is done.
--- Rising and unwinding use up the slack of the beginning; once an open word is entered it is not left before one of its members is listed.
+-- Rising and unwinding use up the slack of the beginning; once an open
+-- word is entered it is not left before one of its members is listed.
 use Prim.Native.Nat.{ℕ, zero, suc, _+_, _-_, _*_, _≤_, _<_}
 use native.Mathlib.Omega.{arith}
 use native.Mathlib.Nat.{mul-suc, mul-assoc, mul-le-mul-left}
@@ -37,13 +38,16 @@ unwound-still n (a ∷ p) c h =
     rw (ne-eqb c (suc n) d)
 
 -- unwinding uses up no more than the slack gives back
-unwound-slack : (n m k : ℕ) (p : List ℕ) (c : ℕ) → 1 + slack n p + m ≤ k + c → 1 + slack n (unwound n p c .0) + m ≤ k + unwound n p c .1
+unwound-slack :
+    (n m k : ℕ) (p : List ℕ) (c : ℕ) → 1 + slack n p + m ≤ k + c →
+    1 + slack n (unwound n p c .0) + m ≤ k + unwound n p c .1
 unfolding unwound
 unwound-slack n m k [] c h = h
 unwound-slack n m k (a ∷ p) c h = go (eqb c (suc n)) refl (unwound-slack n m k p (suc a))
   where
     go :
-        (b : Bool) → eqb c (suc n) ≡ b → (1 + slack n p + m ≤ k + suc a → 1 + slack n (unwound n p (suc a) .0) + m ≤ k + unwound n p (suc a) .1) →
+        (b : Bool) → eqb c (suc n) ≡ b →
+        (1 + slack n p + m ≤ k + suc a → 1 + slack n (unwound n p (suc a) .0) + m ≤ k + unwound n p (suc a) .1) →
         1 + slack n (cond b (unwound n p (suc a)) (a ∷ p, c) .0) + m ≤ k + cond b (unwound n p (suc a)) (a ∷ p, c) .1
     go true q ih = ih (omega (arith, eqb-true c (suc n) q))
     go false q ih = h
@@ -55,7 +59,9 @@ begins-rest [] (b ∷ m) e = (b, m, refl)
 begins-rest (a ∷ q) [] e = absurd (apart (sym e))
 begins-rest (a ∷ q) (b ∷ m) e = go (and-both (eqb a b) (begins q m) e) (begins-rest q m)
   where
-    go : (eqb a b ≡ true) × (begins q m ≡ true) → (begins q m ≡ true → (d : ℕ) × (v : List ℕ) × (m ≡ q ++ d ∷ v)) → (d : ℕ) × (v : List ℕ) × (b ∷ m ≡ a ∷ q ++ d ∷ v)
+    go :
+        (eqb a b ≡ true) × (begins q m ≡ true) → (begins q m ≡ true → (d : ℕ) × (v : List ℕ) × (m ≡ q ++ d ∷ v)) →
+        (d : ℕ) × (v : List ℕ) × (b ∷ m ≡ a ∷ q ++ d ∷ v)
     go s ih =
         let r = ih (s .1) in
         let f : a ≡ b = eqb-true a b (s .0) in
@@ -79,7 +85,8 @@ Onward F k st = (isDone (F .atoms) (steps F k st) ≡ true) ⊎ (st .listed < st
 
 module _ (F : Family) (L : Lawful F) where
   aim-high : (p : List ℕ) (c : ℕ) → Aim F p c → c ≤ F .atoms
-  aim-high p c r = omega (arith, range-on (F .atoms) p (r .0 ∷ r .1) (member-range F L (reverseAux p (r .0 ∷ r .1)) (r .2)) .1)
+  aim-high p c r =
+      omega (arith, range-on (F .atoms) p (r .0 ∷ r .1) (member-range F L (reverseAux p (r .0 ∷ r .1)) (r .2)) .1)
 
   aim-short : (p : List ℕ) (c : ℕ) → Aim F p c → suc (length p) ≤ F .atoms
   aim-short p c r = omega (arith, L .short (reverseAux p (r .0 ∷ r .1)) (r .2), length-reverseAux p (r .0 ∷ r .1))
@@ -88,22 +95,32 @@ module _ (F : Family) (L : Lawful F) where
   aim-open : (p : List ℕ) (a : ℕ) → isOpen F (reverse (a ∷ p)) ≡ true → Aim F (a ∷ p) 1
   aim-open p a o = go (opens-below F (reverse (a ∷ p)) (tried-open F p a ∙ o))
     where
-      found : (m : List ℕ) → F .member m ≡ true → (b : ℕ) × (v : List ℕ) × (m ≡ reverse (a ∷ p) ++ b ∷ v) → Aim F (a ∷ p) 1
+      found :
+          (m : List ℕ) → F .member m ≡ true → (b : ℕ) × (v : List ℕ) × (m ≡ reverse (a ∷ p) ++ b ∷ v) → Aim F (a ∷ p) 1
       found m e r =
-          let f : F .member (reverseAux (a ∷ p) (r .0 ∷ r .1)) ≡ true = ap (F .member) (reverseAux-eq (a ∷ p) (r .0 ∷ r .1) ∙ sym (r .2)) ∙ e in
-          (r .0, r .1, f, range-on (F .atoms) (a ∷ p) (r .0 ∷ r .1) (member-range F L (reverseAux (a ∷ p) (r .0 ∷ r .1)) f) .0)
+          let f : F .member (reverseAux (a ∷ p) (r .0 ∷ r .1)) ≡ true =
+          ap (F .member) (reverseAux-eq (a ∷ p) (r .0 ∷ r .1) ∙ sym (r .2)) ∙ e in (
+            r .0,
+            r .1,
+            f,
+            range-on (F .atoms) (a ∷ p) (r .0 ∷ r .1) (member-range F L (reverseAux (a ∷ p) (r .0 ∷ r .1)) f) .0,
+          )
 
       go : (m : List ℕ) × (F .member m ≡ true) × (begins (reverse (a ∷ p)) m ≡ true) → Aim F (a ∷ p) 1
       go r = found (r .0) (r .1) (begins-rest (reverse (a ∷ p)) (r .0) (r .2))
 
   -- past a word that is neither a member nor open the aim is higher
-  aim-rise : (p : List ℕ) (c : ℕ) → F .member (reverse (c ∷ p)) ≡ false → isOpen F (reverse (c ∷ p)) ≡ false → Aim F p c → Aim F p (suc c)
+  aim-rise :
+      (p : List ℕ) (c : ℕ) → F .member (reverse (c ∷ p)) ≡ false → isOpen F (reverse (c ∷ p)) ≡ false → Aim F p c →
+      Aim F p (suc c)
   unfolding begins
   aim-rise p c e o r = go (compared c (r .0))
     where
       itself : (v : List ℕ) → F .member (reverseAux p (c ∷ v)) ≡ true → ⊥
       itself [] f = apart (sym f ∙ e)
-      itself (d ∷ v) f = apart (sym (begins-open F L (reverse (c ∷ p)) (reverseAux p (c ∷ d ∷ v)) f (begins-on (c ∷ p) [] (d ∷ v))) ∙ o)
+      itself (d ∷ v) f =
+          apart (sym (begins-open F L (reverse (c ∷ p)) (reverseAux p (c ∷ d ∷ v)) f (begins-on (c ∷ p) [] (d ∷ v))) ∙
+          o)
 
       go : Compared c (r .0) → Aim F p (suc c)
       go (less q) = (r .0, r .1, r .2, q)
@@ -117,16 +134,26 @@ module _ (F : Family) (L : Lawful F) where
   more-listed k st s h = omega (arith, listed-steps F k s)
 
   -- where a member is aimed at, one is listed
-  aimed : (k : ℕ) (st : State) → Valid F st → Aim F (st .stack) (st .next) → Near F k st → st .listed < steps F k st .listed
+  aimed :
+      (k : ℕ) (st : State) → Valid F st → Aim F (st .stack) (st .next) → Near F k st → st .listed < steps F k st .listed
   unfolding trial tried act
-  aimed zero st v r h = absurd (omega (arith, aim-high (st .stack) (st .next) r, mul-suc (F .atoms) (length (st .stack)), mul-le-mul-left (F .atoms) (aim-short (st .stack) (st .next) r)))
-  aimed (suc k) st v r h = rw (steps-trial F k st (not-done st (aim-high (st .stack) (st .next) r))) (go (F .member (tried st)) (isOpen F (tried st)) refl refl (aimed k))
+  aimed zero st v r h =
+      absurd (omega (
+        arith,
+        aim-high (st .stack) (st .next) r,
+        mul-suc (F .atoms) (length (st .stack)),
+        mul-le-mul-left (F .atoms) (aim-short (st .stack) (st .next) r),
+      ))
+  aimed (suc k) st v r h =
+      rw (steps-trial F k st (not-done st (aim-high (st .stack) (st .next) r)))
+      (go (F .member (tried st)) (isOpen F (tried st)) refl refl (aimed k))
     where
       c≤n : st .next ≤ F .atoms
       c≤n = aim-high (st .stack) (st .next) r
 
       go :
-          (m o : Bool) → F .member (tried st) ≡ m → isOpen F (tried st) ≡ o → ((s : State) → Valid F s → Aim F (s .stack) (s .next) → Near F k s → s .listed < steps F k s .listed) →
+          (m o : Bool) → F .member (tried st) ≡ m → isOpen F (tried st) ≡ o →
+          ((s : State) → Valid F s → Aim F (s .stack) (s .next) → Near F k s → s .listed < steps F k s .listed) →
           st .listed < steps F k (act (F .atoms) m o st) .listed
       go true o e f ih = more-listed k st (act (F .atoms) true o st) (omega arith)
       go false true e f ih =
@@ -158,8 +185,10 @@ module _ (F : Family) (L : Lawful F) where
   moving (suc k) st v h = go (decided (isDone (F .atoms) st)) (moving k)
     where
       cases :
-          st .next ≤ F .atoms → (m o : Bool) → F .member (tried st) ≡ m → isOpen F (tried st) ≡ o → ((s : State) → Valid F s → Enough F k s → Onward F k s) →
-          (isDone (F .atoms) (steps F k (act (F .atoms) m o st)) ≡ true) ⊎ (st .listed < steps F k (act (F .atoms) m o st) .listed)
+          st .next ≤ F .atoms → (m o : Bool) → F .member (tried st) ≡ m → isOpen F (tried st) ≡ o →
+          ((s : State) → Valid F s → Enough F k s → Onward F k s) →
+          (isDone (F .atoms) (steps F k (act (F .atoms) m o st)) ≡ true) ⊎
+          (st .listed < steps F k (act (F .atoms) m o st) .listed)
       cases c≤n true o e f ih = inr (more-listed k st (act (F .atoms) true o st) (omega arith))
       cases c≤n false true e f ih =
           let one : 1 ≤ F .atoms = omega (arith, v .low, c≤n) in
@@ -170,14 +199,26 @@ module _ (F : Family) (L : Lawful F) where
           (omega (arith, c≤n, mul-suc (F .atoms) (length (st .stack))))))
       cases c≤n false false e f ih =
           ih (placed (unwound (F .atoms) (st .stack) (suc (st .next))) (suc (st .trials)) (st .extensions) (st .listed))
-          (unwound-valid F L (st .stack) (suc (st .next)) (suc (st .trials)) (st .extensions) (st .listed) (v .open-stack) (omega arith) (omega (arith, c≤n)))
+          (unwound-valid F L (st .stack) (suc (st .next)) (suc (st .trials)) (st .extensions) (st .listed)
+          (v .open-stack) (omega arith) (omega (arith, c≤n)))
           (unwound-slack (F .atoms) (F .atoms * F .atoms) k (st .stack) (suc (st .next)) (omega arith))
 
-      go : Decided (isDone (F .atoms) st) → ((s : State) → Valid F s → Enough F k s → Onward F k s) → Onward F (suc k) st
+      go :
+          Decided (isDone (F .atoms) st) → ((s : State) → Valid F s → Enough F k s → Onward F k s) → Onward F (suc k) st
       go (inl d) ih = inl (rw (steps-done F (suc k) st d) d)
-      go (inr d) ih = rw (steps-trial F k st d) (cases (v .within d) (F .member (tried st)) (isOpen F (tried st)) refl refl ih)
+      go (inr d) ih =
+          rw (steps-trial F k st d) (cases (v .within d) (F .member (tried st)) (isOpen F (tried st)) refl refl ih)
 
-  pub progresses : (k : ℕ) (st : State) → Valid F st → 2 * F .atoms * F .atoms ≤ k → (isDone (F .atoms) (steps F k st) ≡ true) ⊎ (st .listed < steps F k st .listed)
+  pub progresses :
+      (k : ℕ) (st : State) → Valid F st → 2 * F .atoms * F .atoms ≤ k → (isDone (F .atoms) (steps F k st) ≡ true) ⊎
+      (st .listed < steps F k st .listed)
   progresses k st v h =
       let stack-le : length (st .stack) ≤ F .atoms = omega (arith, stack-most F L (st .stack) (v .open-stack)) in
-      moving k st v (omega (arith, v .low, mul-assoc 2 (F .atoms) (F .atoms), slack-most (F .atoms) (st .stack), mul-le-mul-left (F .atoms) stack-le))
+      moving k st v
+      (omega (
+        arith,
+        v .low,
+        mul-assoc 2 (F .atoms) (F .atoms),
+        slack-most (F .atoms) (st .stack),
+        mul-le-mul-left (F .atoms) stack-le,
+      ))

@@ -36,28 +36,51 @@ module _ (F : Family) where
       go true = sym (append-nil (recordOf (tried st)))
       go false = refl
 
-  emitted-trial : (k : ℕ) (st : State) → isDone (F .atoms) st ≡ false → emitted F (suc k) st ≡ newly F st ++ emitted F k (trial F st)
+  emitted-trial :
+      (k : ℕ) (st : State) → isDone (F .atoms) st ≡ false →
+      emitted F (suc k) st ≡ newly F st ++ emitted F k (trial F st)
   unfolding emitted
   emitted-trial k st d = ap (λ (s : State). newly F st ++ emitted F k s) (moved-trial F st d)
 
-  none-made : (budget room : ℕ) (st : State) (s : Stop) → Why F budget room (stopped st s) s → RunFacts F budget room st (stopped st s)
+  none-made :
+      (budget room : ℕ) (st : State) (s : Stop) → Why F budget room (stopped st s) s →
+      RunFacts F budget room st (stopped st s)
   unfolding steps emitted records
-  none-made budget room st s w = record { stepped = refl; busy = λ j h. absurd (omega arith); wrote = refl; in-budget = omega arith; in-room = omega arith; counted = omega arith; listing = omega arith; why = w }
+  none-made budget room st s w =
+      record {
+        stepped = refl;
+        busy = λ j h. absurd (omega arith);
+        wrote = refl;
+        in-budget = omega arith;
+        in-room = omega arith;
+        counted = omega arith;
+        listing = omega arith;
+        why = w;
+      }
 
-  why-after : (budget room : ℕ) (bytes : List ℕ) (o : Outcome) → length bytes ≤ room → (s : Stop) → Why F budget (room - length bytes) o s → Why F (suc budget) room (after bytes o) s
+  why-after :
+      (budget room : ℕ) (bytes : List ℕ) (o : Outcome) → length bytes ≤ room → (s : Stop) →
+      Why F budget (room - length bytes) o s → Why F (suc budget) room (after bytes o) s
   why-after budget room bytes o h Done w = w
   why-after budget room bytes o h Limit w = w
   why-after budget room bytes o h Spent w = (w .0, w .1, ap suc (w .2))
   why-after budget room bytes o h Full w = (w .0, w .1, omega arith, omega (arith, length-append bytes (o .bytes)))
 
   one-made :
-      (budget room : ℕ) (st : State) (o : Outcome) → isDone (F .atoms) st ≡ false → length (lists F st) ≤ room → RunFacts F budget (room - length (lists F st)) (trial F st) o →
+      (budget room : ℕ) (st : State) (o : Outcome) → isDone (F .atoms) st ≡ false → length (lists F st) ≤ room →
+      RunFacts F budget (room - length (lists F st)) (trial F st) o →
       RunFacts F (suc budget) room st (after (lists F st) o)
   unfolding steps
   one-made budget room st o d h r = record {
     stepped = state-is;
     busy = busy-at;
-    wrote = rw (emitted-trial (o .made) st d, records-append (newly F st) (emitted F (o .made) (trial F st)), lists-newly st d, r .wrote);
+    wrote =
+        rw (
+          emitted-trial (o .made) st d,
+          records-append (newly F st) (emitted F (o .made) (trial F st)),
+          lists-newly st d,
+          r .wrote,
+        );
     in-budget = omega (arith, r .in-budget);
     in-room = omega (arith, r .in-room, length-append (lists F st) (o .bytes));
     counted = omega (arith, r .counted, trial-trials F st);
@@ -76,18 +99,26 @@ module _ (F : Family) where
   unfolding run
   run-ran zero room st = go (isDone (F .atoms) st) (atLimit st) refl refl
     where
-      go : (d l : Bool) → isDone (F .atoms) st ≡ d → atLimit st ≡ l → RunFacts F zero room st (cond d (stopped st Done) (cond l (stopped st Limit) (stopped st Spent)))
+      go :
+          (d l : Bool) → isDone (F .atoms) st ≡ d → atLimit st ≡ l →
+          RunFacts F zero room st (cond d (stopped st Done) (cond l (stopped st Limit) (stopped st Spent)))
       go true l e f = none-made zero room st Done e
       go false true e f = none-made zero room st Limit (e, f)
       go false false e f = none-made zero room st Spent (e, f, refl)
-  run-ran (suc budget) room st = go (isDone (F .atoms) st) (atLimit st) (ltb room (length (lists F st))) refl refl refl (run F budget (room - length (lists F st)) (trial F st)) (run-ran budget (room - length (lists F st)) (trial F st))
+  run-ran (suc budget) room st =
+      go (isDone (F .atoms) st) (atLimit st) (ltb room (length (lists F st))) refl refl refl
+      (run F budget (room - length (lists F st)) (trial F st))
+      (run-ran budget (room - length (lists F st)) (trial F st))
     where
       go :
-          (d l b : Bool) → isDone (F .atoms) st ≡ d → atLimit st ≡ l → ltb room (length (lists F st)) ≡ b → (o : Outcome) → RunFacts F budget (room - length (lists F st)) (trial F st) o →
-          RunFacts F (suc budget) room st (cond d (stopped st Done) (cond l (stopped st Limit) (cond b (stopped st Full) (after (lists F st) o))))
+          (d l b : Bool) → isDone (F .atoms) st ≡ d → atLimit st ≡ l → ltb room (length (lists F st)) ≡ b →
+          (o : Outcome) → RunFacts F budget (room - length (lists F st)) (trial F st) o →
+          RunFacts F (suc budget) room st
+          (cond d (stopped st Done) (cond l (stopped st Limit) (cond b (stopped st Full) (after (lists F st) o))))
       go true l b e f g o ih = none-made (suc budget) room st Done e
       go false true b e f g o ih = none-made (suc budget) room st Limit (e, f)
-      go false false true e f g o ih = none-made (suc budget) room st Full (e, f, omega arith, omega (arith, ltb-true room (length (lists F st)) g))
+      go false false true e f g o ih =
+          none-made (suc budget) room st Full (e, f, omega arith, omega (arith, ltb-true room (length (lists F st)) g))
       go false false false e f g o ih = one-made budget room st o e (ltb-false room (length (lists F st)) g) ih
 
   -- ---- the limit
@@ -97,17 +128,25 @@ module _ (F : Family) where
 
   trial-bounded : (st : State) → Bounded st → atLimit st ≡ false → Bounded (trial F st)
   unfolding trial act atLimit
-  trial-bounded st b e = go (or-neither (eqb (st .trials) limit || eqb (st .extensions) limit) (eqb (st .listed) limit) e)
+  trial-bounded st b e =
+      go (or-neither (eqb (st .trials) limit || eqb (st .extensions) limit) (eqb (st .listed) limit) e)
     where
-      by : suc (st .trials) ≤ limit → suc (st .extensions) ≤ limit → suc (st .listed) ≤ limit → (m o : Bool) → Bounded (act (F .atoms) m o st)
+      by :
+          suc (st .trials) ≤ limit → suc (st .extensions) ≤ limit → suc (st .listed) ≤ limit → (m o : Bool) →
+          Bounded (act (F .atoms) m o st)
       by t x l true o = record { trials-most = t; extensions-most = b .extensions-most; listed-most = l }
       by t x l false true = record { trials-most = t; extensions-most = x; listed-most = b .listed-most }
-      by t x l false false = record { trials-most = t; extensions-most = b .extensions-most; listed-most = b .listed-most }
+      by t x l false false =
+          record { trials-most = t; extensions-most = b .extensions-most; listed-most = b .listed-most }
 
-      go : ((eqb (st .trials) limit || eqb (st .extensions) limit) ≡ false) × (eqb (st .listed) limit ≡ false) → Bounded (act (F .atoms) (F .member (tried st)) (isOpen F (tried st)) st)
+      go :
+          ((eqb (st .trials) limit || eqb (st .extensions) limit) ≡ false) × (eqb (st .listed) limit ≡ false) →
+          Bounded (act (F .atoms) (F .member (tried st)) (isOpen F (tried st)) st)
       go r =
           let q = or-neither (eqb (st .trials) limit) (eqb (st .extensions) limit) (r .0) in
-          by (below-limit (st .trials) (b .trials-most) (q .0)) (below-limit (st .extensions) (b .extensions-most) (q .1)) (below-limit (st .listed) (b .listed-most) (r .1)) (F .member (tried st)) (isOpen F (tried st))
+          by (below-limit (st .trials) (b .trials-most) (q .0))
+          (below-limit (st .extensions) (b .extensions-most) (q .1)) (below-limit (st .listed) (b .listed-most) (r .1))
+          (F .member (tried st)) (isOpen F (tried st))
 
   -- a run takes no count past the limit
   pub run-bounded : (budget room : ℕ) (st : State) → Bounded st → Bounded (run F budget room st .state)
@@ -118,11 +157,15 @@ module _ (F : Family) where
       go true l = b
       go false true = b
       go false false = b
-  run-bounded (suc budget) room st b = go (isDone (F .atoms) st) (atLimit st) (ltb room (length (lists F st))) refl (run F budget (room - length (lists F st)) (trial F st)) (λ (e : atLimit st ≡ false). run-bounded budget (room - length (lists F st)) (trial F st) (trial-bounded st b e))
+  run-bounded (suc budget) room st b =
+      go (isDone (F .atoms) st) (atLimit st) (ltb room (length (lists F st))) refl
+      (run F budget (room - length (lists F st)) (trial F st))
+      (λ (e : atLimit st ≡ false). run-bounded budget (room - length (lists F st)) (trial F st) (trial-bounded st b e))
     where
       go :
           (d l f : Bool) → atLimit st ≡ l → (o : Outcome) → (atLimit st ≡ false → Bounded (o .state)) →
-          Bounded (cond d (stopped st Done) (cond l (stopped st Limit) (cond f (stopped st Full) (after (lists F st) o))) .state)
+          Bounded (cond d (stopped st Done)
+          (cond l (stopped st Limit) (cond f (stopped st Full) (after (lists F st) o))) .state)
       go true l f e o ih = b
       go false true f e o ih = b
       go false false true e o ih = b
@@ -130,7 +173,8 @@ module _ (F : Family) where
 
 module _ (F : Family) (L : Lawful F) where
   pub run-valid : (budget room : ℕ) (st : State) → Valid F st → Valid F (run F budget room st .state)
-  run-valid budget room st v = rw (run-ran F budget room st .stepped) (valid-steps F L (run F budget room st .made) st v)
+  run-valid budget room st v =
+      rw (run-ran F budget room st .stepped) (valid-steps F L (run F budget room st .made) st v)
 
   lists-short : (st : State) → length (lists F st) ≤ suc (F .atoms)
   unfolding lists recordIf recordOf
@@ -142,23 +186,33 @@ module _ (F : Family) (L : Lawful F) where
 
   pub run-progress :
       (budget room : ℕ) (st : State) → Valid F st → 2 * F .atoms * F .atoms ≤ budget → F .atoms + 1 ≤ room →
-      (1 ≤ length (emitted F (run F budget room st .made) st)) ⊎ ((run F budget room st .stop ≡ Done) ⊎ (run F budget room st .stop ≡ Limit))
+      (1 ≤ length (emitted F (run F budget room st .made) st)) ⊎
+      ((run F budget room st .stop ≡ Done) ⊎ (run F budget room st .stop ≡ Limit))
   unfolding records
   run-progress budget room st v h room-left = go (run F budget room st) (run-ran F budget room st)
     where
-      spent : (k : ℕ) → budget ≤ k → isDone (F .atoms) (steps F k st) ≡ false → (isDone (F .atoms) (steps F k st) ≡ true) ⊎ (st .listed < steps F k st .listed) → 1 ≤ length (emitted F k st)
+      spent :
+          (k : ℕ) → budget ≤ k → isDone (F .atoms) (steps F k st) ≡ false → (isDone (F .atoms) (steps F k st) ≡ true) ⊎
+          (st .listed < steps F k st .listed) → 1 ≤ length (emitted F k st)
       spent k b d (inl e) = absurd (apart (sym e ∙ d))
       spent k b d (inr l) = omega (arith, listed-steps F k st)
 
-      full : (ws : List (List ℕ)) (bytes : List ℕ) (s : State) → bytes ≡ records ws → room < length bytes + length (lists F s) → 1 ≤ length ws
+      full :
+          (ws : List (List ℕ)) (bytes : List ℕ) (s : State) → bytes ≡ records ws →
+          room < length bytes + length (lists F s) → 1 ≤ length ws
       full [] bytes s e f = absurd (omega (arith, ap length e, lists-short s))
       full (w ∷ ws) bytes s e f = omega arith
 
-      by-stop : (o : Outcome) → RunFacts F budget room st o → (s : Stop) → o .stop ≡ s → Why F budget room o s → (1 ≤ length (emitted F (o .made) st)) ⊎ ((o .stop ≡ Done) ⊎ (o .stop ≡ Limit))
+      by-stop :
+          (o : Outcome) → RunFacts F budget room st o → (s : Stop) → o .stop ≡ s → Why F budget room o s →
+          (1 ≤ length (emitted F (o .made) st)) ⊎ ((o .stop ≡ Done) ⊎ (o .stop ≡ Limit))
       by-stop o r Done e w = inr (inl e)
       by-stop o r Limit e w = inr (inr e)
-      by-stop o r Spent e w = inl (spent (o .made) (omega arith) (rw (r .stepped) at (w .0)) (progresses F L (o .made) st v (omega arith)))
+      by-stop o r Spent e w =
+          inl (spent (o .made) (omega arith) (rw (r .stepped) at (w .0)) (progresses F L (o .made) st v (omega arith)))
       by-stop o r Full e w = inl (full (emitted F (o .made) st) (o .bytes) (o .state) (r .wrote) (w .3))
 
-      go : (o : Outcome) → RunFacts F budget room st o → (1 ≤ length (emitted F (o .made) st)) ⊎ ((o .stop ≡ Done) ⊎ (o .stop ≡ Limit))
+      go :
+          (o : Outcome) → RunFacts F budget room st o → (1 ≤ length (emitted F (o .made) st)) ⊎
+          ((o .stop ≡ Done) ⊎ (o .stop ≡ Limit))
       go o r = by-stop o r (o .stop) refl (r .why)

@@ -1,5 +1,7 @@
--- The words that a search tries from a place on, in order, where a gate says below which words it goes; and the same with every gate open.
--- A test that passes only words above which each gate is open keeps the same of both: below a shut gate it keeps nothing.
+-- The words that a search tries from a place on, in order, where a gate
+-- says below which words it goes; and the same with every gate open.
+-- A test that passes only words above which each gate is open
+-- keeps the same of both: below a shut gate it keeps nothing.
 use Prim.Native.Nat.{ℕ, zero, suc, _-_, _≤_, _<_}
 use native.Mathlib.Omega.{arith}
 use mathlib.Core.Path.{_≡_, refl, sym, ap, _∙_}
@@ -68,7 +70,8 @@ upto-one n =
 
 -- ---- how the stream begins
 
-pub level-cons : (G : List ℕ → Bool) (n : ℕ) (p : List ℕ) (c : ℕ) → c ≤ n → level G n p c ≡ turn G n p c ++ level G n p (suc c)
+pub level-cons :
+    (G : List ℕ → Bool) (n : ℕ) (p : List ℕ) (c : ℕ) → c ≤ n → level G n p c ≡ turn G n p c ++ level G n p (suc c)
 unfolding level joined
 level-cons G n p c h = ap (joined (turn G n p)) (upto-cons n c h)
 
@@ -77,9 +80,11 @@ unfolding level joined
 level-end G n p = ap (joined (turn G n p)) (upto-end n)
 
 -- one more level of a branch
-pub branch-level : (G : List ℕ → Bool) (n k : ℕ) (p : List ℕ) → n - suc (length p) ≡ k → branch G n (suc k) p ≡ level G n p 1
+pub branch-level :
+    (G : List ℕ → Bool) (n k : ℕ) (p : List ℕ) → n - suc (length p) ≡ k → branch G n (suc k) p ≡ level G n p 1
 unfolding branch level turn
-branch-level G n k p e = rw (upto-one n) (joined-cong (twig G n k p) (turn G n p) (from 1 n) (λ a. ap (λ (j : ℕ). twig G n j p a) (sym e)))
+branch-level G n k p e =
+    rw (upto-one n) (joined-cong (twig G n k p) (turn G n p) (from 1 n) (λ a. ap (λ (j : ℕ). twig G n j p a) (sym e)))
 
 pub branch-root : (G : List ℕ → Bool) (n : ℕ) → branch G n n [] ≡ level G n [] 1
 unfolding branch level upto from joined
@@ -92,15 +97,25 @@ unfolding rest later
 rest-pop G n a p = rw (level-end G n (a ∷ p))
 
 -- the head of the stream is the word tried; then comes what is below it, or the next atom
-pub rest-shut : (G : List ℕ → Bool) (n : ℕ) (p : List ℕ) (c : ℕ) → c ≤ n → G (reverse (c ∷ p)) ≡ false → rest G n p c ≡ reverse (c ∷ p) ∷ rest G n p (suc c)
+pub rest-shut :
+    (G : List ℕ → Bool) (n : ℕ) (p : List ℕ) (c : ℕ) → c ≤ n → G (reverse (c ∷ p)) ≡ false →
+    rest G n p c ≡ reverse (c ∷ p) ∷ rest G n p (suc c)
 unfolding rest turn
 rest-shut G n p c h g = rw (level-cons G n p c h, g)
 
-pub rest-open : (G : List ℕ → Bool) (n : ℕ) (p : List ℕ) (c : ℕ) → c ≤ n → suc (length p) < n → G (reverse (c ∷ p)) ≡ true → rest G n p c ≡ reverse (c ∷ p) ∷ rest G n (c ∷ p) 1
+pub rest-open :
+    (G : List ℕ → Bool) (n : ℕ) (p : List ℕ) (c : ℕ) → c ≤ n → suc (length p) < n → G (reverse (c ∷ p)) ≡ true →
+    rest G n p c ≡ reverse (c ∷ p) ∷ rest G n (c ∷ p) 1
 unfolding rest later turn
 rest-open G n p c h l g =
     let d : n - suc (length p) ≡ suc (n - suc (suc (length p))) = omega arith in
-    rw (level-cons G n p c h, g, d, branch-level G n (n - suc (suc (length p))) (c ∷ p) refl, append-assoc (level G n (c ∷ p) 1) (level G n p (suc c)) (later G n p))
+    rw (
+      level-cons G n p c h,
+      g,
+      d,
+      branch-level G n (n - suc (suc (length p))) (c ∷ p) refl,
+      append-assoc (level G n (c ∷ p) 1) (level G n p (suc c)) (later G n p),
+    )
 
 -- ---- what is in it
 
@@ -108,7 +123,9 @@ rest-open G n p c h l g =
 abbrev pub Beyond : List ℕ → List ℕ → Type 0
 Beyond p w = (b : ℕ) × (v : List ℕ) × (w ≡ reverseAux p (b ∷ v))
 
-under-mem : (gate : Bool) (u : List ℕ) (ws : List (List ℕ)) {w : List ℕ} → List·Memᴰ w (under gate u ws) → (w ≡ u) ⊎ List·Memᴰ w ws
+under-mem :
+    (gate : Bool) (u : List ℕ) (ws : List (List ℕ)) {w : List ℕ} → List·Memᴰ w (under gate u ws) →
+    (w ≡ u) ⊎ List·Memᴰ w ws
 under-mem gate u ws {w} m = go gate (List·Memᴰ·cases-cons m)
   where
     go : (b : Bool) → (w ≡ u) ⊎ List·Memᴰ w (cond b ws []) → (w ≡ u) ⊎ List·Memᴰ w ws
@@ -117,29 +134,44 @@ under-mem gate u ws {w} m = go gate (List·Memᴰ·cases-cons m)
     go false (inr q) = absurd (List·Memᴰ·not-nil q)
 
 -- one turn at an atom: the words that begin with p and it
-turned : (p : List ℕ) (a : ℕ) (w : List ℕ) → (w ≡ reverse (a ∷ p)) ⊎ Beyond (a ∷ p) w → (v : List ℕ) × (w ≡ reverseAux p (a ∷ v))
+turned :
+    (p : List ℕ) (a : ℕ) (w : List ℕ) → (w ≡ reverse (a ∷ p)) ⊎ Beyond (a ∷ p) w →
+    (v : List ℕ) × (w ≡ reverseAux p (a ∷ v))
 turned p a w (inl e) = ([], e)
 turned p a w (inr r) = (r .0 ∷ r .1, r .2)
 
 pub branch-mem : (G : List ℕ → Bool) (n k : ℕ) (p : List ℕ) {w : List ℕ} → List·Memᴰ w (branch G n k p) → Beyond p w
 unfolding branch
 branch-mem G n zero p m = absurd (List·Memᴰ·not-nil m)
-branch-mem G n (suc k) p {w} m = go (λ (a : ℕ) (m′ : List·Memᴰ w (branch G n k (a ∷ p))). branch-mem G n k (a ∷ p) m′) (joined-mem (twig G n k p) (from 1 n) m)
+branch-mem G n (suc k) p {w} m =
+    go (λ (a : ℕ) (m′ : List·Memᴰ w (branch G n k (a ∷ p))). branch-mem G n k (a ∷ p) m′)
+    (joined-mem (twig G n k p) (from 1 n) m)
   where
-    side : (a : ℕ) → (List·Memᴰ w (branch G n k (a ∷ p)) → Beyond (a ∷ p) w) → (w ≡ reverse (a ∷ p)) ⊎ List·Memᴰ w (branch G n k (a ∷ p)) → (w ≡ reverse (a ∷ p)) ⊎ Beyond (a ∷ p) w
+    side :
+        (a : ℕ) → (List·Memᴰ w (branch G n k (a ∷ p)) → Beyond (a ∷ p) w) →
+        (w ≡ reverse (a ∷ p)) ⊎ List·Memᴰ w (branch G n k (a ∷ p)) → (w ≡ reverse (a ∷ p)) ⊎ Beyond (a ∷ p) w
     side a ih (inl e) = inl e
     side a ih (inr q) = inr (ih q)
 
-    go : ((a : ℕ) → List·Memᴰ w (branch G n k (a ∷ p)) → Beyond (a ∷ p) w) → (a : ℕ) × List·Memᴰ a (from 1 n) × List·Memᴰ w (twig G n k p a) → Beyond p w
+    go :
+        ((a : ℕ) → List·Memᴰ w (branch G n k (a ∷ p)) → Beyond (a ∷ p) w) → (a : ℕ) × List·Memᴰ a (from 1 n) ×
+        List·Memᴰ w (twig G n k p a) → Beyond p w
     go ih r =
-        let s = turned p (r .0) w (side (r .0) (ih (r .0)) (under-mem (G (reverse (r .0 ∷ p))) (reverse (r .0 ∷ p)) (branch G n k (r .0 ∷ p)) (r .2))) in
+        let s = turned p (r .0) w
+        (side (r .0) (ih (r .0))
+        (under-mem (G (reverse (r .0 ∷ p))) (reverse (r .0 ∷ p)) (branch G n k (r .0 ∷ p)) (r .2))) in
         (r .0, s .0, s .1)
 
-pub turn-mem : (G : List ℕ → Bool) (n : ℕ) (p : List ℕ) (a : ℕ) {w : List ℕ} → List·Memᴰ w (turn G n p a) → (v : List ℕ) × (w ≡ reverseAux p (a ∷ v))
+pub turn-mem :
+    (G : List ℕ → Bool) (n : ℕ) (p : List ℕ) (a : ℕ) {w : List ℕ} → List·Memᴰ w (turn G n p a) →
+    (v : List ℕ) × (w ≡ reverseAux p (a ∷ v))
 unfolding turn
-turn-mem G n p a {w} m = turned p a w (side (under-mem (G (reverse (a ∷ p))) (reverse (a ∷ p)) (branch G n (n - suc (length p)) (a ∷ p)) m))
+turn-mem G n p a {w} m =
+    turned p a w (side (under-mem (G (reverse (a ∷ p))) (reverse (a ∷ p)) (branch G n (n - suc (length p)) (a ∷ p)) m))
   where
-    side : (w ≡ reverse (a ∷ p)) ⊎ List·Memᴰ w (branch G n (n - suc (length p)) (a ∷ p)) → (w ≡ reverse (a ∷ p)) ⊎ Beyond (a ∷ p) w
+    side :
+        (w ≡ reverse (a ∷ p)) ⊎ List·Memᴰ w (branch G n (n - suc (length p)) (a ∷ p)) →
+        (w ≡ reverse (a ∷ p)) ⊎ Beyond (a ∷ p) w
     side (inl e) = inl e
     side (inr q) = inr (branch-mem G n (n - suc (length p)) (a ∷ p) q)
 
@@ -157,7 +189,9 @@ beyond-begins p w r = rw (r .2) (begins-on p [] (r .0 ∷ r .1))
 
 module _ (G t : List ℕ → Bool) (shown : (q w : List ℕ) → t w ≡ true → begins q w ≡ true → G q ≡ true) where
   -- what is kept below a word is the same with the gate as without
-  keep-under : (p : List ℕ) (xs ys : List (List ℕ)) → keep t xs ≡ keep t ys → ((w : List ℕ) → List·Memᴰ w ys → Beyond p w) → keep t (under (G (reverse p)) (reverse p) xs) ≡ keep t (under true (reverse p) ys)
+  keep-under :
+      (p : List ℕ) (xs ys : List (List ℕ)) → keep t xs ≡ keep t ys → ((w : List ℕ) → List·Memᴰ w ys → Beyond p w) →
+      keep t (under (G (reverse p)) (reverse p) xs) ≡ keep t (under true (reverse p) ys)
   unfolding keep
   keep-under p xs ys e below = go (G (reverse p)) refl
     where
@@ -168,26 +202,36 @@ module _ (G t : List ℕ → Bool) (shown : (q w : List ℕ) → t w ≡ true �
       go true g = rw e
       go false g = rw (keep-none t ys (missed g))
 
-  keep-twig : (n k : ℕ) (p : List ℕ) (a : ℕ) → keep t (branch G n k (a ∷ p)) ≡ keep t (branch always n k (a ∷ p)) → keep t (twig G n k p a) ≡ keep t (twig always n k p a)
-  keep-twig n k p a e = keep-under (a ∷ p) (branch G n k (a ∷ p)) (branch always n k (a ∷ p)) e (λ w m. branch-mem always n k (a ∷ p) m)
+  keep-twig :
+      (n k : ℕ) (p : List ℕ) (a : ℕ) → keep t (branch G n k (a ∷ p)) ≡ keep t (branch always n k (a ∷ p)) →
+      keep t (twig G n k p a) ≡ keep t (twig always n k p a)
+  keep-twig n k p a e =
+      keep-under (a ∷ p) (branch G n k (a ∷ p)) (branch always n k (a ∷ p)) e (λ w m. branch-mem always n k (a ∷ p) m)
 
   pub keep-branch : (n k : ℕ) (p : List ℕ) → keep t (branch G n k p) ≡ keep t (branch always n k p)
   unfolding branch
   keep-branch n zero p = refl
-  keep-branch n (suc k) p = keep-joined t (twig G n k p) (twig always n k p) (from 1 n) (λ a. keep-twig n k p a (keep-branch n k (a ∷ p)))
+  keep-branch n (suc k) p =
+      keep-joined t (twig G n k p) (twig always n k p) (from 1 n) (λ a. keep-twig n k p a (keep-branch n k (a ∷ p)))
 
   pub keep-level : (n : ℕ) (p : List ℕ) (c : ℕ) → keep t (level G n p c) ≡ keep t (level always n p c)
   unfolding level turn
-  keep-level n p c = keep-joined t (turn G n p) (turn always n p) (upto n c) (λ a. keep-twig n (n - suc (length p)) p a (keep-branch n (n - suc (length p)) (a ∷ p)))
+  keep-level n p c =
+      keep-joined t (turn G n p) (turn always n p) (upto n c)
+      (λ a. keep-twig n (n - suc (length p)) p a (keep-branch n (n - suc (length p)) (a ∷ p)))
 
   keep-later : (n : ℕ) (p : List ℕ) → keep t (later G n p) ≡ keep t (later always n p)
   unfolding later
   keep-later n [] = refl
-  keep-later n (a ∷ p) = keep-append t (level G n p (suc a)) (later G n p) ∙ cc (keep-level n p (suc a), keep-later n p) ∙ sym (keep-append t (level always n p (suc a)) (later always n p))
+  keep-later n (a ∷ p) =
+      keep-append t (level G n p (suc a)) (later G n p) ∙ cc (keep-level n p (suc a), keep-later n p) ∙
+      sym (keep-append t (level always n p (suc a)) (later always n p))
 
   pub keep-rest : (n : ℕ) (p : List ℕ) (c : ℕ) → keep t (rest G n p c) ≡ keep t (rest always n p c)
   unfolding rest
-  keep-rest n p c = keep-append t (level G n p c) (later G n p) ∙ cc (keep-level n p c, keep-later n p) ∙ sym (keep-append t (level always n p c) (later always n p))
+  keep-rest n p c =
+      keep-append t (level G n p c) (later G n p) ∙ cc (keep-level n p c, keep-later n p) ∙
+      sym (keep-append t (level always n p c) (later always n p))
 
 -- ---- every word
 
@@ -197,10 +241,12 @@ unfolding words branch
 words-branch n zero p = refl
 words-branch n (suc k) p = ap (λ (r : List (List ℕ)). reverse p ∷ r)
     (map-joined (reverseAux p) (starting n k) (from 1 n)
-    ∙ joined-cong (λ (a : ℕ). map (reverseAux p) (starting n k a)) (twig always n k p) (from 1 n) (λ a. map-map (reverseAux p) (λ (w : List ℕ). a ∷ w) (words n k) ∙ words-branch n k (a ∷ p)))
+    ∙ joined-cong (λ (a : ℕ). map (reverseAux p) (starting n k a)) (twig always n k p) (from 1 n)
+    (λ a. map-map (reverseAux p) (λ (w : List ℕ). a ∷ w) (words n k) ∙ words-branch n k (a ∷ p)))
 
 pub words-root : (n : ℕ) → words n n ≡ [] ∷ level always n [] 1
-words-root n = sym (map-same (words n n)) ∙ words-branch n n [] ∙ ap (λ (r : List (List ℕ)). [] ∷ r) (branch-root always n)
+words-root n =
+    sym (map-same (words n n)) ∙ words-branch n n [] ∙ ap (λ (r : List (List ℕ)). [] ∷ r) (branch-root always n)
   where
     map-same : (ws : List (List ℕ)) → map (reverseAux []) ws ≡ ws
     map-same [] = refl

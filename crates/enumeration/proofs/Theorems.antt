@@ -1,4 +1,5 @@
--- What is proved of every search: the order of the list, many trials, runs, valid searches, marks, a search from its start, progress.
+-- What is proved of every search: the order of the list, many trials,
+-- runs, valid searches, marks, a search from its start, progress.
 -- Each statement is for any family F; where `L` is an argument it is `Lawful F`. The ideas are in the other files.
 use Prim.Native.Nat.{ℕ, suc, _+_, _-_, _*_, _≤_, _<_}
 use native.Mathlib.Omega.{arith}
@@ -41,7 +42,8 @@ pub order-total : (v w : List ℕ) → (v ≡ w → ⊥) → (earlier v w ≡ tr
 order-total = total
 
 -- `goesOn p c w` says that w begins with p and goes on with an atom that is at least c
-pub goesOn-exactly : (p : List ℕ) (c : ℕ) (w : List ℕ) → (goesOn p c w ≡ true) ↔ ((b : ℕ) × (v : List ℕ) × (w ≡ p ++ b ∷ v) × (c ≤ b))
+pub goesOn-exactly :
+    (p : List ℕ) (c : ℕ) (w : List ℕ) → (goesOn p c w ≡ true) ↔ ((b : ℕ) × (v : List ℕ) × (w ≡ p ++ b ∷ v) × (c ≤ b))
 goesOn-exactly p c w = (goesOn-means p c w, λ r. ap (goesOn p c) (r .2) ∙ means-goesOn p c (r .0) (r .1) (r .3))
 
 -- `past p w` says that w is later than every list that begins with p
@@ -84,19 +86,25 @@ module _ (F : Family) where
   trials-most k st = omega (arith, trials-steps F k st, attempts-most F k st)
 
   -- All k are made if the search is not done before the last of them
-  pub trials-all : (k j : ℕ) (st : State) → k ≤ suc j → isDone (F .atoms) (steps F j st) ≡ false → steps F k st .trials ≡ st .trials + k
+  pub trials-all :
+      (k j : ℕ) (st : State) → k ≤ suc j → isDone (F .atoms) (steps F j st) ≡ false →
+      steps F k st .trials ≡ st .trials + k
   trials-all k j st h d = trials-steps F k st ∙ ap (λ (m : ℕ). st .trials + m) (attempts-all F k j st h d)
 
   -- All k are made or the search is done
-  pub trials-or-done : (k : ℕ) (st : State) → (steps F k st .trials ≡ st .trials + k) ⊎ (isDone (F .atoms) (steps F k st) ≡ true)
+  pub trials-or-done :
+      (k : ℕ) (st : State) → (steps F k st .trials ≡ st .trials + k) ⊎ (isDone (F .atoms) (steps F k st) ≡ true)
   trials-or-done k st = go (decided (isDone (F .atoms) (steps F k st)))
     where
-      go : Decided (isDone (F .atoms) (steps F k st)) → (steps F k st .trials ≡ st .trials + k) ⊎ (isDone (F .atoms) (steps F k st) ≡ true)
+      go :
+          Decided (isDone (F .atoms) (steps F k st)) → (steps F k st .trials ≡ st .trials + k) ⊎
+          (isDone (F .atoms) (steps F k st) ≡ true)
       go (inl d) = inr d
       go (inr d) = inl (trials-all k k st (omega arith) d)
 
   -- From the start, k trials count k if the search is not done before the last of them
-  pub fresh-trials-all : (k j : ℕ) → k ≤ suc j → isDone (F .atoms) (steps F j fresh) ≡ false → steps F k fresh .trials ≡ k
+  pub fresh-trials-all :
+      (k j : ℕ) → k ≤ suc j → isDone (F .atoms) (steps F j fresh) ≡ false → steps F k fresh .trials ≡ k
   unfolding fresh
   fresh-trials-all k j h d = omega (arith, trials-all k j fresh h d)
 
@@ -126,17 +134,21 @@ module _ (F : Family) (budget room : ℕ) (st : State) where
   run-done e = subst (Why F budget room outcome) e (run-outcome .why)
 
   -- It stops at the limit: a count stands there, and the search is not done
-  pub run-limit : outcome .stop ≡ Limit → (isDone (F .atoms) (outcome .state) ≡ false) × (atLimit (outcome .state) ≡ true)
+  pub run-limit :
+      outcome .stop ≡ Limit → (isDone (F .atoms) (outcome .state) ≡ false) × (atLimit (outcome .state) ≡ true)
   run-limit e = subst (Why F budget room outcome) e (run-outcome .why)
 
   -- It stops spent: it made its budget of trials, and neither of those holds
-  pub run-spent : outcome .stop ≡ Spent → (isDone (F .atoms) (outcome .state) ≡ false) × (atLimit (outcome .state) ≡ false) × (outcome .made ≡ budget)
+  pub run-spent :
+      outcome .stop ≡ Spent → (isDone (F .atoms) (outcome .state) ≡ false) × (atLimit (outcome .state) ≡ false) ×
+      (outcome .made ≡ budget)
   run-spent e = subst (Why F budget room outcome) e (run-outcome .why)
 
   -- It stops full: the next trial would list a record longer than the room left, and none of those holds
   pub run-full :
       outcome .stop ≡ Full →
-      (isDone (F .atoms) (outcome .state) ≡ false) × (atLimit (outcome .state) ≡ false) × (outcome .made < budget) × (room < length (outcome .bytes) + length (lists F (outcome .state)))
+      (isDone (F .atoms) (outcome .state) ≡ false) × (atLimit (outcome .state) ≡ false) × (outcome .made < budget) ×
+      (room < length (outcome .bytes) + length (lists F (outcome .state)))
   run-full e = subst (Why F budget room outcome) e (run-outcome .why)
 
 module _ (F : Family) (L : Lawful F) where
@@ -167,7 +179,9 @@ module _ (F : Family) (L : Lawful F) where
   valid-short st v = stack-most F L (st .stack) (v .open-stack)
 
   -- Its atoms are from 1 to n
-  pub valid-range : (st : State) → Valid F st → (i : ℕ) → i < length (st .stack) → (1 ≤ getD (st .stack) i 0) × (getD (st .stack) i 0 ≤ F .atoms)
+  pub valid-range :
+      (st : State) → Valid F st → (i : ℕ) → i < length (st .stack) → (1 ≤ getD (st .stack) i 0) ×
+      (getD (st .stack) i 0 ≤ F .atoms)
   valid-range st v = stack-range F L (st .stack) (v .open-stack)
 
   -- Its next atom is at most n + 1
@@ -179,7 +193,8 @@ module _ (F : Family) (L : Lawful F) where
       go (inr d) = omega (arith, v .within d)
 
   -- Extensions rise by the open words tried
-  pub extensions-rise : (k : ℕ) (st : State) → steps F k st .extensions ≡ st .extensions + length (keep (opens F) (attempts F k st))
+  pub extensions-rise :
+      (k : ℕ) (st : State) → steps F k st .extensions ≡ st .extensions + length (keep (opens F) (attempts F k st))
   extensions-rise = extensions-steps F L
 
   -- ---- marks: what is listed from a valid search on, whatever its counts
@@ -188,18 +203,25 @@ module _ (F : Family) (L : Lawful F) where
   ahead-members st v = members-follow F L (st .stack) (st .next) (v .open-stack) (v .low) (valid-next st v)
 
   -- The first of the members that follow its place, as many as it has listed
-  pub mark-listing : (k : ℕ) (st : State) → Valid F st → emitted F k st ≡ take (length (emitted F k st)) (following F st)
+  pub mark-listing :
+      (k : ℕ) (st : State) → Valid F st → emitted F k st ≡ take (length (emitted F k st)) (following F st)
   mark-listing k st v =
-      let e : following F st ≡ emitted F k st ++ keep (F .member) (ahead F (steps F k st)) = sym (ahead-members st v) ∙ emitted-front F L k st v in
-      sym (ap (take (length (emitted F k st))) e ∙ take-append-seam (emitted F k st) (keep (F .member) (ahead F (steps F k st))))
+      let e : following F st ≡ emitted F k st ++ keep (F .member) (ahead F (steps F k st)) =
+      sym (ahead-members st v) ∙ emitted-front F L k st v in
+      sym (ap (take (length (emitted F k st))) e ∙
+      take-append-seam (emitted F k st) (keep (F .member) (ahead F (steps F k st))))
 
   -- Once done, exactly the members that follow its place
-  pub mark-complete : (k : ℕ) (st : State) → Valid F st → isDone (F .atoms) (steps F k st) ≡ true → emitted F k st ≡ following F st
+  pub mark-complete :
+      (k : ℕ) (st : State) → Valid F st → isDone (F .atoms) (steps F k st) ≡ true → emitted F k st ≡ following F st
   mark-complete k st v d = emitted-keep F k st ∙ ap (keep (F .member)) (done-stream F L k st v d) ∙ ahead-members st v
 
   -- Listed has then risen by their number
-  pub mark-listed : (k : ℕ) (st : State) → Valid F st → isDone (F .atoms) (steps F k st) ≡ true → steps F k st .listed ≡ st .listed + length (following F st)
-  mark-listed k st v d = listed-steps F k st ∙ ap (λ (l : List (List ℕ)). st .listed + length l) (mark-complete k st v d)
+  pub mark-listed :
+      (k : ℕ) (st : State) → Valid F st → isDone (F .atoms) (steps F k st) ≡ true →
+      steps F k st .listed ≡ st .listed + length (following F st)
+  mark-listed k st v d =
+      listed-steps F k st ∙ ap (λ (l : List (List ℕ)). st .listed + length l) (mark-complete k st v d)
 
   -- Extensions by the number of open words that follow
   pub mark-extensions :
@@ -207,12 +229,15 @@ module _ (F : Family) (L : Lawful F) where
       steps F k st .extensions ≡ st .extensions + length (keep (follows (reverse (st .stack)) (st .next)) (openWords F))
   mark-extensions k st v d =
       extensions-steps F L k st
-      ∙ ap (λ (l : List (List ℕ)). st .extensions + length l) (ap (keep (opens F)) (done-stream F L k st v d) ∙ opens-follow F L (st .stack) (st .next) (v .open-stack) (v .low) (valid-next st v))
+      ∙ ap (λ (l : List (List ℕ)). st .extensions + length l)
+      (ap (keep (opens F)) (done-stream F L k st v d) ∙
+      opens-follow F L (st .stack) (st .next) (v .open-stack) (v .low) (valid-next st v))
 
   -- Trials with the extensions: by n for each, and by what was left to try at its beginning
   pub mark-trials :
       (k : ℕ) (st : State) → isDone (F .atoms) (steps F k st) ≡ true →
-      steps F k st .trials + (F .atoms * st .extensions + sum (st .stack) + st .next) ≡ F .atoms * suc (steps F k st .extensions) + 1 + (st .trials + F .atoms * length (st .stack))
+      steps F k st .trials + (F .atoms * st .extensions + sum (st .stack) + st .next) ≡
+      F .atoms * suc (steps F k st .extensions) + 1 + (st .trials + F .atoms * length (st .stack))
   mark-trials = balance-done F
 
   -- Some number of trials ends it
@@ -232,12 +257,16 @@ module _ (F : Family) (L : Lawful F) where
   -- What k trials list are the first members of the list, as many as `listed` says
   pub fresh-listing : (k : ℕ) → emitted F k fresh ≡ take (steps F k fresh .listed) (members F)
   fresh-listing k =
-      let e : members F ≡ emitted F k fresh ++ keep (F .member) (ahead F (steps F k fresh)) = sym ahead-fresh ∙ emitted-front F L k fresh (valid-fresh F L) in
-      rw (fresh-listed k) (sym (ap (take (length (emitted F k fresh))) e ∙ take-append-seam (emitted F k fresh) (keep (F .member) (ahead F (steps F k fresh)))))
+      let e : members F ≡ emitted F k fresh ++ keep (F .member) (ahead F (steps F k fresh)) =
+      sym ahead-fresh ∙ emitted-front F L k fresh (valid-fresh F L) in
+      rw (fresh-listed k)
+      (sym (ap (take (length (emitted F k fresh))) e ∙
+      take-append-seam (emitted F k fresh) (keep (F .member) (ahead F (steps F k fresh)))))
 
   -- Once done, all of them
   pub fresh-complete : (k : ℕ) → isDone (F .atoms) (steps F k fresh) ≡ true → emitted F k fresh ≡ members F
-  fresh-complete k d = emitted-keep F k fresh ∙ ap (keep (F .member)) (done-stream F L k fresh (valid-fresh F L) d) ∙ ahead-fresh
+  fresh-complete k d =
+      emitted-keep F k fresh ∙ ap (keep (F .member)) (done-stream F L k fresh (valid-fresh F L) d) ∙ ahead-fresh
 
   -- Some number of trials ends it
   pub fresh-ends : (k : ℕ) × (isDone (F .atoms) (steps F k fresh) ≡ true)
@@ -248,18 +277,24 @@ module _ (F : Family) (L : Lawful F) where
   done-listed k d = fresh-listed k ∙ ap length (fresh-complete k d)
 
   -- Trials is n × (extensions + 1)
-  pub done-trials : (k : ℕ) → isDone (F .atoms) (steps F k fresh) ≡ true → steps F k fresh .trials ≡ F .atoms * suc (steps F k fresh .extensions)
+  pub done-trials :
+      (k : ℕ) → isDone (F .atoms) (steps F k fresh) ≡ true →
+      steps F k fresh .trials ≡ F .atoms * suc (steps F k fresh .extensions)
   done-trials = fresh-balance F
 
   -- Extensions is the number of different non-empty proper beginnings of members
-  pub done-extensions : (k : ℕ) → isDone (F .atoms) (steps F k fresh) ≡ true → steps F k fresh .extensions ≡ length (openWords F)
+  pub done-extensions :
+      (k : ℕ) → isDone (F .atoms) (steps F k fresh) ≡ true → steps F k fresh .extensions ≡ length (openWords F)
   unfolding fresh
   done-extensions k d =
-      let e : keep (opens F) (attempts F k fresh) ≡ openWords F = ap (keep (opens F)) (done-stream F L k fresh (valid-fresh F L) d) ∙ opens-stream F L in
+      let e : keep (opens F) (attempts F k fresh) ≡ openWords F =
+      ap (keep (opens F)) (done-stream F L k fresh (valid-fresh F L) d) ∙ opens-stream F L in
       omega (arith, extensions-steps F L k fresh, ap length e)
 
   -- At most n − 1 of them for each member
-  pub done-bound : (k : ℕ) → isDone (F .atoms) (steps F k fresh) ≡ true → steps F k fresh .extensions ≤ (F .atoms - 1) * length (members F)
+  pub done-bound :
+      (k : ℕ) → isDone (F .atoms) (steps F k fresh) ≡ true →
+      steps F k fresh .extensions ≤ (F .atoms - 1) * length (members F)
   done-bound k d = omega (arith, done-extensions k d, openWords-bound F L)
 
   -- The list of open words has no repeats
@@ -267,17 +302,22 @@ module _ (F : Family) (L : Lawful F) where
   open-once = openWords-once F
 
   -- It holds exactly the non-empty proper beginnings of members
-  pub open-exactly : (q : List ℕ) → List·Memᴰ q (openWords F) ↔ ((isEmpty q ≡ false) × (m : List ℕ) × (F .member m ≡ true) × (begins q m ≡ true))
+  pub open-exactly :
+      (q : List ℕ) →
+      List·Memᴰ q (openWords F) ↔ ((isEmpty q ≡ false) × (m : List ℕ) × (F .member m ≡ true) × (begins q m ≡ true))
   open-exactly q = (openWords-sound F q, λ r. openWords-complete F L q (r .1) (r .0) (r .2) (r .3))
 
   -- ---- progress
 
   -- Within 2 × n × n trials a valid search lists a member or is done
-  pub progress : (st : State) → Valid F st → (isDone (F .atoms) (steps F (2 * F .atoms * F .atoms) st) ≡ true) ⊎ (st .listed < steps F (2 * F .atoms * F .atoms) st .listed)
+  pub progress :
+      (st : State) → Valid F st → (isDone (F .atoms) (steps F (2 * F .atoms * F .atoms) st) ≡ true) ⊎
+      (st .listed < steps F (2 * F .atoms * F .atoms) st .listed)
   progress st v = progresses F L (2 * F .atoms * F .atoms) st v (omega arith)
 
   -- A run with that budget and room for one record lists a member, or stops done or at the limit
   pub run-lists :
       (budget room : ℕ) (st : State) → Valid F st → 2 * F .atoms * F .atoms ≤ budget → F .atoms + 1 ≤ room →
-      (1 ≤ length (emitted F (run F budget room st .made) st)) ⊎ ((run F budget room st .stop ≡ Done) ⊎ (run F budget room st .stop ≡ Limit))
+      (1 ≤ length (emitted F (run F budget room st .made) st)) ⊎
+      ((run F budget room st .stop ≡ Done) ⊎ (run F budget room st .stop ≡ Limit))
   run-lists = run-progress F L

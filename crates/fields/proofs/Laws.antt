@@ -38,7 +38,13 @@ module _ (v d : ℕ) (digit : d < 10) (some : 0 < v) (fits : v * 10 + d ≤ limi
   unfolding digits
   digits-snoc w [] e =
       let same : w ≡ v = cc in
-      rw (same, digit-worth d) (simp (le-leb 48 (48 + d) (omega arith), le-leb (48 + d) 57 (omega arith), lt-ltb 0 v some, le-leb (v * 10 + d) limit fits))
+      rw (same, digit-worth d)
+      (simp (
+        le-leb 48 (48 + d) (omega arith),
+        le-leb (48 + d) 57 (omega arith),
+        lt-ltb 0 v some,
+        le-leb (v * 10 + d) limit fits,
+      ))
   digits-snoc w (b ∷ bs) e =
       let t = isDigit b && ltb 0 w && leb (w * 10 + (b - 48)) limit in
       let h = passed t (digits (w * 10 + (b - 48)) bs) v e in
@@ -49,9 +55,14 @@ module _ (v d : ℕ) (digit : d < 10) (some : 0 < v) (fits : v * 10 + d ≤ limi
   field-snoc [] e = let z : _≡_ {A = ℕ} 0 1 = cc in absurd (omega arith)
   field-snoc (b ∷ bs) e = go (field-snoc bs) (eqb b 32) e
     where
-      go : (readField bs ≡ Value v → readField (bs ++ ((48 + d) ∷ [])) ≡ Value (v * 10 + d)) → (t : Bool) → cond t (readField bs) (cond (isDigit b) (digits (b - 48) bs) Bad) ≡ Value v → cond t (readField (bs ++ ((48 + d) ∷ []))) (cond (isDigit b) (digits (b - 48) (bs ++ ((48 + d) ∷ []))) Bad) ≡ Value (v * 10 + d)
+      go :
+          (readField bs ≡ Value v → readField (bs ++ ((48 + d) ∷ [])) ≡ Value (v * 10 + d)) → (t : Bool) →
+          cond t (readField bs) (cond (isDigit b) (digits (b - 48) bs) Bad) ≡ Value v →
+          cond t (readField (bs ++ ((48 + d) ∷ []))) (cond (isDigit b) (digits (b - 48) (bs ++ ((48 + d) ∷ []))) Bad) ≡
+          Value (v * 10 + d)
       go more true e = more e
-      go more false e = let h = passed (isDigit b) (digits (b - 48) bs) v e in rw (h .0) (digits-snoc (b - 48) bs (h .1))
+      go more false e =
+          let h = passed (isDigit b) (digits (b - 48) bs) v e in rw (h .0) (digits-snoc (b - 48) bs (h .1))
 
 -- blanks
 
@@ -74,7 +85,9 @@ lone-digit (suc k) d h = lone-digit k d h
 
 -- a last digit after columns
 module _ (k v : ℕ) (below : v < 10 ^ suc k) (fits : v ≤ limit) where
-  last-digit : ((w : ℕ) → 0 < w → w < 10 ^ k → w ≤ limit → readField (columns k w) ≡ Value w) → readField (columns k (v / 10) ++ ((48 + v % 10) ∷ [])) ≡ Value v
+  last-digit :
+      ((w : ℕ) → 0 < w → w < 10 ^ k → w ≤ limit → readField (columns k w) ≡ Value w) →
+      readField (columns k (v / 10) ++ ((48 + v % 10) ∷ [])) ≡ Value v
   last-digit front = go (v / 10) refl
     where
       go : (q : ℕ) → v / 10 ≡ q → readField (columns k (v / 10) ++ ((48 + v % 10) ∷ [])) ≡ Value v
@@ -84,7 +97,8 @@ module _ (k v : ℕ) (below : v < 10 ^ suc k) (fits : v ≤ limit) where
       go (suc q) e =
           let power : 10 ^ suc k ≡ 10 ^ k * 10 = pow-suc 10 k in
           let whole : v / 10 * 10 + v % 10 ≡ v = omega arith in
-          field-snoc (v / 10) (v % 10) (omega arith) (omega arith) (omega arith) (columns k (v / 10)) (front (v / 10) (omega arith) (omega arith) (omega arith))
+          field-snoc (v / 10) (v % 10) (omega arith) (omega arith) (omega arith) (columns k (v / 10))
+          (front (v / 10) (omega arith) (omega arith) (omega arith))
           ∙ ap Value whole
 
 columns-read : (k v : ℕ) → 0 < v → v < 10 ^ k → v ≤ limit → readField (columns k v) ≡ Value v
@@ -101,14 +115,21 @@ written-reads-back (suc k) v below fits some = last-digit k v below fits (column
 -- What reads as a value is the one way to write it
 
 -- what a digit that was read says: its bounds, and the value that went before it
-digit-read : (w b : ℕ) (bs : List ℕ) (v : ℕ) → digits w (b ∷ bs) ≡ Value v → (48 ≤ b) × (b ≤ 57) × (0 < w) × (w * 10 + (b - 48) ≤ limit) × (digits (w * 10 + (b - 48)) bs ≡ Value v)
+digit-read :
+    (w b : ℕ) (bs : List ℕ) (v : ℕ) → digits w (b ∷ bs) ≡ Value v → (48 ≤ b) × (b ≤ 57) × (0 < w) ×
+    (w * 10 + (b - 48) ≤ limit) × (digits (w * 10 + (b - 48)) bs ≡ Value v)
 unfolding digits
 digit-read w b bs v e =
     let h = passed (isDigit b && ltb 0 w && leb (w * 10 + (b - 48)) limit) (digits (w * 10 + (b - 48)) bs) v e in
     let outer = both (isDigit b && ltb 0 w) (leb (w * 10 + (b - 48)) limit) (h .0) in
     let inner = both (isDigit b) (ltb 0 w) (outer .0) in
-    let digit = both (leb 48 b) (leb b 57) (inner .0) in
-    (leb-true 48 b (digit .0), leb-true b 57 (digit .1), ltb-true 0 w (inner .1), leb-true (w * 10 + (b - 48)) limit (outer .1), h .1)
+    let digit = both (leb 48 b) (leb b 57) (inner .0) in (
+      leb-true 48 b (digit .0),
+      leb-true b 57 (digit .1),
+      ltb-true 0 w (inner .1),
+      leb-true (w * 10 + (b - 48)) limit (outer .1),
+      h .1,
+    )
 
 digits-end-value : (w v : ℕ) → digits w [] ≡ Value v → w ≡ v
 unfolding digits
@@ -133,7 +154,9 @@ column-digit : (w b : ℕ) → 0 < w → 48 ≤ b → b ≤ 57 → column (w * 1
 unfolding column
 column-digit w b some low high = rw (ne-eqb (w * 10 + (b - 48)) 0 (λ e. omega arith)) (omega arith)
 
-digits-text : (k w : ℕ) (bs : List ℕ) (v : ℕ) → 0 < w → digits w bs ≡ Value v → columns k w ++ bs ≡ columns (k + length bs) v × (0 < v)
+digits-text :
+    (k w : ℕ) (bs : List ℕ) (v : ℕ) → 0 < w → digits w bs ≡ Value v → columns k w ++ bs ≡ columns (k + length bs) v ×
+    (0 < v)
 unfolding columns
 digits-text k w [] v some e = rw (add-zero, ← digits-end-value w v e) (append-nil (columns k w), some)
 digits-text k w (b ∷ bs) v some e =
@@ -141,7 +164,8 @@ digits-text k w (b ∷ bs) v some e =
     let tenth : (w * 10 + (b - 48)) / 10 ≡ w = omega (arith, h .0, h .1) in
     let last : column (w * 10 + (b - 48)) ≡ b = column-digit w b some (h .0) (h .1) in
     let more = digits-text (suc k) (w * 10 + (b - 48)) bs v (omega arith) (h .4) in
-    let start : columns k w ++ (b ∷ bs) ≡ columns (suc k) (w * 10 + (b - 48)) ++ bs = rw (tenth, last) (sym (append-snoc (columns k w) b bs)) in
+    let start : columns k w ++ (b ∷ bs) ≡ columns (suc k) (w * 10 + (b - 48)) ++ bs =
+    rw (tenth, last) (sym (append-snoc (columns k w) b bs)) in
     (start ∙ more .0 ∙ ap (λ j. columns j v) (suc-add k (length bs) ∙ sym (add-suc k (length bs))), more .1)
 
 columns-text : (k v : ℕ) → 0 < v → columns k v ≡ fieldText k v
@@ -150,19 +174,24 @@ columns-text zero v some = refl
 columns-text (suc k) v some = rw (ne-eqb v 0 (λ e. omega arith))
 
 -- a digit 0 that comes first is the whole number
-zero-alone : (j b : ℕ) (bs : List ℕ) (v : ℕ) → b ≡ 48 → digits 0 bs ≡ Value v → blanks j ++ (b ∷ bs) ≡ fieldText (suc (j + length bs)) v
+zero-alone :
+    (j b : ℕ) (bs : List ℕ) (v : ℕ) → b ≡ 48 → digits 0 bs ≡ Value v →
+    blanks j ++ (b ∷ bs) ≡ fieldText (suc (j + length bs)) v
 unfolding fieldText
 zero-alone j b [] v z e = rw (z, ← digits-end-value 0 v e, add-zero, columns-blank j)
 zero-alone j b (x ∷ bs) v z e = absurd (omega (arith, digit-read 0 x bs v e .2))
 
 -- any other first digit
-digit-first : (j b : ℕ) (bs : List ℕ) (v : ℕ) → 48 < b → b ≤ 57 → digits (b - 48) bs ≡ Value v → blanks j ++ (b ∷ bs) ≡ fieldText (suc (j + length bs)) v
+digit-first :
+    (j b : ℕ) (bs : List ℕ) (v : ℕ) → 48 < b → b ≤ 57 → digits (b - 48) bs ≡ Value v →
+    blanks j ++ (b ∷ bs) ≡ fieldText (suc (j + length bs)) v
 unfolding columns column
 digit-first j b bs v low high e =
     let h = digits-text (suc j) (b - 48) bs v (omega arith) e in
     let none : (b - 48) / 10 ≡ 0 = omega arith in
     let last : 48 + (b - 48) % 10 ≡ b = omega arith in
-    let start : columns (suc j) (b - 48) ++ bs ≡ blanks j ++ (b ∷ bs) = rw (ne-eqb (b - 48) 0 (λ e. omega arith), none, last, columns-blank j) (append-snoc (blanks j) b bs) in
+    let start : columns (suc j) (b - 48) ++ bs ≡ blanks j ++ (b ∷ bs) =
+    rw (ne-eqb (b - 48) 0 (λ e. omega arith), none, last, columns-blank j) (append-snoc (blanks j) b bs) in
     sym start ∙ h .0 ∙ columns-text (suc j + length bs) v (h .1) ∙ ap (λ k. fieldText k v) (suc-add j (length bs))
 
 -- after j blanks
@@ -176,9 +205,13 @@ after-blanks j (b ∷ bs) v e = rw add-suc (go (after-blanks (suc j) bs v) (eqb 
         let h = both (leb 48 b) (leb b 57) t in
         let low = leb-true 48 b (h .0) in
         let high = leb-true b 57 (h .1) in
-        ⊎-elim (λ (z : 48 ≡ b). zero-alone j b bs v (sym z) (rw (← z) at e)) (λ (l : 48 < b). digit-first j b bs v l high e) (eq-or-lt-of-le low)
+        ⊎-elim (λ (z : 48 ≡ b). zero-alone j b bs v (sym z) (rw (← z) at e))
+        (λ (l : 48 < b). digit-first j b bs v l high e) (eq-or-lt-of-le low)
 
-    go : (readField bs ≡ Value v → blanks (suc j) ++ bs ≡ fieldText (suc j + length bs) v) → (t : Bool) → eqb b 32 ≡ t → cond t (readField bs) (cond (isDigit b) (digits (b - 48) bs) Bad) ≡ Value v → blanks j ++ (b ∷ bs) ≡ fieldText (suc (j + length bs)) v
+    go :
+        (readField bs ≡ Value v → blanks (suc j) ++ bs ≡ fieldText (suc j + length bs) v) → (t : Bool) → eqb b 32 ≡ t →
+        cond t (readField bs) (cond (isDigit b) (digits (b - 48) bs) Bad) ≡ Value v →
+        blanks j ++ (b ∷ bs) ≡ fieldText (suc (j + length bs)) v
     go more true t e = rw (eqb-true b 32 t) (sym (append-snoc (blanks j) 32 bs) ∙ rw (blank-more j, ← suc-add) (more e))
     go more false t e = let h = passed (isDigit b) (digits (b - 48) bs) v e in digit (h .0) (h .1)
 
@@ -195,12 +228,17 @@ read-fits (b ∷ bs) v e = go (read-fits bs v) (eqb b 32) e
     power : 10 ^ suc (length bs) ≡ 10 ^ length bs * 10
     power = pow-suc 10 (length bs)
 
-    go : (readField bs ≡ Value v → (v < 10 ^ length bs) × (v ≤ limit)) → (t : Bool) → cond t (readField bs) (cond (isDigit b) (digits (b - 48) bs) Bad) ≡ Value v → (v < 10 ^ suc (length bs)) × (v ≤ limit)
+    go :
+        (readField bs ≡ Value v → (v < 10 ^ length bs) × (v ≤ limit)) → (t : Bool) →
+        cond t (readField bs) (cond (isDigit b) (digits (b - 48) bs) Bad) ≡ Value v → (v < 10 ^ suc (length bs)) ×
+        (v ≤ limit)
     go more true e = let h = more e in let p = power in (omega arith, h .1)
     go more false e =
         let h = passed (isDigit b) (digits (b - 48) bs) v e in
-        let high = leb-true b 57 (both (leb 48 b) (leb b 57) (h .0) .1) in
-        (rw (one-add (length bs)) at (digits-below 1 (b - 48) bs v (omega arith) (h .1)), digits-limit (b - 48) bs v (omega arith) (h .1))
+        let high = leb-true b 57 (both (leb 48 b) (leb b 57) (h .0) .1) in (
+          rw (one-add (length bs)) at (digits-below 1 (b - 48) bs v (omega arith) (h .1)),
+          digits-limit (b - 48) bs v (omega arith) (h .1),
+        )
 
 -- a field has as many bytes as columns
 columns-length : (k v : ℕ) → length (columns k v) ≡ k

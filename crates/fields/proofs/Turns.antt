@@ -27,11 +27,15 @@ module _ (s : List ℕ) (i : ℕ) where
   digits-end v h = rw (drop-of-length-le s h)
 
   module _ (h : i < length s) where
-    pub digits-turn : (v : ℕ) → digits v (drop i s) ≡ cond (isDigit (getD s i 0) && ltb 0 v && leb (v * 10 + (getD s i 0 - 48)) limit) (digits (v * 10 + (getD s i 0 - 48)) (drop (i + 1) s)) Bad
+    pub digits-turn :
+        (v : ℕ) → digits v (drop i s) ≡ cond (isDigit (getD s i 0) && ltb 0 v && leb (v * 10 + (getD s i 0 - 48)) limit)
+        (digits (v * 10 + (getD s i 0 - 48)) (drop (i + 1) s)) Bad
     unfolding digits
     digits-turn v = rw (drop-cons s i 0 h, add-one)
 
-    pub field-turn : readField (drop i s) ≡ cond (eqb (getD s i 0) 32) (readField (drop (i + 1) s)) (cond (isDigit (getD s i 0)) (digits (getD s i 0 - 48) (drop (i + 1) s)) Bad)
+    pub field-turn :
+        readField (drop i s) ≡ cond (eqb (getD s i 0) 32) (readField (drop (i + 1) s))
+        (cond (isDigit (getD s i 0)) (digits (getD s i 0 - 48) (drop (i + 1) s)) Bad)
     unfolding readField
     field-turn = rw (drop-cons s i 0 h, add-one)
 
@@ -44,7 +48,9 @@ module _ (s : List ℕ) (i : ℕ) where
         digits-turn v ∙ simp (le-leb 48 (getD s i 0) low, lt-leb (getD s i 0) 57 b)
 
     module _ (low : 48 ≤ getD s i 0) (high : getD s i 0 ≤ 57) where
-      digit-turn : (v : ℕ) → digits v (drop i s) ≡ cond (ltb 0 v && leb (v * 10 + (getD s i 0 - 48)) limit) (digits (v * 10 + (getD s i 0 - 48)) (drop (i + 1) s)) Bad
+      digit-turn :
+          (v : ℕ) → digits v (drop i s) ≡ cond (ltb 0 v && leb (v * 10 + (getD s i 0 - 48)) limit)
+          (digits (v * 10 + (getD s i 0 - 48)) (drop (i + 1) s)) Bad
       digit-turn v = digits-turn v ∙ simp (le-leb 48 (getD s i 0) low, le-leb (getD s i 0) 57 high)
 
       pub digits-zero : (v : ℕ) → v ≡ 0 → digits v (drop i s) ≡ Bad
@@ -53,11 +59,14 @@ module _ (s : List ℕ) (i : ℕ) where
       pub digits-full : (v : ℕ) → (v ≡ 0 → ⊥) → 999999999999999999 < v → digits v (drop i s) ≡ Bad
       digits-full v z f = digit-turn v ∙ simp (lt-ltb 0 v (omega arith), no-room-for-digit v (getD s i 0) f)
 
-      pub digits-more : (v : ℕ) → (v ≡ 0 → ⊥) → v ≤ 999999999999999999 → digits v (drop i s) ≡ digits (v * 10 + (getD s i 0 - 48)) (drop (i + 1) s)
+      pub digits-more :
+          (v : ℕ) → (v ≡ 0 → ⊥) → v ≤ 999999999999999999 →
+          digits v (drop i s) ≡ digits (v * 10 + (getD s i 0 - 48)) (drop (i + 1) s)
       digits-more v z f = digit-turn v ∙ simp (lt-ltb 0 v (omega arith), room-for-digit v (getD s i 0) low high f)
 
       pub field-digit : (getD s i 0 ≡ 32 → ⊥) → readField (drop i s) ≡ digits (getD s i 0 - 48) (drop (i + 1) s)
-      field-digit n = field-turn ∙ simp (ne-eqb (getD s i 0) 32 n, le-leb 48 (getD s i 0) low, le-leb (getD s i 0) 57 high)
+      field-digit n =
+          field-turn ∙ simp (ne-eqb (getD s i 0) 32 n, le-leb 48 (getD s i 0) low, le-leb (getD s i 0) 57 high)
 
     pub field-blank : getD s i 0 ≡ 32 → readField (drop i s) ≡ readField (drop (i + 1) s)
     field-blank e = field-turn ∙ simp (eq-eqb (getD s i 0) 32 e)
@@ -76,19 +85,26 @@ module _ (s : List ℕ) (i : ℕ) where
 
 -- what stands behind a place after a store there
 pub drop-set-here : (l : List ℕ) (i v : ℕ) → i < length l → drop i (set l i v) ≡ v ∷ drop (suc i) l
-drop-set-here l i v h = rw (set-split l i v h, drop-at (take i l) (v ∷ drop (suc i) l) i (length-take-le i l (le-of-lt h)))
+drop-set-here l i v h =
+    rw (set-split l i v h, drop-at (take i l) (v ∷ drop (suc i) l) i (length-take-le i l (le-of-lt h)))
 
--- what the writer's loop has still to write, followed by what it has written: at the first store, and after each later one
-pub text-begins : (out : List ℕ) (value j : ℕ) → suc j ≡ length out → columns j (value / 10) ++ drop j (set out j (48 + value % 10)) ≡ fieldText (length out) value
+-- what the writer's loop has still to write, followed by what
+-- it has written: at the first store, and after each later one
+pub text-begins :
+    (out : List ℕ) (value j : ℕ) → suc j ≡ length out → columns j (value / 10) ++ drop j (set out j (48 + value % 10)) ≡
+    fieldText (length out) value
 unfolding fieldText
 text-begins out value j e =
     let inside : j < length out = omega arith in
     let past : length out ≤ suc j = omega arith in
     rw (drop-set-here out j (48 + value % 10) inside, drop-of-length-le out past, ← e)
 
-pub text-goes-on : (out : List ℕ) (v j : ℕ) → suc j ≤ length out → columns j (v / 10) ++ drop j (set out j (column v)) ≡ columns (suc j) v ++ drop (suc j) out
+pub text-goes-on :
+    (out : List ℕ) (v j : ℕ) → suc j ≤ length out → columns j (v / 10) ++ drop j (set out j (column v)) ≡
+    columns (suc j) v ++ drop (suc j) out
 unfolding columns
-text-goes-on out v j h = rw (drop-set-here out j (column v) h) (sym (append-snoc (columns j (v / 10)) (column v) (drop (suc j) out)))
+text-goes-on out v j h =
+    rw (drop-set-here out j (column v) h) (sym (append-snoc (columns j (v / 10)) (column v) (drop (suc j) out)))
 
 pub text-ends : (out text : List ℕ) (i v : ℕ) → i ≤ 0 → columns i v ++ drop i out ≡ text → out ≡ text
 unfolding columns

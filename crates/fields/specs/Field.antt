@@ -39,7 +39,8 @@ unfoldable pub fieldText : ℕ → ℕ → List ℕ
 fieldText zero v = []
 fieldText (suc k) v = columns k (v / 10) ++ ((48 + v % 10) ∷ [])
 
--- The field of so many columns at a place of some bytes (fewer where the bytes end: who uses it checks their number), whether it is a
+-- The field of so many columns at a place of some bytes (fewer where
+-- the bytes end: who uses it checks their number), whether it is a
 -- number field, and its value (0 where it is none)
 abbrev pub fieldAt : ℕ → List ℕ → ℕ → Number
 fieldAt columns bytes at = readField (take columns (drop at bytes))

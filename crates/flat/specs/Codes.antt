@@ -53,13 +53,17 @@ ifAccepted Accepted new old = new
 ifAccepted (Refused r) new old = old
 
 unfoldable pub readOutput : List ℕ → List ℕ → List ℕ
-readOutput sheet out = cond (eqb (length out) 2052) (ifAccepted (readSheet sheet .answer) (flatBytes (readSheet sheet .molecule)) out) out
+readOutput sheet out =
+    cond (eqb (length out) 2052) (ifAccepted (readSheet sheet .answer) (flatBytes (readSheet sheet .molecule)) out) out
 
 unfoldable pub checkCode : ℕ → ℕ → List ℕ → ℕ
-checkCode atoms bonds rows = cond (eqb (length rows) 2048) (cond (wellFormed (molecule atoms bonds rows)) 0 9) wrongLength
+checkCode atoms bonds rows =
+    cond (eqb (length rows) 2048) (cond (wellFormed (molecule atoms bonds rows)) 0 9) wrongLength
 
 unfoldable pub ringCode : ℕ → ℕ → List ℕ → List ℕ → ℕ
-ringCode atoms bonds rows list = cond (eqb (length rows) 2048) (verdictCode (judgeRing (molecule atoms bonds rows) list)) wrongLength
+ringCode atoms bonds rows list =
+    cond (eqb (length rows) 2048) (verdictCode (judgeRing (molecule atoms bonds rows) list)) wrongLength
 
 unfoldable pub pathCode : ℕ → ℕ → List ℕ → ℕ → ℕ → List ℕ → ℕ
-pathCode atoms bonds rows s t list = cond (eqb (length rows) 2048) (verdictCode (judgePath (molecule atoms bonds rows) s t list)) wrongLength
+pathCode atoms bonds rows s t list =
+    cond (eqb (length rows) 2048) (verdictCode (judgePath (molecule atoms bonds rows) s t list)) wrongLength

@@ -1,4 +1,5 @@
--- What the test-only boundary returns and writes of searches. A search is ten numbers (kind, s, t, length of p, next atom, trials, extensions, listed, used, made) and the 128 bytes of its array; used and made are results only.
+-- What the test-only boundary returns and writes of searches. A search is ten numbers (kind, s, t, length of p, next
+-- atom, trials, extensions, listed, used, made) and the 128 bytes of its array; used and made are results only.
 use Prim.Native.Nat.{ℕ}
 use mathlib.Core.Bool.{Bool, _&&_, cond}
 use mathlib.Core.List.{List, [], _∷_}
@@ -23,7 +24,17 @@ sizesKept rows numbers prefix = eqb rows 2048 && eqb numbers 10 && eqb prefix 12
 -- the search that numbers and an array name
 unfoldable pub searchFrom : List ℕ → List ℕ → Search
 searchFrom numbers prefix =
-    record { kind = getD numbers 0 0; s = getD numbers 1 0; t = getD numbers 2 0; len = getD numbers 3 0; prefix = prefix; next = getD numbers 4 0; trials = getD numbers 5 0; extensions = getD numbers 6 0; listed = getD numbers 7 0 }
+    record {
+      kind = getD numbers 0 0;
+      s = getD numbers 1 0;
+      t = getD numbers 2 0;
+      len = getD numbers 3 0;
+      prefix = prefix;
+      next = getD numbers 4 0;
+      trials = getD numbers 5 0;
+      extensions = getD numbers 6 0;
+      listed = getD numbers 7 0;
+    }
 
 -- the numbers of a search, of which a run used so many bytes and made so many trials
 unfoldable pub numbersOf : Search → ℕ → ℕ → List ℕ

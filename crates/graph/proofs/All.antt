@@ -44,7 +44,9 @@ all-both none b = none
 all-both (p ◁ a) b = (p, all-head b) ◁ all-both a (all-tail b)
 
 -- for every x of one list and every y of another, either list first
-pub all-swap : {R : ℕ → ℕ → Type 0} {xs : List ℕ} (ys : List ℕ) → All (λ x. All (λ y. R x y) ys) xs → All (λ y. All (λ x. R x y) xs) ys
+pub all-swap :
+    {R : ℕ → ℕ → Type 0} {xs : List ℕ} (ys : List ℕ) → All (λ x. All (λ y. R x y) ys) xs →
+    All (λ y. All (λ x. R x y) xs) ys
 all-swap [] a = none
 all-swap (y ∷ ys) a = all-map (λ x p. all-head p) a ◁ all-swap ys (all-map (λ x p. all-tail p) a)
 

@@ -75,14 +75,17 @@ allBelow-at (suc k) test e i h = split (allBelow-at k test (and-left (allBelow k
 
 pub allBelow-of : (k : ℕ) (test : ℕ → Bool) → ((i : ℕ) → i < k → test i ≡ true) → allBelow k test ≡ true
 allBelow-of zero test f = refl
-allBelow-of (suc k) test f = and-both (allBelow k test) (test k) (allBelow-of k test (λ i h. f i (omega arith))) (f k (omega arith))
+allBelow-of (suc k) test f =
+    and-both (allBelow k test) (test k) (allBelow-of k test (λ i h. f i (omega arith))) (f k (omega arith))
 
 -- an index fails
 pub allBelow-fails : (k : ℕ) (test : ℕ → Bool) → allBelow k test ≡ false → (i : ℕ) × (i < k) × (test i ≡ false)
 allBelow-fails zero test e = absurd (apart e)
 allBelow-fails (suc k) test e = split (allBelow-fails k test) (either (allBelow k test)) (either (test k))
   where
-    split : (allBelow k test ≡ false → (i : ℕ) × (i < k) × (test i ≡ false)) → (allBelow k test ≡ true) ⊎ (allBelow k test ≡ false) → (test k ≡ true) ⊎ (test k ≡ false)
+    split :
+        (allBelow k test ≡ false → (i : ℕ) × (i < k) × (test i ≡ false)) →
+        (allBelow k test ≡ true) ⊎ (allBelow k test ≡ false) → (test k ≡ true) ⊎ (test k ≡ false)
         → (i : ℕ) × (i < suc k) × (test i ≡ false)
     split below a (inr q) = (k, omega arith, q)
     split below (inr p) (inl q) = let r = below p in (r .0, omega arith, r .2)

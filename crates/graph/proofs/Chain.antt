@@ -30,10 +30,13 @@ Follows adj (x ∷ []) v = (x ≢ v) × (adj x v ≡ true)
 Follows adj (x ∷ y ∷ p) v = Off adj x v × Follows adj (y ∷ p) v
 
 module _ (adj : Adjacency) where
-  pub glue : (p : List ℕ) (v : ℕ) (r : List ℕ) → Chordless adj p → Follows adj p v → All (λ x. All (Off adj x) r) p → Chordless adj (v ∷ r) → Chordless adj (p ++ v ∷ r)
+  pub glue :
+      (p : List ℕ) (v : ℕ) (r : List ℕ) → Chordless adj p → Follows adj p v → All (λ x. All (Off adj x) r) p →
+      Chordless adj (v ∷ r) → Chordless adj (p ++ v ∷ r)
   glue [] v r c f a d = d
   glue (x ∷ []) v r c f a d = (f .0, f .1, all-head a, d)
-  glue (x ∷ y ∷ p) v r c f a d = (c .0, c .1, all-append (c .2) (f .0 ◁ all-head a), glue (y ∷ p) v r (c .3) (f .1) (all-tail a) d)
+  glue (x ∷ y ∷ p) v r c f a d =
+      (c .0, c .1, all-append (c .2) (f .0 ◁ all-head a), glue (y ∷ p) v r (c .3) (f .1) (all-tail a) d)
 
   pub glue-left : (p : List ℕ) (v : ℕ) (r : List ℕ) → Chordless adj (p ++ v ∷ r) → Chordless adj p
   glue-left [] v r c = tt
@@ -55,8 +58,14 @@ module _ (adj : Adjacency) where
   glue-off (x ∷ []) v r c = c .2 ◁ none
   glue-off (x ∷ y ∷ p) v r c = all-tail (all-right p (c .2)) ◁ glue-off (y ∷ p) v r (c .3)
 
-  pub glue-iff : (p : List ℕ) (v : ℕ) (r : List ℕ) → Chordless adj (p ++ v ∷ r) ↔ (Chordless adj p × Follows adj p v × All (λ x. All (Off adj x) r) p × Chordless adj (v ∷ r))
-  glue-iff p v r = (λ c. (glue-left p v r c, glue-follows p v r c, glue-off p v r c, glue-right p v r c), λ f. glue p v r (f .0) (f .1) (f .2) (f .3))
+  pub glue-iff :
+      (p : List ℕ) (v : ℕ) (r : List ℕ) →
+      Chordless adj (p ++ v ∷ r) ↔
+      (Chordless adj p × Follows adj p v × All (λ x. All (Off adj x) r) p × Chordless adj (v ∷ r))
+  glue-iff p v r = (
+    λ c. (glue-left p v r c, glue-follows p v r c, glue-off p v r c, glue-right p v r c),
+    λ f. glue p v r (f .0) (f .1) (f .2) (f .3),
+  )
 
   pub chordless-facts : (xs : List ℕ) → Distinct xs → Bonds adj alongPath xs → Chordless adj xs
   chordless-facts [] d b = tt
@@ -64,8 +73,13 @@ module _ (adj : Adjacency) where
   chordless-facts (x ∷ y ∷ xs) d b = (
     d 0 1 (omega arith) (omega arith),
     b 0 1 (omega arith) (omega arith),
-    all-of xs (λ i h. (d 0 (suc (suc i)) (omega arith) (omega arith), b 0 (suc (suc i)) (omega arith) (omega arith) ∙ ne-eqb (suc (suc i)) 1 (omega arith))),
-    chordless-facts (y ∷ xs) (λ i j h k. d (suc i) (suc j) (omega arith) (omega arith)) (λ i j h k. b (suc i) (suc j) (omega arith) (omega arith) ∙ eqb·suc-suc j (suc i)),
+    all-of xs (λ i h. (
+      d 0 (suc (suc i)) (omega arith) (omega arith),
+      b 0 (suc (suc i)) (omega arith) (omega arith) ∙
+          ne-eqb (suc (suc i)) 1 (omega arith),
+    )),
+    chordless-facts (y ∷ xs) (λ i j h k. d (suc i) (suc j) (omega arith) (omega arith))
+        (λ i j h k. b (suc i) (suc j) (omega arith) (omega arith) ∙ eqb·suc-suc j (suc i)),
   )
 
   pub chordless-distinct : (xs : List ℕ) → Chordless adj xs → Distinct xs
@@ -75,16 +89,22 @@ module _ (adj : Adjacency) where
   chordless-distinct (x ∷ y ∷ xs) c zero (suc zero) h k = c .0
   chordless-distinct (x ∷ y ∷ xs) c zero (suc (suc j)) h k = all-at (c .2) j (le-of-suc-le-suc (le-of-suc-le-suc k)) .0
   chordless-distinct (x ∷ y ∷ xs) c (suc i) zero h k = absurd (not-suc-le-zero h)
-  chordless-distinct (x ∷ y ∷ xs) c (suc i) (suc j) h k = chordless-distinct (y ∷ xs) (c .3) i j (le-of-suc-le-suc h) (le-of-suc-le-suc k)
+  chordless-distinct (x ∷ y ∷ xs) c (suc i) (suc j) h k =
+      chordless-distinct (y ∷ xs) (c .3) i j (le-of-suc-le-suc h) (le-of-suc-le-suc k)
 
   pub chordless-bonds : (xs : List ℕ) → Chordless adj xs → Bonds adj alongPath xs
   chordless-bonds [] c i j h k = absurd (not-suc-le-zero k)
   chordless-bonds (x ∷ []) c i j h k = absurd (omega arith)
   chordless-bonds (x ∷ y ∷ xs) c zero zero h k = absurd (not-suc-le-zero h)
   chordless-bonds (x ∷ y ∷ xs) c zero (suc zero) h k = c .1
-  chordless-bonds (x ∷ y ∷ xs) c zero (suc (suc j)) h k = all-at (c .2) j (le-of-suc-le-suc (le-of-suc-le-suc k)) .1 ∙ sym (ne-eqb (suc (suc j)) 1 (omega arith))
+  chordless-bonds (x ∷ y ∷ xs) c zero (suc (suc j)) h k =
+      all-at (c .2) j (le-of-suc-le-suc (le-of-suc-le-suc k)) .1 ∙ sym (ne-eqb (suc (suc j)) 1 (omega arith))
   chordless-bonds (x ∷ y ∷ xs) c (suc i) zero h k = absurd (not-suc-le-zero h)
-  chordless-bonds (x ∷ y ∷ xs) c (suc i) (suc j) h k = chordless-bonds (y ∷ xs) (c .3) i j (le-of-suc-le-suc h) (le-of-suc-le-suc k) ∙ sym (eqb·suc-suc j (suc i))
+  chordless-bonds (x ∷ y ∷ xs) c (suc i) (suc j) h k =
+      chordless-bonds (y ∷ xs) (c .3) i j (le-of-suc-le-suc h) (le-of-suc-le-suc k) ∙ sym (eqb·suc-suc j (suc i))
 
   pub chordless-iff : (xs : List ℕ) → (induces adj alongPath xs ≡ true) ↔ Chordless adj xs
-  chordless-iff xs = (λ e. chordless-facts xs (induces-distinct adj alongPath xs e) (induces-bonds adj alongPath xs e), λ c. induces-of adj alongPath xs (chordless-distinct xs c) (chordless-bonds xs c))
+  chordless-iff xs = (
+    λ e. chordless-facts xs (induces-distinct adj alongPath xs e) (induces-bonds adj alongPath xs e),
+    λ c. induces-of adj alongPath xs (chordless-distinct xs c) (chordless-bonds xs c),
+  )

@@ -1,4 +1,5 @@
--- Rings and paths as plain facts: `isRing` and `isPath` are true exactly when the facts of the records `Ring` and `Path` hold.
+-- Rings and paths as plain facts: `isRing` and `isPath` are true
+-- exactly when the facts of the records `Ring` and `Path` hold.
 -- Each test is read by the laws of `allBelow` and of the number tests, part by part.
 use Prim.Native.Nat.{ℕ, zero, suc, _-_, _≤_, _<_}
 use mathlib.Core.Path.{_≡_, refl, sym}
@@ -45,13 +46,17 @@ pub record Path (n : ℕ) (adj : Adjacency) (s t : ℕ) (xs : List ℕ) : Type 0
 pub inRange-at : (n : ℕ) (xs : List ℕ) → inRange n xs ≡ true → InRange n xs
 unfolding inRange
 inRange-at n xs e i h =
-    let q = allBelow-at (length xs) (λ k. leb 1 (atomAt xs k) && leb (atomAt xs k) n) e i h in
-    (leb-true 1 (atomAt xs i) (and-left (leb 1 (atomAt xs i)) (leb (atomAt xs i) n) q), leb-true (atomAt xs i) n (and-right (leb 1 (atomAt xs i)) (leb (atomAt xs i) n) q))
+    let q = allBelow-at (length xs) (λ k. leb 1 (atomAt xs k) && leb (atomAt xs k) n) e i h in (
+      leb-true 1 (atomAt xs i) (and-left (leb 1 (atomAt xs i)) (leb (atomAt xs i) n) q),
+      leb-true (atomAt xs i) n (and-right (leb 1 (atomAt xs i)) (leb (atomAt xs i) n) q),
+    )
 
 pub inRange-of : (n : ℕ) (xs : List ℕ) → InRange n xs → inRange n xs ≡ true
 unfolding inRange
 inRange-of n xs f =
-    allBelow-of (length xs) (λ k. leb 1 (atomAt xs k) && leb (atomAt xs k) n) (λ i h. and-both (leb 1 (atomAt xs i)) (leb (atomAt xs i) n) (le-leb 1 (atomAt xs i) (f i h .0)) (le-leb (atomAt xs i) n (f i h .1)))
+    allBelow-of (length xs) (λ k. leb 1 (atomAt xs k) && leb (atomAt xs k) n)
+    (λ i h. and-both (leb 1 (atomAt xs i)) (leb (atomAt xs i) n) (le-leb 1 (atomAt xs i) (f i h .0))
+    (le-leb (atomAt xs i) n (f i h .1)))
 
 pub inRange-iff : (n : ℕ) (xs : List ℕ) → (inRange n xs ≡ true) ↔ InRange n xs
 inRange-iff n xs = (inRange-at n xs, inRange-of n xs)
@@ -62,18 +67,21 @@ module _ (adj : Adjacency) (joined : ℕ → ℕ → Bool) (xs : List ℕ) where
 
   pair-at : induces adj joined xs ≡ true → (i j : ℕ) → i < j → j < length xs → pair i j ≡ true
   unfolding induces
-  pair-at e i j h k = allBelow-at j (λ a. pair a j) (allBelow-at (length xs) (λ b. allBelow b (λ a. pair a b)) e j k) i h
+  pair-at e i j h k =
+      allBelow-at j (λ a. pair a j) (allBelow-at (length xs) (λ b. allBelow b (λ a. pair a b)) e j k) i h
 
   pub induces-distinct : induces adj joined xs ≡ true → Distinct xs
   induces-distinct e i j h k =
       eqb-false (atomAt xs i) (atomAt xs j)
       (not-true (eqb (atomAt xs i) (atomAt xs j))
-      (and-left (not (eqb (atomAt xs i) (atomAt xs j))) (Bool·beq (adj (atomAt xs i) (atomAt xs j)) (joined i j)) (pair-at e i j h k)))
+      (and-left (not (eqb (atomAt xs i) (atomAt xs j))) (Bool·beq (adj (atomAt xs i) (atomAt xs j)) (joined i j))
+      (pair-at e i j h k)))
 
   pub induces-bonds : induces adj joined xs ≡ true → Bonds adj joined xs
   induces-bonds e i j h k =
       beq-true (adj (atomAt xs i) (atomAt xs j)) (joined i j)
-      (and-right (not (eqb (atomAt xs i) (atomAt xs j))) (Bool·beq (adj (atomAt xs i) (atomAt xs j)) (joined i j)) (pair-at e i j h k))
+      (and-right (not (eqb (atomAt xs i) (atomAt xs j))) (Bool·beq (adj (atomAt xs i) (atomAt xs j)) (joined i j))
+      (pair-at e i j h k))
 
   pub induces-of : Distinct xs → Bonds adj joined xs → induces adj joined xs ≡ true
   unfolding induces
@@ -88,7 +96,8 @@ module _ (adj : Adjacency) (joined : ℕ → ℕ → Bool) (xs : List ℕ) where
   induces-iff = (λ e. (induces-distinct e, induces-bonds e), λ f. induces-of (f .0) (f .1))
 
 -- the five parts of a test
-and5 : (a b c d e : Bool) → a && b && c && d && e ≡ true → (a ≡ true) × (b ≡ true) × (c ≡ true) × (d ≡ true) × (e ≡ true)
+and5 :
+    (a b c d e : Bool) → a && b && c && d && e ≡ true → (a ≡ true) × (b ≡ true) × (c ≡ true) × (d ≡ true) × (e ≡ true)
 and5 true true true true e q = (refl, refl, refl, refl, q)
 and5 true true true false e q = absurd (apart (sym q))
 and5 true true false d e q = absurd (apart (sym q))
@@ -102,31 +111,46 @@ module _ (n : ℕ) (adj : Adjacency) (xs : List ℕ) where
   abbrev above : ℕ → Bool
   above i = ltb (atomAt xs 0) (atomAt xs (suc i))
 
-  parts-ring : isRing n adj xs ≡ true → (leb 3 (length xs) ≡ true) × (inRange n xs ≡ true) × (induces adj (alongRing (length xs)) xs ≡ true) × (allBelow (length xs - 1) above ≡ true) × (ltb (atomAt xs 1) (lastAtom xs) ≡ true)
+  parts-ring :
+      isRing n adj xs ≡ true → (leb 3 (length xs) ≡ true) × (inRange n xs ≡ true) ×
+      (induces adj (alongRing (length xs)) xs ≡ true) × (allBelow (length xs - 1) above ≡ true) ×
+      (ltb (atomAt xs 1) (lastAtom xs) ≡ true)
   unfolding isRing
-  parts-ring e = and5 (leb 3 (length xs)) (inRange n xs) (induces adj (alongRing (length xs)) xs) (allBelow (length xs - 1) above) (ltb (atomAt xs 1) (lastAtom xs)) e
+  parts-ring e =
+      and5 (leb 3 (length xs)) (inRange n xs) (induces adj (alongRing (length xs)) xs) (allBelow (length xs - 1) above)
+      (ltb (atomAt xs 1) (lastAtom xs)) e
 
   pub ring-facts : isRing n adj xs ≡ true → Ring n adj xs
   ring-facts e = go (parts-ring e)
     where
-      go : (leb 3 (length xs) ≡ true) × (inRange n xs ≡ true) × (induces adj (alongRing (length xs)) xs ≡ true) × (allBelow (length xs - 1) above ≡ true) × (ltb (atomAt xs 1) (lastAtom xs) ≡ true) → Ring n adj xs
+      go :
+          (leb 3 (length xs) ≡ true) × (inRange n xs ≡ true) × (induces adj (alongRing (length xs)) xs ≡ true) ×
+          (allBelow (length xs - 1) above ≡ true) × (ltb (atomAt xs 1) (lastAtom xs) ≡ true) → Ring n adj xs
       go p = record {
         long = leb-true 3 (length xs) (p .0);
         range = inRange-at n xs (p .1);
         distinct = induces-distinct adj (alongRing (length xs)) xs (p .2);
         bonds = induces-bonds adj (alongRing (length xs)) xs (p .2);
-        lowest = elim [ zero ↦ (λ h k. absurd (not-suc-le-zero h)) | suc i ↦ λ h k. ltb-true (atomAt xs 0) (atomAt xs (suc i)) (allBelow-at (length xs - 1) above (p .3) i (omega arith)) ];
+        lowest =
+            elim [
+              | zero ↦ (λ h k. absurd (not-suc-le-zero h))
+              | suc i ↦
+                  λ h k. ltb-true (atomAt xs 0) (atomAt xs (suc i))
+                  (allBelow-at (length xs - 1) above (p .3) i (omega arith))
+            ];
         oriented = ltb-true (atomAt xs 1) (lastAtom xs) (p .4);
       }
 
   pub ring-of-facts : Ring n adj xs → isRing n adj xs ≡ true
   unfolding isRing
   ring-of-facts r =
-      all5 (leb 3 (length xs)) (inRange n xs) (induces adj (alongRing (length xs)) xs) (allBelow (length xs - 1) above) (ltb (atomAt xs 1) (lastAtom xs))
+      all5 (leb 3 (length xs)) (inRange n xs) (induces adj (alongRing (length xs)) xs) (allBelow (length xs - 1) above)
+      (ltb (atomAt xs 1) (lastAtom xs))
       (le-leb 3 (length xs) (r .long))
       (inRange-of n xs (r .range))
       (induces-of adj (alongRing (length xs)) xs (r .distinct) (r .bonds))
-      (allBelow-of (length xs - 1) above (λ i h. lt-ltb (atomAt xs 0) (atomAt xs (suc i)) (r .lowest (suc i) (omega arith) (omega arith))))
+      (allBelow-of (length xs - 1) above
+      (λ i h. lt-ltb (atomAt xs 0) (atomAt xs (suc i)) (r .lowest (suc i) (omega arith) (omega arith))))
       (lt-ltb (atomAt xs 1) (lastAtom xs) (r .oriented))
 
   pub ring-iff : (isRing n adj xs ≡ true) ↔ Ring n adj xs
@@ -135,9 +159,13 @@ module _ (n : ℕ) (adj : Adjacency) (xs : List ℕ) where
 module _ (n : ℕ) (adj : Adjacency) (s t : ℕ) (xs : List ℕ) where
   pub path-facts : isPath n adj s t xs ≡ true → Path n adj s t xs
   unfolding isPath
-  path-facts e = go (and5 (leb 1 (length xs)) (inRange n xs) (eqb (atomAt xs 0) s) (eqb (lastAtom xs) t) (induces adj alongPath xs) e)
+  path-facts e =
+      go (and5 (leb 1 (length xs)) (inRange n xs) (eqb (atomAt xs 0) s) (eqb (lastAtom xs) t)
+      (induces adj alongPath xs) e)
     where
-      go : (leb 1 (length xs) ≡ true) × (inRange n xs ≡ true) × (eqb (atomAt xs 0) s ≡ true) × (eqb (lastAtom xs) t ≡ true) × (induces adj alongPath xs ≡ true) → Path n adj s t xs
+      go :
+          (leb 1 (length xs) ≡ true) × (inRange n xs ≡ true) × (eqb (atomAt xs 0) s ≡ true) ×
+          (eqb (lastAtom xs) t ≡ true) × (induces adj alongPath xs ≡ true) → Path n adj s t xs
       go p = record {
         long = leb-true 1 (length xs) (p .0);
         range = inRange-at n xs (p .1);

@@ -1,4 +1,5 @@
--- Different atoms from 1 to n are at most n; so rings and paths have at most n atoms, and none begins another of its kind.
+-- Different atoms from 1 to n are at most n; so rings and paths
+-- have at most n atoms, and none begins another of its kind.
 -- By induction on n: strike n from the list and count again.
 use Prim.Native.Nat.{ℕ, zero, suc, _-_, _+_, _≤_}
 use mathlib.Core.Path.{_≡_, refl, sym, _∙_}
@@ -53,7 +54,9 @@ strike-length : (k : ℕ) (xs : List ℕ) → length xs ≤ suc (length (strike 
 strike-length k [] = omega arith
 strike-length k (x ∷ xs) = go (eqb x k) (strike-length k xs)
   where
-    go : (t : Bool) → length xs ≤ suc (length (strike k xs)) → suc (length xs) ≤ suc (length (cond t xs (x ∷ strike k xs)))
+    go :
+        (t : Bool) → length xs ≤ suc (length (strike k xs)) →
+        suc (length xs) ≤ suc (length (cond t xs (x ∷ strike k xs)))
     go true b = omega arith
     go false b = omega arith
 
@@ -61,13 +64,17 @@ pigeon : (n : ℕ) (xs : List ℕ) → All (λ u. (1 ≤ u) × (u ≤ n)) xs →
 pigeon zero [] a d = omega arith
 pigeon zero (x ∷ xs) a d = let f = all-head a in absurd (omega arith)
 pigeon (suc n) xs a d =
-    let b = all-map {Q = λ u. (1 ≤ u) × (u ≤ n)} (λ u f. omega arith) (all-both (strike-all (suc n) xs a) (strike-without (suc n) xs d)) in
+    let b = all-map {Q = λ u. (1 ≤ u) × (u ≤ n)} (λ u f. omega arith)
+    (all-both (strike-all (suc n) xs a) (strike-without (suc n) xs d)) in
     let c = pigeon n (strike (suc n) xs) b (strike-apart (suc n) xs d) in
     omega (arith, strike-length (suc n) xs)
 
 apart-of : (xs : List ℕ) → Distinct xs → Apart xs
 apart-of [] d = tt
-apart-of (x ∷ xs) d = (all-of xs (λ i h. d 0 (suc i) (omega arith) (omega arith)), apart-of xs (λ i j h k. d (suc i) (suc j) (omega arith) (omega arith)))
+apart-of (x ∷ xs) d = (
+  all-of xs (λ i h. d 0 (suc i) (omega arith) (omega arith)),
+  apart-of xs (λ i j h k. d (suc i) (suc j) (omega arith) (omega arith)),
+)
 
 -- different atoms from 1 to n are at most n
 pub distinct-short : (n : ℕ) (xs : List ℕ) → InRange n xs → Distinct xs → length xs ≤ n
@@ -92,7 +99,9 @@ pub path-range : (n : ℕ) (adj : Adjacency) (s t : ℕ) (w : List ℕ) → isPa
 path-range n adj s t w e = path-facts n adj s t w e .range
 
 -- the last atom of the shorter ring is bonded to the first, which in the longer one it may not be
-pub ring-stops : (n : ℕ) (adj : Adjacency) (v : List ℕ) (a : ℕ) (r : List ℕ) → isRing n adj v ≡ true → isRing n adj (v ++ a ∷ r) ≡ true → ⊥
+pub ring-stops :
+    (n : ℕ) (adj : Adjacency) (v : List ℕ) (a : ℕ) (r : List ℕ) → isRing n adj v ≡ true →
+    isRing n adj (v ++ a ∷ r) ≡ true → ⊥
 ring-stops n adj v a r e f = go (ring-facts n adj v e) (ring-facts n adj (v ++ a ∷ r) f) (length-append v (a ∷ r))
   where
     go : Ring n adj v → Ring n adj (v ++ a ∷ r) → length (v ++ a ∷ r) ≡ length v + suc (length r) → ⊥
@@ -101,16 +110,22 @@ ring-stops n adj v a r e f = go (ring-facts n adj v e) (ring-facts n adj (v ++ a
         let h = p .long in
         let x : atomAt (v ++ a ∷ r) 0 ≡ atomAt v 0 = List·getD-append v (a ∷ r) 0 0 (omega arith) in
         let y : atomAt (v ++ a ∷ r) j ≡ atomAt v j = List·getD-append v (a ∷ r) 0 j (omega arith) in
-        let yes′ : adj (atomAt v 0) (atomAt v j) ≡ true = p .bonds 0 j (omega arith) (omega arith) ∙ along-last (length v) j (omega arith) in
-        let no′ : adj (atomAt (v ++ a ∷ r) 0) (atomAt (v ++ a ∷ r) j) ≡ false = q .bonds 0 j (omega arith) (omega arith) ∙ along-inner (length (v ++ a ∷ r)) j (omega arith) (omega arith) in
+        let yes′ : adj (atomAt v 0) (atomAt v j) ≡ true = p .bonds 0 j (omega arith) (omega arith) ∙
+        along-last (length v) j (omega arith) in
+        let no′ : adj (atomAt (v ++ a ∷ r) 0) (atomAt (v ++ a ∷ r) j) ≡ false =
+        q .bonds 0 j (omega arith) (omega arith) ∙ along-inner (length (v ++ a ∷ r)) j (omega arith) (omega arith) in
         clash (adj (atomAt v 0) (atomAt v j)) yes′ (rw (x, y) at no′)
 
 -- t would stand at two places of the longer path
-pub path-stops : (n : ℕ) (adj : Adjacency) (s t : ℕ) (v : List ℕ) (a : ℕ) (r : List ℕ) → isPath n adj s t v ≡ true → isPath n adj s t (v ++ a ∷ r) ≡ true → ⊥
-path-stops n adj s t v a r e f = go (path-facts n adj s t v e) (path-facts n adj s t (v ++ a ∷ r) f) (length-append v (a ∷ r))
+pub path-stops :
+    (n : ℕ) (adj : Adjacency) (s t : ℕ) (v : List ℕ) (a : ℕ) (r : List ℕ) → isPath n adj s t v ≡ true →
+    isPath n adj s t (v ++ a ∷ r) ≡ true → ⊥
+path-stops n adj s t v a r e f =
+    go (path-facts n adj s t v e) (path-facts n adj s t (v ++ a ∷ r) f) (length-append v (a ∷ r))
   where
     go : Path n adj s t v → Path n adj s t (v ++ a ∷ r) → length (v ++ a ∷ r) ≡ length v + suc (length r) → ⊥
     go p q k =
         let h = p .long in
-        let y : atomAt (v ++ a ∷ r) (length v - 1) ≡ lastAtom v = List·getD-append v (a ∷ r) 0 (length v - 1) (omega arith) in
+        let y : atomAt (v ++ a ∷ r) (length v - 1) ≡ lastAtom v =
+        List·getD-append v (a ∷ r) 0 (length v - 1) (omega arith) in
         q .distinct (length v - 1) (length (v ++ a ∷ r) - 1) (omega arith) (omega arith) (y ∙ p .last ∙ sym (q .last))

@@ -12,10 +12,12 @@ use Rattle.graph.specs.Chordless.{Adjacency, atomAt, inRange, induces, a
 use Rattle.graph.proofs.Below.{allBelow-at, and-parts}
 
 -- an atom of a list that is in range
-pub range-at : (n : ℕ) (xs : List ℕ) → inRange n xs ≡ true → (i : ℕ) → i < length xs → (1 ≤ atomAt xs i) × (atomAt xs i ≤ n)
+pub range-at :
+    (n : ℕ) (xs : List ℕ) → inRange n xs ≡ true → (i : ℕ) → i < length xs → (1 ≤ atomAt xs i) × (atomAt xs i ≤ n)
 unfolding inRange
 range-at n xs e i h =
-    let parts = and-parts (leb 1 (atomAt xs i)) (leb (atomAt xs i) n) (allBelow-at (length xs) (λ i. leb 1 (atomAt xs i) && leb (atomAt xs i) n) e i h) in
+    let parts = and-parts (leb 1 (atomAt xs i)) (leb (atomAt xs i) n)
+    (allBelow-at (length xs) (λ i. leb 1 (atomAt xs i) && leb (atomAt xs i) n) e i h) in
     (leb-true 1 (atomAt xs i) (parts .0), leb-true (atomAt xs i) n (parts .1))
 
 -- tests that agree below the bound
@@ -23,11 +25,14 @@ pub all-same : (k : ℕ) (p q : ℕ → Bool) → ((i : ℕ) → p i ≡ q i) �
 all-same zero p q f = refl
 all-same (suc k) p q f = ap₂ (λ a b. a && b) (all-same k p q f) (f k)
 
-pub induces-same : (adj : Adjacency) (p q : ℕ → ℕ → Bool) (xs : List ℕ) → ((i j : ℕ) → p i j ≡ q i j) → induces adj p xs ≡ induces adj q xs
+pub induces-same :
+    (adj : Adjacency) (p q : ℕ → ℕ → Bool) (xs : List ℕ) → ((i j : ℕ) → p i j ≡ q i j) →
+    induces adj p xs ≡ induces adj q xs
 unfolding induces
 induces-same adj p q xs f =
     all-same (length xs) (λ j. allBelow j (λ i. pair p i j)) (λ j. allBelow j (λ i. pair q i j))
-    (λ j. all-same j (λ i. pair p i j) (λ i. pair q i j) (λ i. ap (λ b. not (eqb (atomAt xs i) (atomAt xs j)) && Bool·beq (adj (atomAt xs i) (atomAt xs j)) b) (f i j)))
+    (λ j. all-same j (λ i. pair p i j) (λ i. pair q i j)
+    (λ i. ap (λ b. not (eqb (atomAt xs i) (atomAt xs j)) && Bool·beq (adj (atomAt xs i) (atomAt xs j)) b) (f i j)))
   where
     pair : (ℕ → ℕ → Bool) → ℕ → ℕ → Bool
     pair joined i j = not (eqb (atomAt xs i) (atomAt xs j)) && Bool·beq (adj (atomAt xs i) (atomAt xs j)) (joined i j)

@@ -1,5 +1,7 @@
--- Rings and paths by their shape: a ring is s followed by a chordless list a .. b above s, of which s meets only a and b, with a below b;
--- a path is a chordless list from s to t. The places of the tests are counted here once, so that proofs on lists need not.
+-- Rings and paths by their shape: a ring is s followed by a chordless
+-- list a .. b above s, of which s meets only a and b, with a below b;
+-- a path is a chordless list from s to t. The places of the
+-- tests are counted here once, so that proofs on lists need not.
 use Prim.Native.Nat.{ℕ, zero, suc, _-_, _≤_, _<_}
 use mathlib.Core.Path.{_≡_, refl, sym, ap, _∙_}
 use mathlib.Core.Bool.{Bool, true, false, _&&_, _||_}
@@ -72,11 +74,19 @@ module _ (n : ℕ) (adj : Adjacency) (s a : ℕ) (m : List ℕ) (b : ℕ) where
       let k : length whole ≡ suc (suc (suc (length m))) = size in
       record {
         least = r .range 0 (omega arith) .0;
-        above = all-of (a ∷ m ++ b ∷ []) (λ i h. (r .lowest (suc i) (omega arith) (omega arith), r .range (suc i) (omega arith) .1));
-        chain = chordless-facts adj (a ∷ m ++ b ∷ []) (λ i j h g. r .distinct (suc i) (suc j) (omega arith) (omega arith)) (λ i j h g. r .bonds (suc i) (suc j) (omega arith) (omega arith) ∙ along-tail (length whole) i j);
+        above =
+            all-of (a ∷ m ++ b ∷ [])
+            (λ i h. (r .lowest (suc i) (omega arith) (omega arith), r .range (suc i) (omega arith) .1));
+        chain =
+            chordless-facts adj (a ∷ m ++ b ∷ []) (λ i j h g. r .distinct (suc i) (suc j) (omega arith) (omega arith))
+            (λ i j h g. r .bonds (suc i) (suc j) (omega arith) (omega arith) ∙ along-tail (length whole) i j);
         opens = r .bonds 0 1 (omega arith) (omega arith) ∙ along-first (length whole) 1 refl;
-        inner = all-of m (λ i h. ap (adj s) (sym (at-inner i h)) ∙ r .bonds 0 (suc (suc i)) (omega arith) (omega arith) ∙ along-inner (length whole) (suc (suc i)) (omega arith) (omega arith));
-        closes = ap (adj s) (sym at-last) ∙ r .bonds 0 (suc (suc (length m))) (omega arith) (omega arith) ∙ along-last (length whole) (suc (suc (length m))) (omega arith);
+        inner =
+            all-of m (λ i h. ap (adj s) (sym (at-inner i h)) ∙ r .bonds 0 (suc (suc i)) (omega arith) (omega arith) ∙
+            along-inner (length whole) (suc (suc i)) (omega arith) (omega arith));
+        closes =
+            ap (adj s) (sym at-last) ∙ r .bonds 0 (suc (suc (length m))) (omega arith) (omega arith) ∙
+            along-last (length whole) (suc (suc (length m))) (omega arith);
         oriented = omega (arith, r .oriented, last-snoc (s ∷ a ∷ m) b);
       }
 
@@ -93,7 +103,8 @@ module _ (n : ℕ) (adj : Adjacency) (s a : ℕ) (m : List ℕ) (b : ℕ) where
     shape-distinct zero zero h g = absurd (not-suc-le-zero h)
     shape-distinct zero (suc j) h g = let f = shape-lowest (suc j) (omega arith) g in omega arith
     shape-distinct (suc i) zero h g = absurd (not-suc-le-zero h)
-    shape-distinct (suc i) (suc j) h g = chordless-distinct adj (a ∷ m ++ b ∷ []) (r .chain) i j (le-of-suc-le-suc h) (le-of-suc-le-suc g)
+    shape-distinct (suc i) (suc j) h g =
+        chordless-distinct adj (a ∷ m ++ b ∷ []) (r .chain) i j (le-of-suc-le-suc h) (le-of-suc-le-suc g)
 
     shape-bonds : Bonds adj (alongRing (length whole)) whole
     shape-bonds zero zero h g = absurd (not-suc-le-zero h)
@@ -101,10 +112,17 @@ module _ (n : ℕ) (adj : Adjacency) (s a : ℕ) (m : List ℕ) (b : ℕ) where
     shape-bonds zero (suc (suc j)) h g = split (ℕ-discrete j (length m))
       where
         split : Dec (j ≡ length m) → adj s (atomAt whole (suc (suc j))) ≡ alongRing (length whole) 0 (suc (suc j))
-        split (yes e) = ap (adj s) (getD-at m b [] 0 j (sym e)) ∙ r .closes ∙ sym (along-last (length whole) (suc (suc j)) (omega (arith, size)))
-        split (no e) = let l : j < length m = omega (arith, size) in ap (adj s) (at-inner j l) ∙ all-at (r .inner) j l ∙ sym (along-inner (length whole) (suc (suc j)) (omega arith) (omega (arith, size)))
+        split (yes e) =
+            ap (adj s) (getD-at m b [] 0 j (sym e)) ∙ r .closes ∙
+            sym (along-last (length whole) (suc (suc j)) (omega (arith, size)))
+        split (no e) =
+            let l : j < length m = omega (arith, size) in
+            ap (adj s) (at-inner j l) ∙ all-at (r .inner) j l ∙
+            sym (along-inner (length whole) (suc (suc j)) (omega arith) (omega (arith, size)))
     shape-bonds (suc i) zero h g = absurd (not-suc-le-zero h)
-    shape-bonds (suc i) (suc j) h g = chordless-bonds adj (a ∷ m ++ b ∷ []) (r .chain) i j (le-of-suc-le-suc h) (le-of-suc-le-suc g) ∙ sym (along-tail (length whole) i j)
+    shape-bonds (suc i) (suc j) h g =
+        chordless-bonds adj (a ∷ m ++ b ∷ []) (r .chain) i j (le-of-suc-le-suc h) (le-of-suc-le-suc g) ∙
+        sym (along-tail (length whole) i j)
 
     facts-of : Ring n adj whole
     facts-of =

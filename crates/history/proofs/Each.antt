@@ -30,7 +30,9 @@ pub rings-start : (R : Molecule) → wellFormed R ≡ true → startRings R ≡ 
 unfolding startRings start
 rings-start R good = rw good
 
-pub paths-start : (R : Molecule) (s t : ℕ) → wellFormed R ≡ true → endsKept (R .atoms) s t ≡ true → startPaths R s t ≡ acceptedSearch (start 1 s t .search)
+pub paths-start :
+    (R : Molecule) (s t : ℕ) → wellFormed R ≡ true → endsKept (R .atoms) s t ≡ true →
+    startPaths R s t ≡ acceptedSearch (start 1 s t .search)
 unfolding startPaths start endsKept
 paths-start R s t good ends =
     let a : Bool = isAtom (R .atoms) s && isAtom (R .atoms) t in
@@ -46,10 +48,13 @@ paths-kept : (n s t : ℕ) → endsKept n s t ≡ true → kindKept n 1 s t ≡ 
 unfolding kindKept
 paths-kept n s t ends = rw ends
 
-pub rings-demand3 : (R : Molecule) → wellFormed R ≡ true → (calls : List Call) → History R (start 0 0 0) calls → Demand R 0 0 0 calls (standing (start 0 0 0) calls)
+pub rings-demand3 :
+    (R : Molecule) → wellFormed R ≡ true → (calls : List Call) → History R (start 0 0 0) calls →
+    Demand R 0 0 0 calls (standing (start 0 0 0) calls)
 rings-demand3 R good = demand3 R 0 0 0 good (rings-kept (R .atoms))
 
 pub paths-demand3 :
-    (R : Molecule) (s t : ℕ) → wellFormed R ≡ true → endsKept (R .atoms) s t ≡ true → (calls : List Call) → History R (start 1 s t) calls →
+    (R : Molecule) (s t : ℕ) → wellFormed R ≡ true → endsKept (R .atoms) s t ≡ true → (calls : List Call) →
+    History R (start 1 s t) calls →
     Demand R 1 s t calls (standing (start 1 s t) calls)
 paths-demand3 R s t good ends = demand3 R 1 s t good (paths-kept (R .atoms) s t ends)

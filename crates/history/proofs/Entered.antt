@@ -27,11 +27,18 @@ use Rattle.history.specs.Calls.{Standing}
 
 -- what the run of a state returns for a search of a kind, s and t
 abbrev pub ranAt : ℕ → ℕ → ℕ → Outcome → Ran
-ranAt kind s t o = record { ended = Stopped (o .stop); search = searchAt kind s t (o .state); used = length (o .bytes); made = o .made }
+ranAt kind s t o =
+    record {
+      ended = Stopped (o .stop);
+      search = searchAt kind s t (o .state);
+      used = length (o .bytes);
+      made = o .made;
+    }
 
 -- what stands after it
 abbrev pub movedBy : ℕ → ℕ → ℕ → Standing → Outcome → Standing
-movedBy kind s t x o = record { search = searchAt kind s t (o .state); sheet = x .sheet ++ o .bytes; made = x .made + o .made }
+movedBy kind s t x o =
+    record { search = searchAt kind s t (o .state); sheet = x .sheet ++ o .bytes; made = x .made + o .made }
 
 pub atoms-most : (mol : Molecule) → wellFormed mol ≡ true → mol .atoms ≤ 128
 unfolding wellFormed
@@ -41,13 +48,19 @@ atoms-most mol e =
     let c = symmetric (mol .rows) in
     let d = loopless (mol .rows) in
     let w = within (mol .atoms) (mol .rows) in
-    leb-true (mol .atoms) 128 (and-left a b (and-left (a && b) c (and-left (a && b && c) d (and-left (a && b && c && d) w (and-left (a && b && c && d && w) _ e)))))
+    leb-true (mol .atoms) 128
+    (and-left a b
+    (and-left (a && b) c
+    (and-left (a && b && c) d (and-left (a && b && c && d) w (and-left (a && b && c && d && w) _ e)))))
 
 pub family-atoms : (mol : Molecule) (kind s t : ℕ) → familyOf mol kind s t .atoms ≡ mol .atoms
 unfolding familyOf
 family-atoms mol kind s t = go (eqb kind 0)
   where
-    go : (b : Bool) → cond b (rings (mol .atoms) (bonded (mol .atoms) (mol .rows))) (paths (mol .atoms) (bonded (mol .atoms) (mol .rows)) s t) .atoms ≡ mol .atoms
+    go :
+        (b : Bool) →
+        cond b (rings (mol .atoms) (bonded (mol .atoms) (mol .rows)))
+        (paths (mol .atoms) (bonded (mol .atoms) (mol .rows)) s t) .atoms ≡ mol .atoms
     go true = refl
     go false = refl
 
@@ -55,27 +68,46 @@ family-atoms mol kind s t = go (eqb kind 0)
 pub prefix-size : (kind s t : ℕ) (st : State) → length (st .stack) ≤ 128 → length (searchAt kind s t st .prefix) ≡ 128
 unfolding searchAt held
 prefix-size kind s t st h =
-    omega (arith, length-append (reverse (st .stack)) (replicate (128 - length (reverse (st .stack))) 0), length-replicate {A = ℕ} (128 - length (reverse (st .stack))) 0, length-reverse (st .stack))
+    omega (
+      arith,
+      length-append (reverse (st .stack)) (replicate (128 - length (reverse (st .stack))) 0),
+      length-replicate {A = ℕ} (128 - length (reverse (st .stack))) 0,
+      length-reverse (st .stack),
+    )
 
 module _ (R : Molecule) (good : wellFormed R ≡ true) where
-  run-answers : (q : Search) (budget : ℕ) (out : List ℕ) → restorable R q ≡ true → runSearch R q budget out ≡ ran q (outcome R q budget out)
+  run-answers :
+      (q : Search) (budget : ℕ) (out : List ℕ) → restorable R q ≡ true →
+      runSearch R q budget out ≡ ran q (outcome R q budget out)
   unfolding runSearch
   run-answers q budget out e = rw (good, e)
 
-  run-wrote : (q : Search) (budget : ℕ) (out : List ℕ) → restorable R q ≡ true → take (length (outcome R q budget out .bytes)) (runOutput R q budget out) ≡ outcome R q budget out .bytes
+  run-wrote :
+      (q : Search) (budget : ℕ) (out : List ℕ) → restorable R q ≡ true →
+      take (length (outcome R q budget out .bytes)) (runOutput R q budget out) ≡ outcome R q budget out .bytes
   unfolding runOutput
-  run-wrote q budget out e = rw (good, e) (take-append-seam (outcome R q budget out .bytes) (drop (length (outcome R q budget out .bytes)) out))
+  run-wrote q budget out e =
+      rw (good, e)
+      (take-append-seam (outcome R q budget out .bytes) (drop (length (outcome R q budget out .bytes)) out))
 
-  pub save-at : (q : Search) (buffer : List ℕ) → restorable R q ≡ true → saveAnswer R q buffer ≡ cond (leb (length (markText R q)) (length buffer)) (Written (length (markText R q))) (Refused refusal.MarkRoom)
+  pub save-at :
+      (q : Search) (buffer : List ℕ) → restorable R q ≡ true →
+      saveAnswer R q buffer ≡ cond (leb (length (markText R q)) (length buffer)) (Written (length (markText R q)))
+      (Refused refusal.MarkRoom)
   unfolding saveAnswer
   save-at q buffer e = rw (good, e)
 
-  pub save-wrote : (q : Search) (buffer : List ℕ) → restorable R q ≡ true → length (markText R q) ≤ length buffer → saveOutput R q buffer ≡ markText R q ++ drop (length (markText R q)) buffer
+  pub save-wrote :
+      (q : Search) (buffer : List ℕ) → restorable R q ≡ true → length (markText R q) ≤ length buffer →
+      saveOutput R q buffer ≡ markText R q ++ drop (length (markText R q)) buffer
   unfolding saveOutput
   save-wrote q buffer e h = rw (save-at q buffer e, le-leb (length (markText R q)) (length buffer) h)
 
-  module _ (kind s t : ℕ) (st : State) (back : stateOf (searchAt kind s t st) ≡ st) (passes : restorable R (searchAt kind s t st) ≡ true) where
-    outcome-at : (budget : ℕ) (out : List ℕ) → outcome R (searchAt kind s t st) budget out ≡ run (familyOf R kind s t) budget (length out) st
+  module _ (kind s t : ℕ) (st : State) (back : stateOf (searchAt kind s t st) ≡ st)
+      (passes : restorable R (searchAt kind s t st) ≡ true) where
+    outcome-at :
+        (budget : ℕ) (out : List ℕ) → outcome R (searchAt kind s t st) budget out ≡ run (familyOf R kind s t) budget
+        (length out) st
     unfolding searchAt
     outcome-at budget out = ap (run (familyOf R kind s t) budget (length out)) back
 
@@ -83,7 +115,9 @@ module _ (R : Molecule) (good : wellFormed R ≡ true) where
     unfolding searchAt
     ran-at o = refl
 
-    pub run-at : (budget : ℕ) (out : List ℕ) → runSearch R (searchAt kind s t st) budget out ≡ ranAt kind s t (run (familyOf R kind s t) budget (length out) st)
+    pub run-at :
+        (budget : ℕ) (out : List ℕ) → runSearch R (searchAt kind s t st) budget out ≡
+        ranAt kind s t (run (familyOf R kind s t) budget (length out) st)
     run-at budget out =
         run-answers (searchAt kind s t st) budget out passes
         ∙ ran-at (outcome R (searchAt kind s t st) budget out)
@@ -91,5 +125,6 @@ module _ (R : Molecule) (good : wellFormed R ≡ true) where
 
     pub wrote-at :
         (budget : ℕ) (out : List ℕ) →
-        take (length (run (familyOf R kind s t) budget (length out) st .bytes)) (runOutput R (searchAt kind s t st) budget out) ≡ run (familyOf R kind s t) budget (length out) st .bytes
+        take (length (run (familyOf R kind s t) budget (length out) st .bytes))
+        (runOutput R (searchAt kind s t st) budget out) ≡ run (familyOf R kind s t) budget (length out) st .bytes
     wrote-at budget out = rw (outcome-at budget out) at (run-wrote (searchAt kind s t st) budget out passes)

@@ -1,5 +1,7 @@
--- Calls from any accepted mark list the members that follow its place, first to last, and once done exactly those (`FromMark`).
--- What stands is the search of the mark after the trials made (`Reached`), and of that the theory of valid searches says the rest.
+-- Calls from any accepted mark list the members that follow its
+-- place, first to last, and once done exactly those (`FromMark`).
+-- What stands is the search of the mark after the trials made
+-- (`Reached`), and of that the theory of valid searches says the rest.
 use Prim.Native.Nat.{ℕ, _+_, _-_, _≤_}
 use native.Mathlib.Omega.{arith}
 use mathlib.Core.Path.{_≡_, refl, sym, ap, _∙_}
@@ -40,7 +42,8 @@ follows-exactly p c w = (λ e. there (or-either (goesOn p c w) (past p w) e), ba
     back (inl e) = or-left (goesOn p c w) (past p w) (goesOn-exactly p c w .1 e)
     back (inr e) = or-right (goesOn p c w) (past p w) (past-exactly p w .1 e)
 
-module _ (R : Molecule) (q : Search) (good : wellFormed R ≡ true) (passes : restorable R q ≡ true) (full : length (q .prefix) ≡ 128) where
+module _ (R : Molecule) (q : Search) (good : wellFormed R ≡ true) (passes : restorable R q ≡ true)
+    (full : length (q .prefix) ≡ 128) where
   lawful : Lawful (family R q)
   lawful = family-lawful R (q .kind) (q .s) (q .t)
 
@@ -63,30 +66,44 @@ module _ (R : Molecule) (q : Search) (good : wellFormed R ≡ true) (passes : re
   list-of : FollowingList R q
   unfolding followers
   list-of =
-      let rises = ascending-keep (follows (beginning q) (q .next)) (members (family R q)) (list-ascending (family R q)) in
-      record { ascending = rises; once = ascending-once (keep (follows (beginning q) (q .next)) (members (family R q))) rises; exactly = λ w. (there w, back w) }
+      let rises = ascending-keep (follows (beginning q) (q .next)) (members (family R q))
+      (list-ascending (family R q)) in
+      record {
+        ascending = rises;
+        once = ascending-once (keep (follows (beginning q) (q .next)) (members (family R q))) rises;
+        exactly = λ w. (there w, back w);
+      }
     where
-      there : (w : List ℕ) → List·Memᴰ w (keep (follows (beginning q) (q .next)) (members (family R q))) → (family R q .member w ≡ true) × Follows (beginning q) (q .next) w
+      there :
+          (w : List ℕ) → List·Memᴰ w (keep (follows (beginning q) (q .next)) (members (family R q))) →
+          (family R q .member w ≡ true) × Follows (beginning q) (q .next) w
       there w m =
           let f = keep-mem (follows (beginning q) (q .next)) (members (family R q)) m in
           (list-exactly (family R q) lawful w .0 (f .0), follows-exactly (beginning q) (q .next) w .0 (f .1))
 
-      back : (w : List ℕ) → (family R q .member w ≡ true) × Follows (beginning q) (q .next) w → List·Memᴰ w (keep (follows (beginning q) (q .next)) (members (family R q)))
-      back w f = mem-keep (follows (beginning q) (q .next)) (list-exactly (family R q) lawful w .1 (f .0)) (follows-exactly (beginning q) (q .next) w .1 (f .1))
+      back :
+          (w : List ℕ) → (family R q .member w ≡ true) × Follows (beginning q) (q .next) w →
+          List·Memᴰ w (keep (follows (beginning q) (q .next)) (members (family R q)))
+      back w f =
+          mem-keep (follows (beginning q) (q .next)) (list-exactly (family R q) lawful w .1 (f .0))
+          (follows-exactly (beginning q) (q .next) w .1 (f .1))
 
   -- the calls begin with the search at its state
   pub first-reached : Reached R (q .kind) (q .s) (q .t) (stateOf q) false 0 (restoredStart q)
   first-reached =
-      reached-start R (q .kind) (q .s) (q .t) good (restorable-facts R q passes .kind-kept) (stateOf q) sound (restorable-bounded R q passes) (restoredStart q)
+      reached-start R (q .kind) (q .s) (q .t) good (restorable-facts R q passes .kind-kept) (stateOf q) sound
+      (restorable-bounded R q passes) (restoredStart q)
       (ap restoredStart (sym (search-state R q passes full)))
 
-  counts-are : (stateOf q .trials ≡ q .trials) × (stateOf q .extensions ≡ q .extensions) × (stateOf q .listed ≡ q .listed)
+  counts-are :
+      (stateOf q .trials ≡ q .trials) × (stateOf q .extensions ≡ q .extensions) × (stateOf q .listed ≡ q .listed)
   unfolding stateOf
   counts-are = (refl, refl, refl)
 
   module _ (said : Bool) (k : ℕ) (x : Standing) (r : Reached R (q .kind) (q .s) (q .t) (stateOf q) said k x) where
     abbrev counts : Parts (q .kind) (q .s) (q .t) (stateAt R (q .kind) (q .s) (q .t) (stateOf q) k) (x .search)
-    counts = parts-of R (q .kind) (q .s) (q .t) good (restorable-facts R q passes .kind-kept) (stateOf q) sound said k x r
+    counts =
+        parts-of R (q .kind) (q .s) (q .t) good (restorable-facts R q passes .kind-kept) (stateOf q) sound said k x r
 
     -- the trials listed the first members that follow
     listing : emitted (family R q) k (stateOf q) ≡ take (length (emitted (family R q) k (stateOf q))) (followers R q)
@@ -98,7 +115,8 @@ module _ (R : Molecule) (q : Search) (good : wellFormed R ≡ true) (passes : re
 
     first : x .sheet ≡ records (take (x .search .listed - q .listed) (followers R q))
     first =
-        let as-many : x .search .listed - q .listed ≡ length (emitted (family R q) k (stateOf q)) = omega (arith, risen) in
+        let as-many : x .search .listed - q .listed ≡ length (emitted (family R q) k (stateOf q)) =
+        omega (arith, risen) in
         rw as-many (r .sheet-is ∙ ap records listing)
 
     most : x .search .listed ≤ q .listed + length (followers R q)
@@ -113,20 +131,31 @@ module _ (R : Molecule) (q : Search) (good : wellFormed R ≡ true) (passes : re
     whole : isDone (family R q .atoms) (stateAt R (q .kind) (q .s) (q .t) (stateOf q) k) ≡ true → WholeRest R q x
     whole d = record {
       whole-sheet = r .sheet-is ∙ ap records (mark-complete (family R q) lawful k (stateOf q) sound d ∙ following-is);
-      whole-listed = rw (counts-are .2, following-is) at (counts .listed-is ∙ mark-listed (family R q) lawful k (stateOf q) sound d);
-      whole-extensions = rw (counts-are .1, place, next-is) at (counts .extensions-is ∙ mark-extensions (family R q) lawful k (stateOf q) sound d);
+      whole-listed =
+          rw (counts-are .2, following-is) at
+          (counts .listed-is ∙ mark-listed (family R q) lawful k (stateOf q) sound d);
+      whole-extensions =
+          rw (counts-are .1, place, next-is) at
+          (counts .extensions-is ∙ mark-extensions (family R q) lawful k (stateOf q) sound d);
     }
 
     trials-risen : x .search .trials ≡ q .trials + x .made
-    trials-risen = rw (counts-are .0) at (trials-stand R (q .kind) (q .s) (q .t) good (restorable-facts R q passes .kind-kept) (stateOf q) sound said k x r)
+    trials-risen =
+        rw (counts-are .0) at
+        (trials-stand R (q .kind) (q .s) (q .t) good (restorable-facts R q passes .kind-kept)
+        (stateOf q) sound said k x r)
 
-  from-search : (calls : List Call) → History R (restoredStart q) calls → FromMark R q calls (standing (restoredStart q) calls)
+  from-search :
+      (calls : List Call) → History R (restoredStart q) calls → FromMark R q calls (standing (restoredStart q) calls)
   from-search calls h =
       let kinds = restorable-facts R q passes .kind-kept in
-      let p = list-reached R (q .kind) (q .s) (q .t) good kinds (stateOf q) sound calls (restoredStart q) h false 0 first-reached in
+      let p = list-reached R (q .kind) (q .s) (q .t) good kinds (stateOf q) sound calls
+      (restoredStart q) h false 0 first-reached in
       by kinds (p .0) (standing (restoredStart q) calls) (p .1)
     where
-      by : kindKept (R .atoms) (q .kind) (q .s) (q .t) ≡ true → (k : ℕ) (x : Standing) → Reached R (q .kind) (q .s) (q .t) (stateOf q) (saidDone calls) k x → FromMark R q calls x
+      by :
+          kindKept (R .atoms) (q .kind) (q .s) (q .t) ≡ true → (k : ℕ) (x : Standing) →
+          Reached R (q .kind) (q .s) (q .t) (stateOf q) (saidDone calls) k x → FromMark R q calls x
       by kinds k x r = record {
         search-is = search-stands R (q .kind) (q .s) (q .t) good kinds (stateOf q) sound (saidDone calls) k x r;
         following-list = list-of;
@@ -134,13 +163,17 @@ module _ (R : Molecule) (q : Search) (good : wellFormed R ≡ true) (passes : re
         listed-least = omega (arith, risen (saidDone calls) k x r);
         listed-most = most (saidDone calls) k x r;
         trials-sum = trials-risen (saidDone calls) k x r;
-        done-whole = λ e. whole (saidDone calls) k x r (done-state R (q .kind) (q .s) (q .t) good kinds (stateOf q) sound (saidDone calls) k x r e);
+        done-whole =
+            λ e. whole (saidDone calls) k x r
+            (done-state R (q .kind) (q .s) (q .t) good kinds (stateOf q) sound (saidDone calls) k x r e);
         said-done = said-stands R (q .kind) (q .s) (q .t) good kinds (stateOf q) sound (saidDone calls) k x r;
         goes-on = goes-on R (q .kind) (q .s) (q .t) good kinds (stateOf q) sound (saidDone calls) k x r;
       }
 
 -- Over every mark that a restore accepts, and every list of calls from it
-pub from-mark : (R : Molecule) (mark : List ℕ) (q : Search) → restoreMark R mark ≡ acceptedSearch q → (calls : List Call) → History R (restoredStart q) calls → FromMark R q calls (standing (restoredStart q) calls)
+pub from-mark :
+    (R : Molecule) (mark : List ℕ) (q : Search) → restoreMark R mark ≡ acceptedSearch q → (calls : List Call) →
+    History R (restoredStart q) calls → FromMark R q calls (standing (restoredStart q) calls)
 from-mark R mark q e =
     let f = restored-restorable R mark q e in
     from-search R q (f .0) (f .1) (f .2)

@@ -1,5 +1,7 @@
--- What stands after any list of calls is the search that they began with after as many trials as were made, and the sheet what those trials list.
--- By induction on the list: a run makes some number of trials more, every other call leaves all as it was. The fresh search is one beginning, what a mark restores another.
+-- What stands after any list of calls is the search that they began with
+-- after as many trials as were made, and the sheet what those trials list.
+-- By induction on the list: a run makes some number of trials more, every other call
+-- leaves all as it was. The fresh search is one beginning, what a mark restores another.
 use Prim.Native.Nat.{ℕ, _+_, _≤_}
 use native.Mathlib.Omega.{arith}
 use mathlib.Core.Path.{_≡_, refl, sym, ap, _∙_, subst}
@@ -71,11 +73,14 @@ after-save x mol q buffer = cond-same (refused (saves mol q buffer)) x
 
 refused-says : (call : Call) → refused call ≡ true → saysDone call ≡ false
 unfolding refused saysDone
-refused-says (runs mol q budget out) e = false-of (endedDone (runSearch mol q budget out .ended)) (λ d. done-accepted (runSearch mol q budget out .ended) d e)
+refused-says (runs mol q budget out) e =
+    false-of (endedDone (runSearch mol q budget out .ended))
+    (λ d. done-accepted (runSearch mol q budget out .ended) d e)
 refused-says (saves mol q buffer) e = refl
 refused-says (restores mol mark) e = refl
 
-module _ (R : Molecule) (kind s t : ℕ) (good : wellFormed R ≡ true) (kept : kindKept (R .atoms) kind s t ≡ true) (origin : State) (sound : Valid (familyOf R kind s t) origin) where
+module _ (R : Molecule) (kind s t : ℕ) (good : wellFormed R ≡ true) (kept : kindKept (R .atoms) kind s t ≡ true)
+    (origin : State) (sound : Valid (familyOf R kind s t) origin) where
   pub lawful : Lawful (familyOf R kind s t)
   lawful = family-lawful R kind s t
 
@@ -83,15 +88,26 @@ module _ (R : Molecule) (kind s t : ℕ) (good : wellFormed R ≡ true) (kept : 
   valid-at k = steps-valid (familyOf R kind s t) lawful k origin sound
 
   short-of : (st : State) → Valid (familyOf R kind s t) st → length (st .stack) ≤ 128
-  short-of st v = omega (arith, valid-short (familyOf R kind s t) lawful st v, family-atoms R kind s t, atoms-most R good)
+  short-of st v =
+      omega (arith, valid-short (familyOf R kind s t) lawful st v, family-atoms R kind s t, atoms-most R good)
 
   pub back-of : (st : State) → Valid (familyOf R kind s t) st → stateOf (searchAt kind s t st) ≡ st
   back-of st v = state-search kind s t st
 
   -- at the start
-  pub reached-start : Bounded origin → (x : Standing) → x ≡ restoredStart (searchAt kind s t origin) → Reached R kind s t origin false 0 x
+  pub reached-start :
+      Bounded origin → (x : Standing) → x ≡ restoredStart (searchAt kind s t origin) →
+      Reached R kind s t origin false 0 x
   unfolding restoredStart steps emitted records
-  reached-start b x e = rw e (record { search-is = refl; sheet-is = refl; made-is = refl; counted = omega arith; bounded = b; finished = λ e. absurd (clash false e refl) })
+  reached-start b x e =
+      rw e (record {
+        search-is = refl;
+        sheet-is = refl;
+        made-is = refl;
+        counted = omega arith;
+        bounded = b;
+        finished = λ e. absurd (clash false e refl);
+      })
 
   module _ (said : Bool) (k : ℕ) (x : Standing) (r : Reached R kind s t origin said k x) where
     pub passes-at : restorable R (searchAt kind s t (stateAt R kind s t origin k)) ≡ true
@@ -104,22 +120,35 @@ module _ (R : Molecule) (kind s t : ℕ) (good : wellFormed R ≡ true) (kept : 
     pub reached-restores : restoreMark R (markText R (x .search)) ≡ acceptedSearch (x .search)
     reached-restores =
         saved-restores R (x .search) good reached-restorable
-        (rw (r .search-is) (prefix-size kind s t (stateAt R kind s t origin k) (short-of (stateAt R kind s t origin k) (valid-at k))))
+        (rw (r .search-is)
+        (prefix-size kind s t (stateAt R kind s t origin k) (short-of (stateAt R kind s t origin k) (valid-at k))))
 
     pub reached-state : stateOf (x .search) ≡ stateAt R kind s t origin k
     reached-state = rw (r .search-is) (back-of (stateAt R kind s t origin k) (valid-at k))
 
     -- a run of it is the run of the state
-    pub reached-runs : (budget : ℕ) (out : List ℕ) → runSearch R (x .search) budget out ≡ ranAt kind s t (run (familyOf R kind s t) budget (length out) (stateAt R kind s t origin k))
-    reached-runs budget out = rw (r .search-is) (run-at R good kind s t (stateAt R kind s t origin k) (back-of (stateAt R kind s t origin k) (valid-at k)) passes-at budget out)
+    pub reached-runs :
+        (budget : ℕ) (out : List ℕ) →
+        runSearch R (x .search) budget out ≡
+        ranAt kind s t (run (familyOf R kind s t) budget (length out) (stateAt R kind s t origin k))
+    reached-runs budget out =
+        rw (r .search-is)
+        (run-at R good kind s t (stateAt R kind s t origin k)
+        (back-of (stateAt R kind s t origin k) (valid-at k)) passes-at budget out)
 
     reached-wrote :
         (budget : ℕ) (out : List ℕ) →
-        take (length (run (familyOf R kind s t) budget (length out) (stateAt R kind s t origin k) .bytes)) (runOutput R (x .search) budget out)
+        take (length (run (familyOf R kind s t) budget (length out) (stateAt R kind s t origin k) .bytes))
+        (runOutput R (x .search) budget out)
         ≡ run (familyOf R kind s t) budget (length out) (stateAt R kind s t origin k) .bytes
-    reached-wrote budget out = rw (r .search-is) (wrote-at R good kind s t (stateAt R kind s t origin k) (back-of (stateAt R kind s t origin k) (valid-at k)) passes-at budget out)
+    reached-wrote budget out =
+        rw (r .search-is)
+        (wrote-at R good kind s t (stateAt R kind s t origin k)
+        (back-of (stateAt R kind s t origin k) (valid-at k)) passes-at budget out)
 
-    pub after-run : (budget : ℕ) (out : List ℕ) → afterCall x (runs R (x .search) budget out) ≡ movedBy kind s t x (run (familyOf R kind s t) budget (length out) (stateAt R kind s t origin k))
+    pub after-run :
+        (budget : ℕ) (out : List ℕ) → afterCall x (runs R (x .search) budget out) ≡
+        movedBy kind s t x (run (familyOf R kind s t) budget (length out) (stateAt R kind s t origin k))
     unfolding afterCall refused afterAccepted
     after-run budget out = rw (reached-runs budget out, reached-wrote budget out)
 
@@ -130,7 +159,8 @@ module _ (R : Molecule) (kind s t : ℕ) (good : wellFormed R ≡ true) (kept : 
 
     -- the outcome of a run is reached too
     moved-reached :
-        (budget room : ℕ) (o : Outcome) → RunFacts (familyOf R kind s t) budget room (stateAt R kind s t origin k) o → Bounded (o .state) → (o .stop ≡ Done → isDone (familyOf R kind s t .atoms) (o .state) ≡ true) →
+        (budget room : ℕ) (o : Outcome) → RunFacts (familyOf R kind s t) budget room (stateAt R kind s t origin k) o →
+        Bounded (o .state) → (o .stop ≡ Done → isDone (familyOf R kind s t .atoms) (o .state) ≡ true) →
         Reached R kind s t origin (said || isDoneStop (o .stop)) (k + o .made) (movedBy kind s t x o)
     moved-reached budget room o w b d = record {
       search-is = ap (searchAt kind s t) state-is;
@@ -144,39 +174,62 @@ module _ (R : Molecule) (kind s t : ℕ) (good : wellFormed R ≡ true) (kept : 
         state-is : o .state ≡ stateAt R kind s t origin (k + o .made)
         state-is = w .stepped ∙ sym (steps-composed (familyOf R kind s t) k (o .made) origin)
 
-        by : (said ≡ true) ⊎ (isDoneStop (o .stop) ≡ true) → isDone (familyOf R kind s t .atoms) (stateAt R kind s t origin (k + o .made)) ≡ true
-        by (inl e) = rw (← state-is, w .stepped, steps-stay (familyOf R kind s t) (o .made) (stateAt R kind s t origin k) (r .finished e)) (r .finished e)
+        by :
+            (said ≡ true) ⊎ (isDoneStop (o .stop) ≡ true) →
+            isDone (familyOf R kind s t .atoms) (stateAt R kind s t origin (k + o .made)) ≡ true
+        by (inl e) =
+            rw (
+              ← state-is,
+              w .stepped,
+              steps-stay (familyOf R kind s t) (o .made) (stateAt R kind s t origin k)
+                  (r .finished e),
+            ) (r .finished e)
         by (inr e) = rw (← state-is) (d (stop-done (o .stop) e))
 
     -- so is what stands after a run handed the search as it stands
-    run-reached : (budget : ℕ) (out : List ℕ) → (k′ : ℕ) × Reached R kind s t origin (said || saysDone (runs R (x .search) budget out)) k′ (afterCall x (runs R (x .search) budget out))
+    run-reached :
+        (budget : ℕ) (out : List ℕ) →
+        (k′ : ℕ) × Reached R kind s t origin (said || saysDone (runs R (x .search) budget out)) k′
+        (afterCall x (runs R (x .search) budget out))
     unfolding saysDone
     run-reached budget out = (
       k + run (familyOf R kind s t) budget (length out) (stateAt R kind s t origin k) .made,
       rw (after-run budget out, reached-runs budget out)
-          (moved-reached budget (length out) (run (familyOf R kind s t) budget (length out) (stateAt R kind s t origin k))
+          (moved-reached budget (length out)
+          (run (familyOf R kind s t) budget (length out) (stateAt R kind s t origin k))
           (run-outcome (familyOf R kind s t) budget (length out) (stateAt R kind s t origin k))
           (run-keeps-bounded (familyOf R kind s t) budget (length out) (stateAt R kind s t origin k) (r .bounded))
           (run-done (familyOf R kind s t) budget (length out) (stateAt R kind s t origin k))),
     )
 
-    same-reached : (call : Call) → afterCall x call ≡ x → saysDone call ≡ false → (k′ : ℕ) × Reached R kind s t origin (said || saysDone call) k′ (afterCall x call)
+    same-reached :
+        (call : Call) → afterCall x call ≡ x → saysDone call ≡ false →
+        (k′ : ℕ) × Reached R kind s t origin (said || saysDone call) k′ (afterCall x call)
     same-reached call e f = (k, rw (e, f, or-false said) r)
 
-    handed-reached : (call : Call) → Handed R (x .search) call → (k′ : ℕ) × Reached R kind s t origin (said || saysDone call) k′ (afterCall x call)
+    handed-reached :
+        (call : Call) → Handed R (x .search) call →
+        (k′ : ℕ) × Reached R kind s t origin (said || saysDone call) k′ (afterCall x call)
     unfolding saysDone
     handed-reached (runs mol p budget out) h = rw (h .0, h .1) (run-reached budget out)
     handed-reached (saves mol p buffer) h = same-reached (saves mol p buffer) (after-save x mol p buffer) refl
-    handed-reached (restores mol mark) h = rw (h .0, h .1) (same-reached (restores R (markText R (x .search))) after-restore refl)
+    handed-reached (restores mol mark) h =
+        rw (h .0, h .1) (same-reached (restores R (markText R (x .search))) after-restore refl)
 
     -- and what stands after any call that is allowed
-    pub allowed-reached : (call : Call) → Allowed R x call → (k′ : ℕ) × Reached R kind s t origin (said || saysDone call) k′ (afterCall x call)
+    pub allowed-reached :
+        (call : Call) → Allowed R x call →
+        (k′ : ℕ) × Reached R kind s t origin (said || saysDone call) k′ (afterCall x call)
     allowed-reached call (inl e) = same-reached call (after-refused x call e) (refused-says call e)
     allowed-reached call (inr h) = handed-reached call h
 
-  pub list-reached : (calls : List Call) (x : Standing) → History R x calls → (said : Bool) (k : ℕ) → Reached R kind s t origin said k x → (k′ : ℕ) × Reached R kind s t origin (said || saidDone calls) k′ (standing x calls)
+  pub list-reached :
+      (calls : List Call) (x : Standing) → History R x calls → (said : Bool) (k : ℕ) →
+      Reached R kind s t origin said k x →
+      (k′ : ℕ) × Reached R kind s t origin (said || saidDone calls) k′ (standing x calls)
   unfolding standing saidDone
   list-reached [] x h said k r = (k, rw (or-false said) r)
   list-reached (call ∷ calls) x h said k r =
       let next = allowed-reached said k x r call (h .0) in
-      rw (← or-assoc said (saysDone call) (saidDone calls)) (list-reached calls (afterCall x call) (h .1) (said || saysDone call) (next .0) (next .1))
+      rw (← or-assoc said (saysDone call) (saidDone calls))
+      (list-reached calls (afterCall x call) (h .1) (said || saysDone call) (next .0) (next .1))

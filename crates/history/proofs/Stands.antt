@@ -1,5 +1,6 @@
 -- What holds of what stands whatever the calls began with: its parts, when it is done, and that calls handed it go on.
--- What stands is the search that they began with after the trials made (`Reached`), and of that the theory of a search says the rest.
+-- What stands is the search that they began with after the trials
+-- made (`Reached`), and of that the theory of a search says the rest.
 use Prim.Native.Nat.{ℕ, _+_, _*_, _≤_}
 use native.Mathlib.Omega.{arith}
 use mathlib.Core.Path.{_≡_, refl, sym, ap, _∙_}
@@ -36,9 +37,11 @@ pub record Parts (kind s t : ℕ) (st : State) (q : Search) : Type 0 where
 
 parts : (kind s t : ℕ) (st : State) → Parts kind s t st (searchAt kind s t st)
 unfolding searchAt
-parts kind s t st = record { kind-is = refl; s-is = refl; t-is = refl; trials-is = refl; extensions-is = refl; listed-is = refl }
+parts kind s t st =
+    record { kind-is = refl; s-is = refl; t-is = refl; trials-is = refl; extensions-is = refl; listed-is = refl }
 
-module _ (R : Molecule) (kind s t : ℕ) (good : wellFormed R ≡ true) (kept : kindKept (R .atoms) kind s t ≡ true) (origin : State) (sound : Valid (familyOf R kind s t) origin) where
+module _ (R : Molecule) (kind s t : ℕ) (good : wellFormed R ≡ true) (kept : kindKept (R .atoms) kind s t ≡ true)
+    (origin : State) (sound : Valid (familyOf R kind s t) origin) where
   module _ (said : Bool) (k : ℕ) (x : Standing) (r : Reached R kind s t origin said k x) where
     pub parts-of : Parts kind s t (stateAt R kind s t origin k) (x .search)
     parts-of = rw (r .search-is) (parts kind s t (stateAt R kind s t origin k))
@@ -50,37 +53,49 @@ module _ (R : Molecule) (kind s t : ℕ) (good : wellFormed R ≡ true) (kept : 
     pub trials-stand : x .search .trials ≡ origin .trials + x .made
     trials-stand = omega (arith, parts-of .trials-is, r .counted, r .made-is)
 
-    done-is : isDone (R .atoms) (stateOf (x .search)) ≡ isDone (familyOf R kind s t .atoms) (stateAt R kind s t origin k)
+    done-is :
+        isDone (R .atoms) (stateOf (x .search)) ≡ isDone (familyOf R kind s t .atoms) (stateAt R kind s t origin k)
     done-is = rw (reached-state R kind s t good kept origin sound said k x r, family-atoms R kind s t)
 
-    pub done-state : isDone (R .atoms) (stateOf (x .search)) ≡ true → isDone (familyOf R kind s t .atoms) (stateAt R kind s t origin k) ≡ true
+    pub done-state :
+        isDone (R .atoms) (stateOf (x .search)) ≡ true →
+        isDone (familyOf R kind s t .atoms) (stateAt R kind s t origin k) ≡ true
     done-state e = sym done-is ∙ e
 
     pub said-stands : said ≡ true → isDone (R .atoms) (stateOf (x .search)) ≡ true
     said-stands e = done-is ∙ r .finished e
 
-    progresses : (budget : ℕ) (out : List ℕ) → 2 * R .atoms * R .atoms ≤ budget → R .atoms + 1 ≤ length out → Progress (x .search) (runSearch R (x .search) budget out)
+    progresses :
+        (budget : ℕ) (out : List ℕ) → 2 * R .atoms * R .atoms ≤ budget → R .atoms + 1 ≤ length out →
+        Progress (x .search) (runSearch R (x .search) budget out)
     progresses budget out b l =
         let st : State = stateAt R kind s t origin k in
         let v : Valid (familyOf R kind s t) st = valid-at R kind s t good kept origin sound k in
         rw (reached-runs R kind s t good kept origin sound said k x r budget out)
-        (by (run (familyOf R kind s t) budget (length out) st) (run-outcome (familyOf R kind s t) budget (length out) st)
+        (by (run (familyOf R kind s t) budget (length out) st)
+        (run-outcome (familyOf R kind s t) budget (length out) st)
         (run-keeps-valid (familyOf R kind s t) (lawful R kind s t good kept origin sound) budget (length out) st v)
         (λ e. run-limit (familyOf R kind s t) budget (length out) st e .1)
-        (run-lists (familyOf R kind s t) (lawful R kind s t good kept origin sound) budget (length out) st v (rw (family-atoms R kind s t) b) (rw (family-atoms R kind s t) l)))
+        (run-lists (familyOf R kind s t) (lawful R kind s t good kept origin sound) budget (length out) st v
+        (rw (family-atoms R kind s t) b) (rw (family-atoms R kind s t) l)))
       where
         by :
-            (o : Outcome) → RunFacts (familyOf R kind s t) budget (length out) (stateAt R kind s t origin k) o → Valid (familyOf R kind s t) (o .state) → (o .stop ≡ Limit → atLimit (o .state) ≡ true) →
-            (1 ≤ length (emitted (familyOf R kind s t) (o .made) (stateAt R kind s t origin k))) ⊎ ((o .stop ≡ Done) ⊎ (o .stop ≡ Limit)) → Progress (x .search) (ranAt kind s t o)
+            (o : Outcome) → RunFacts (familyOf R kind s t) budget (length out) (stateAt R kind s t origin k) o →
+            Valid (familyOf R kind s t) (o .state) → (o .stop ≡ Limit → atLimit (o .state) ≡ true) →
+            (1 ≤ length (emitted (familyOf R kind s t) (o .made) (stateAt R kind s t origin k))) ⊎
+            ((o .stop ≡ Done) ⊎ (o .stop ≡ Limit)) → Progress (x .search) (ranAt kind s t o)
         by o w v a (inl e) = inl (omega (arith, parts-of .listed-is, parts kind s t (o .state) .listed-is, w .listing))
         by o w v a (inr (inl e)) = inr (inl (ap Stopped e))
-        by o w v a (inr (inr e)) = inr (inr (ap Stopped e, rw (back-of R kind s t good kept origin sound (o .state) v) (a e)))
+        by o w v a (inr (inr e)) =
+            inr (inr (ap Stopped e, rw (back-of R kind s t good kept origin sound (o .state) v) (a e)))
 
     pub goes-on : GoesOn R x
     goes-on =
         let passes = reached-restorable R kind s t good kept origin sound said k x r in
         record {
-          run-accepted = λ budget out. (_, ap (λ (a : Ran). a .ended) (reached-runs R kind s t good kept origin sound said k x r budget out));
+          run-accepted =
+              λ budget out.
+              (_, ap (λ (a : Ran). a .ended) (reached-runs R kind s t good kept origin sound said k x r budget out));
           restore-accepted = reached-restores R kind s t good kept origin sound said k x r;
           save-answers = λ buffer. save-at R good (x .search) buffer passes;
           save-writes = λ buffer. save-wrote R good (x .search) buffer passes;

@@ -1,4 +1,5 @@
--- Lists of runs, saves and restores (document 01, "Marks"): which calls are refused, what stands after a list of them, which lists demand 3 speaks of.
+-- Lists of runs, saves and restores (document 01, "Marks"): which calls are
+-- refused, what stands after a list of them, which lists demand 3 speaks of.
 -- What a call answers is `runSearch`, `saveAnswer` or `restoreMark`, as the contracts of the entries say.
 use Prim.Native.Nat.{ℕ, _+_}
 use mathlib.Core.Path.{_≡_}
@@ -20,7 +21,8 @@ use Rattle.search.specs.Place.{freshSearch}
 use Rattle.search.specs.Entries.{runSearch, runOutput}
 use Rattle.search.specs.Mark.{markText, saveAnswer, restoreMark}
 
--- A call, handed anything at all: a run with its budget and output, a save with its buffer, a restore with the bytes of a mark
+-- A call, handed anything at all: a run with its budget and output,
+-- a save with its buffer, a restore with the bytes of a mark
 pub data Call : Type 0 where
   runs : Molecule → Search → ℕ → List ℕ → Call
   saves : Molecule → Search → List ℕ → Call
@@ -58,12 +60,17 @@ refused (restores mol mark) = restoreRefused (restoreMark mol mark .answer)
 
 -- ---- what stands after calls
 
--- After an accepted call: a run moves the search, adds the bytes that it used to the sheet and the trials that it made to the sum;
+-- After an accepted call: a run moves the search, adds the bytes
+-- that it used to the sheet and the trials that it made to the sum;
 -- a save leaves all as it is; a restore puts the restored search in place
 unfoldable pub afterAccepted : Standing → Call → Standing
 afterAccepted x (runs mol q budget out) =
     let r = runSearch mol q budget out in
-    record { search = r .search; sheet = x .sheet ++ take (r .used) (runOutput mol q budget out); made = x .made + r .made }
+    record {
+      search = r .search;
+      sheet = x .sheet ++ take (r .used) (runOutput mol q budget out);
+      made = x .made + r .made;
+    }
 afterAccepted x (saves mol q buffer) = x
 afterAccepted x (restores mol mark) = record { search = restoreMark mol mark .search; sheet = x .sheet; made = x .made }
 

@@ -40,31 +40,46 @@ module _ (mol : Molecule) (mark : List ℕ) where
 abbrev pub Leaves : ℕ → List ℕ → List ℕ → Resumed → Type 0
 Leaves number rings next x = (number ≡ x .number) × ((rings ≡ x .rings) × (next ≡ x .nextMark))
 
-pub leaves : {x y : Resumed} → x ≡ y → (number : ℕ) (rings next : List ℕ) → Leaves number rings next x → Leaves number rings next y
-leaves e number rings next h = (h .0 ∙ ap (λ (z : Resumed). z .number) e, (h .1 .0 ∙ ap (λ (z : Resumed). z .rings) e, h .1 .1 ∙ ap (λ (z : Resumed). z .nextMark) e))
+pub leaves :
+    {x y : Resumed} → x ≡ y → (number : ℕ) (rings next : List ℕ) → Leaves number rings next x →
+    Leaves number rings next y
+leaves e number rings next h = (
+  h .0 ∙ ap (λ (z : Resumed). z .number) e,
+  (h .1 .0 ∙ ap (λ (z : Resumed). z .rings) e, h .1 .1 ∙ ap (λ (z : Resumed). z .nextMark) e),
+)
 
 -- the run and the save, from what the two entries promise
-pub ran-and-saved : (mol : Molecule) (q : Search) (budget : ℕ) (rings next : List ℕ) (ran : Ran) (number : ℕ) (out saved : List ℕ) → ran ≡ runSearch mol q budget rings → out ≡ runOutput mol q budget rings → saved ≡ saveOutput mol (ran .search) next → number ≡ endedNumber (ran .ended) → Leaves number out saved (runAndSave mol q budget rings next)
+pub ran-and-saved :
+    (mol : Molecule) (q : Search) (budget : ℕ) (rings next : List ℕ) (ran : Ran) (number : ℕ) (out saved : List ℕ) →
+    ran ≡ runSearch mol q budget rings → out ≡ runOutput mol q budget rings →
+    saved ≡ saveOutput mol (ran .search) next → number ≡ endedNumber (ran .ended) →
+    Leaves number out saved (runAndSave mol q budget rings next)
 unfolding runAndSave
 ran-and-saved mol q budget rings next ran number out saved r o s n =
     (n ∙ ap (λ (x : Ran). endedNumber (x .ended)) r, (o, s ∙ ap (λ (x : Ran). saveOutput mol (x .search) next) r))
 
-module _ (sheet mark : List ℕ) (budget : ℕ) (rings next : List ℕ) (read : SheetAnswer) (is-read : read ≡ readSheet sheet) where
-  pub sheet-refused : (r : Refusal) → read .answer ≡ Refused r → refusedCall r rings next ≡ resume sheet mark budget rings next
+module _ (sheet mark : List ℕ) (budget : ℕ) (rings next : List ℕ) (read : SheetAnswer)
+    (is-read : read ≡ readSheet sheet) where
+  pub sheet-refused :
+      (r : Refusal) → read .answer ≡ Refused r → refusedCall r rings next ≡ resume sheet mark budget rings next
   unfolding resume
   sheet-refused r e = rw (← is-read, e)
 
   module _ (taken : read .answer ≡ Accepted) (made : Made) (is-made : made ≡ searchFor (read .molecule) mark) where
-    pub mark-refused : (r : Refusal) → made .answer ≡ Refused r → refusedCall r rings next ≡ resume sheet mark budget rings next
+    pub mark-refused :
+        (r : Refusal) → made .answer ≡ Refused r → refusedCall r rings next ≡ resume sheet mark budget rings next
     unfolding resume
     mark-refused r e = rw (← is-read, taken, ← is-made, e)
 
     module _ (restored : made .answer ≡ Accepted) where
-      pub room-refused : length next < 599 → refusedCall refusal.MarkRoom rings next ≡ resume sheet mark budget rings next
+      pub room-refused :
+          length next < 599 → refusedCall refusal.MarkRoom rings next ≡ resume sheet mark budget rings next
       unfolding resume
       room-refused h = rw (← is-read, taken, ← is-made, restored, lt-leb 599 (length next) h)
 
-      pub resumed : 599 ≤ length next → runAndSave (read .molecule) (made .search) budget rings next ≡ resume sheet mark budget rings next
+      pub resumed :
+          599 ≤ length next → runAndSave (read .molecule) (made .search) budget rings next ≡
+          resume sheet mark budget rings next
       unfolding resume
       resumed h = rw (← is-read, taken, ← is-made, restored, le-leb 599 (length next) h)
 

@@ -121,7 +121,8 @@ host-listed {L} v calls h =
 
 -- ---- what is kept and stands at first
 
-module _ {L : Listing} (q : Search) (is-from : L .began ≡ restoredStart q) (reached : ReachedIn L false 0 (L .began)) where
+module _ {L : Listing} (q : Search) (is-from : L .began ≡ restoredStart q)
+    (reached : ReachedIn L false 0 (L .began)) where
   -- a mark, which restores the search
   marked-agrees : restoreMark (L .mol) (L .first) ≡ acceptedSearch q → Agrees L false (keeping (L .first)) (L .began)
   unfolding keeping restoredStart

@@ -1,4 +1,5 @@
--- The laws of the entry: which numbers it returns, that a refusal leaves both outputs as they were, and that neither its run nor its save is refused.
+-- The laws of the entry: which numbers it returns, that a refusal leaves both
+-- outputs as they were, and that neither its run nor its save is refused.
 -- An accepted sheet keeps rule 9 and an accepted mark rule 12, a run keeps both, and a mark is at most 599 bytes.
 use Prim.Native.Nat.{ℕ, _+_, _≤_, _<_}
 use native.Mathlib.Decide.{ℕ-discrete, decLt}
@@ -52,7 +53,8 @@ both-ways : {A : Type 0} (P : A → Type 0) (t : Bool) (x y : A) → P x → P y
 both-ways P true x y h g = h
 both-ways P false x y h g = g
 
-within-refused : (a b : ℕ) (x : Answer) (r : Refusal) → x ≡ Refused r → Within a b x → (a ≤ numberOf r) × (numberOf r ≤ b)
+within-refused :
+    (a b : ℕ) (x : Answer) (r : Refusal) → x ≡ Refused r → Within a b x → (a ≤ numberOf r) × (numberOf r ≤ b)
 within-refused a b x r e h = rw e at h
 
 -- a sheet is refused by rules 1 to 8
@@ -83,7 +85,9 @@ sheet-numbers s r e =
 abbrev MarkRule : Made → Type 0
 MarkRule x = Within 14 17 (x .answer)
 
-pub mark-numbers : (mol : Molecule) (mark : List ℕ) (r : Refusal) → wellFormed mol ≡ true → searchFor mol mark .answer ≡ Refused r → (14 ≤ numberOf r) × (numberOf r ≤ 17)
+pub mark-numbers :
+    (mol : Molecule) (mark : List ℕ) (r : Refusal) → wellFormed mol ≡ true → searchFor mol mark .answer ≡ Refused r →
+    (14 ≤ numberOf r) × (numberOf r ≤ 17)
 unfolding searchFor startRings restoreMark
 mark-numbers mol mark r formed e =
     within-refused 14 17 (searchFor mol mark .answer) r e
@@ -92,7 +96,9 @@ mark-numbers mol mark r formed e =
     (both-ways MarkRule (layoutKept mark) _ _
     (both-ways MarkRule (belongs mol mark) _ _
     (both-ways MarkRule (kindKept (mol .atoms) (valueAt 4 mark 0) (valueAt 4 mark 4) (valueAt 4 mark 8)) _ _
-    (both-ways MarkRule (placeKept (familyOf mol (valueAt 4 mark 0) (valueAt 4 mark 4) (valueAt 4 mark 8)) (markBeginning mark) (valueAt 4 mark 24)) _ _ tt (omega arith, omega arith))
+    (both-ways MarkRule
+    (placeKept (familyOf mol (valueAt 4 mark 0) (valueAt 4 mark 4) (valueAt 4 mark 8)) (markBeginning mark)
+    (valueAt 4 mark 24)) _ _ tt (omega arith, omega arith))
     (omega arith, omega arith))
     (omega arith, omega arith))
     (omega arith, omega arith))))
@@ -107,7 +113,9 @@ record Begun (mol : Molecule) (mark : List ℕ) (q : Search) : Type 0 where
 made-is : (x : Made) → x .answer ≡ Accepted → x ≡ acceptedSearch (x .search)
 made-is x e = ap (λ (a : Answer). record { answer = a; search = x .search }) e
 
-begun-fresh : (mol : Molecule) (mark : List ℕ) → wellFormed mol ≡ true → length mark ≡ 0 → Begun mol mark (searchFor mol mark .search)
+begun-fresh :
+    (mol : Molecule) (mark : List ℕ) → wellFormed mol ≡ true → length mark ≡ 0 →
+    Begun mol mark (searchFor mol mark .search)
 begun-fresh mol mark formed none =
     rw (sym (search-fresh mol mark formed none))
     (record {
@@ -115,15 +123,22 @@ begun-fresh mol mark formed none =
       listed-is = sym (listed-short mark (omega arith)) ∙ (unfold freshSearch searchAt fresh in refl);
     })
 
-begun-restored : (mol : Molecule) (mark : List ℕ) → (length mark ≡ 0 → ⊥) → searchFor mol mark .answer ≡ Accepted → Begun mol mark (searchFor mol mark .search)
+begun-restored :
+    (mol : Molecule) (mark : List ℕ) → (length mark ≡ 0 → ⊥) → searchFor mol mark .answer ≡ Accepted →
+    Begun mol mark (searchFor mol mark .search)
 begun-restored mol mark some e =
-    let is : restoreMark mol mark ≡ acceptedSearch (searchFor mol mark .search) = search-restored mol mark some ∙ made-is (searchFor mol mark) e in
+    let is : restoreMark mol mark ≡ acceptedSearch (searchFor mol mark .search) = search-restored mol mark some ∙
+    made-is (searchFor mol mark) e in
     record {
       kept = restored-restorable mol mark (searchFor mol mark .search) is .1;
-      listed-is = listed-restored mol mark (searchFor mol mark .search) (restored-facts mol mark (searchFor mol mark .search) is);
+      listed-is =
+          listed-restored mol mark (searchFor mol mark .search)
+          (restored-facts mol mark (searchFor mol mark .search) is);
     }
 
-begun : (mol : Molecule) (mark : List ℕ) → wellFormed mol ≡ true → searchFor mol mark .answer ≡ Accepted → Begun mol mark (searchFor mol mark .search)
+begun :
+    (mol : Molecule) (mark : List ℕ) → wellFormed mol ≡ true → searchFor mol mark .answer ≡ Accepted →
+    Begun mol mark (searchFor mol mark .search)
 begun mol mark formed e = go (ℕ-discrete (length mark) 0)
   where
     go : Dec (length mark ≡ 0) → Begun mol mark (searchFor mol mark .search)
@@ -131,16 +146,20 @@ begun mol mark formed e = go (ℕ-discrete (length mark) 0)
     go (no some) = begun-restored mol mark some e
 
 -- an accepted sheet keeps rule 9, and the search that is made on it keeps rule 12
-module _ (sheet : List ℕ) (read : SheetAnswer) (is-read : read ≡ readSheet sheet) (taken : read .answer ≡ Accepted) where
+module _ (sheet : List ℕ) (read : SheetAnswer) (is-read : read ≡ readSheet sheet)
+    (taken : read .answer ≡ Accepted) where
   pub read-formed : wellFormed (read .molecule) ≡ true
   read-formed = rw is-read (accepted-well-formed sheet (rw is-read at taken))
 
-  pub made-kept : (mark : List ℕ) (made : Made) → made ≡ searchFor (read .molecule) mark → made .answer ≡ Accepted → restorable (read .molecule) (made .search) ≡ true
+  pub made-kept :
+      (mark : List ℕ) (made : Made) → made ≡ searchFor (read .molecule) mark → made .answer ≡ Accepted →
+      restorable (read .molecule) (made .search) ≡ true
   made-kept mark made is-made e = rw is-made (begun (read .molecule) mark read-formed (rw is-made at e) .kept)
 
 -- ---- its run and its save
 
-module _ (mol : Molecule) (q : Search) (formed : wellFormed mol ≡ true) (kept : restorable mol q ≡ true) (budget : ℕ) (rings : List ℕ) where
+module _ (mol : Molecule) (q : Search) (formed : wellFormed mol ≡ true) (kept : restorable mol q ≡ true) (budget : ℕ)
+    (rings : List ℕ) where
   abbrev o : Outcome
   o = outcome mol q budget rings
 
@@ -165,7 +184,8 @@ module _ (mol : Molecule) (q : Search) (formed : wellFormed mol ≡ true) (kept 
   wrote-is : runOutput mol q budget rings ≡ records ws ++ drop (length (records ws)) rings
   unfolding runOutput
   wrote-is =
-      let bytes : o .bytes ≡ records ws = run-outcome (family mol q) budget (length rings) (stateOf q) .wrote ∙ ap records ws-is in
+      let bytes : o .bytes ≡ records ws = run-outcome (family mol q) budget (length rings) (stateOf q) .wrote ∙
+      ap records ws-is in
       rw (formed, kept) (ap (λ (l : List ℕ). l ++ drop (length l) rings) bytes)
 
   after-kept : restorable mol after ≡ true
@@ -178,7 +198,8 @@ module _ (mol : Molecule) (q : Search) (formed : wellFormed mol ≡ true) (kept 
   after-full =
       rw after-is
       (valid-full mol (q .kind) (q .s) (q .t) formed (o .state)
-      (run-keeps-valid (family mol q) (family-lawful mol (q .kind) (q .s) (q .t)) budget (length rings) (stateOf q) (restorable-valid mol q kept)))
+      (run-keeps-valid (family mol q) (family-lawful mol (q .kind) (q .s) (q .t)) budget (length rings) (stateOf q)
+      (restorable-valid mol q kept)))
 
   after-fits : length (markText mol after) ≤ 599
   after-fits =
@@ -187,7 +208,9 @@ module _ (mol : Molecule) (q : Search) (formed : wellFormed mol ≡ true) (kept 
 
   after-listed : after .listed ≡ q .listed + length ws
   after-listed =
-      let rise : searchAt (q .kind) (q .s) (q .t) (o .state) .listed ≡ q .listed + length (emitted (family mol q) (o .made) (stateOf q)) = unfold searchAt stateOf in (run-outcome (family mol q) budget (length rings) (stateOf q) .listing) in
+      let rise : searchAt (q .kind) (q .s) (q .t) (o .state) .listed ≡
+      q .listed + length (emitted (family mol q) (o .made) (stateOf q)) =
+      unfold searchAt stateOf in (run-outcome (family mol q) budget (length rings) (stateOf q) .listing) in
       ap (λ (x : Search). x .listed) after-is ∙ rise ∙ ap (λ (l : List (List ℕ)). q .listed + length l) ws-is
 
   after-restores : searchFor mol (markText mol after) ≡ acceptedSearch after
@@ -233,7 +256,8 @@ module _ (sheet mark : List ℕ) (budget : ℕ) (rings next : List ℕ) where
     pub rings-kept : answer .rings ≡ rings
     pub mark-kept : answer .nextMark ≡ next
 
-  -- It goes on: the run stops and the mark of its search is written; the mark restores that search, and the two listed counts differ by the records
+  -- It goes on: the run stops and the mark of its search is written; the mark
+  -- restores that search, and the two listed counts differ by the records
   pub record Went : Type 0 where
     pub why : Stop
     pub stopped : runSearch mol given budget rings .ended ≡ Stopped why
@@ -245,7 +269,9 @@ module _ (sheet mark : List ℕ) (budget : ℕ) (rings next : List ℕ) where
     pub restores : searchFor mol (markText mol returned) ≡ acceptedSearch returned
     pub counted : listedIn (answer .nextMark) ≡ listedIn mark + length words
 
-  turned : (r : Refusal) → refusedCall r rings next ≡ answer → ((1 ≤ numberOf r) × (numberOf r ≤ 8)) ⊎ ((13 ≤ numberOf r) × (numberOf r ≤ 17)) → Turned
+  turned :
+      (r : Refusal) → refusedCall r rings next ≡ answer → ((1 ≤ numberOf r) × (numberOf r ≤ 8)) ⊎
+      ((13 ≤ numberOf r) × (numberOf r ≤ 17)) → Turned
   turned r e h =
       record {
         rule = r;
@@ -256,29 +282,44 @@ module _ (sheet mark : List ℕ) (budget : ℕ) (rings next : List ℕ) where
       }
 
   -- Neither the run nor the save is refused
-  pub resume-accepted : readSheet sheet .answer ≡ Accepted → searchFor mol mark .answer ≡ Accepted → 599 ≤ length next → Went
-  resume-accepted taken made room = let b = begun mol mark (accepted-well-formed sheet taken) made in go (accepted-well-formed sheet taken) (b .kept) (b .listed-is)
+  pub resume-accepted :
+      readSheet sheet .answer ≡ Accepted → searchFor mol mark .answer ≡ Accepted → 599 ≤ length next → Went
+  resume-accepted taken made room =
+      let b = begun mol mark (accepted-well-formed sheet taken) made in
+      go (accepted-well-formed sheet taken) (b .kept) (b .listed-is)
     where
       is : runAndSave mol given budget rings next ≡ answer
       is = resumed sheet mark budget rings next (readSheet sheet) refl taken (searchFor mol mark) refl made room
 
       go : wellFormed mol ≡ true → restorable mol given ≡ true → listedIn mark ≡ given .listed → Went
-      go formed kept before = with-mark (sym (ap (λ (x : Resumed). x .nextMark) is) ∙ (unfold runAndSave in (save-wrote mol formed returned next (after-kept mol given formed kept budget rings) (omega (arith, after-fits mol given formed kept budget rings)))))
+      go formed kept before =
+          with-mark (sym (ap (λ (x : Resumed). x .nextMark) is) ∙
+          (unfold runAndSave in
+          (save-wrote mol formed returned next (after-kept mol given formed kept budget rings)
+          (omega (arith, after-fits mol given formed kept budget rings)))))
         where
           with-mark : answer .nextMark ≡ markText mol returned ++ drop (length (markText mol returned)) next → Went
           with-mark written =
               record {
                 why = outcome mol given budget rings .stop;
                 stopped = ap (λ (x : Ran). x .ended) (run-is mol given formed kept budget rings);
-                number-is = sym (ap (λ (x : Resumed). x .number) is) ∙ (unfold runAndSave in (ap (λ (x : Ran). endedNumber (x .ended)) (run-is mol given formed kept budget rings)));
-                rings-are = sym (ap (λ (x : Resumed). x .rings) is) ∙ (unfold runAndSave in (wrote-is mol given formed kept budget rings));
+                number-is =
+                    sym (ap (λ (x : Resumed). x .number) is) ∙
+                    (unfold runAndSave in
+                    (ap (λ (x : Ran). endedNumber (x .ended)) (run-is mol given formed kept budget rings)));
+                rings-are =
+                    sym (ap (λ (x : Resumed). x .rings) is) ∙
+                    (unfold runAndSave in (wrote-is mol given formed kept budget rings));
                 mark-is = written;
                 mark-fits = after-fits mol given formed kept budget rings;
-                size-is = ap markSize written ∙ mark-size mol returned formed (after-kept mol given formed kept budget rings) (after-full mol given formed kept budget rings) (drop (length (markText mol returned)) next);
+                size-is =
+                    ap markSize written ∙ mark-size mol returned formed (after-kept mol given formed kept budget rings)
+                    (after-full mol given formed kept budget rings) (drop (length (markText mol returned)) next);
                 restores = after-restores mol given formed kept budget rings;
                 counted =
                     ap listedIn written
-                    ∙ mark-listed mol returned formed (after-kept mol given formed kept budget rings) (after-full mol given formed kept budget rings) (drop (length (markText mol returned)) next)
+                    ∙ mark-listed mol returned formed (after-kept mol given formed kept budget rings)
+                    (after-full mol given formed kept budget rings) (drop (length (markText mol returned)) next)
                     ∙ after-listed mol given formed kept budget rings
                     ∙ ap (λ k. k + length words) (sym before);
               }
@@ -286,19 +327,28 @@ module _ (sheet mark : List ℕ) (budget : ℕ) (rings next : List ℕ) where
   ways : Turned ⊎ Went
   ways = sheet-way (readSheet sheet .answer) refl
     where
-      room-way : readSheet sheet .answer ≡ Accepted → searchFor mol mark .answer ≡ Accepted → Dec (length next < 599) → Turned ⊎ Went
-      room-way taken made (yes h) = inl (turned refusal.MarkRoom (room-refused sheet mark budget rings next (readSheet sheet) refl taken (searchFor mol mark) refl made h) (inr (omega arith, omega arith)))
+      room-way :
+          readSheet sheet .answer ≡ Accepted → searchFor mol mark .answer ≡ Accepted → Dec (length next < 599) →
+          Turned ⊎ Went
+      room-way taken made (yes h) =
+          inl (turned refusal.MarkRoom
+          (room-refused sheet mark budget rings next (readSheet sheet) refl taken (searchFor mol mark) refl made h)
+          (inr (omega arith, omega arith)))
       room-way taken made (no h) = inr (resume-accepted taken made (omega arith))
 
       mark-way : readSheet sheet .answer ≡ Accepted → (x : Answer) → searchFor mol mark .answer ≡ x → Turned ⊎ Went
       mark-way taken Accepted made = room-way taken made (decLt (length next) 599)
       mark-way taken (Refused r) e =
           let h = mark-numbers mol mark r (accepted-well-formed sheet taken) e in
-          inl (turned r (mark-refused sheet mark budget rings next (readSheet sheet) refl taken (searchFor mol mark) refl r e) (inr (omega arith, h .1)))
+          inl (turned r
+          (mark-refused sheet mark budget rings next (readSheet sheet) refl taken (searchFor mol mark) refl r e)
+          (inr (omega arith, h .1)))
 
       sheet-way : (x : Answer) → readSheet sheet .answer ≡ x → Turned ⊎ Went
       sheet-way Accepted taken = mark-way taken (searchFor mol mark .answer) refl
-      sheet-way (Refused r) e = inl (turned r (sheet-refused sheet mark budget rings next (readSheet sheet) refl r e) (inl (sheet-numbers sheet r e)))
+      sheet-way (Refused r) e =
+          inl (turned r (sheet-refused sheet mark budget rings next (readSheet sheet) refl r e)
+          (inl (sheet-numbers sheet r e)))
 
   -- A refusal, which has a number below 101, changes neither output
   pub resume-refused : answer .number < 101 → (answer .rings ≡ rings) × (answer .nextMark ≡ next)
@@ -312,7 +362,9 @@ module _ (sheet mark : List ℕ) (budget : ℕ) (rings next : List ℕ) where
   pub resume-numbers : Known (answer .number)
   resume-numbers = go ways
     where
-      ranged : (k : ℕ) (r : Refusal) → k ≡ numberOf r → ((1 ≤ numberOf r) × (numberOf r ≤ 8)) ⊎ ((13 ≤ numberOf r) × (numberOf r ≤ 17)) → Known k
+      ranged :
+          (k : ℕ) (r : Refusal) → k ≡ numberOf r → ((1 ≤ numberOf r) × (numberOf r ≤ 8)) ⊎
+          ((13 ≤ numberOf r) × (numberOf r ≤ 17)) → Known k
       ranged k r e (inl h) = inl (omega arith, omega arith)
       ranged k r e (inr h) = inr (inl (omega arith, omega arith))
 

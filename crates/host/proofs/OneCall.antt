@@ -135,7 +135,8 @@ module _ (L : Listing) {said : Bool} {n : ℕ} {x : Standing} (r : ReachedIn L s
       history.after-restore
       (L .mol) (L .kind) (L .s) (L .t) (L .formed) (L .kept) (L .origin) (L .sound) said n x r
 
-  allowed-in : (call : Call) → Allowed (L .mol) x call → (m : ℕ) × ReachedIn L (said || saysDone call) m (afterCall x call)
+  allowed-in :
+      (call : Call) → Allowed (L .mol) x call → (m : ℕ) × ReachedIn L (said || saysDone call) m (afterCall x call)
   allowed-in =
       history.allowed-reached
       (L .mol) (L .kind) (L .s) (L .t) (L .formed) (L .kept) (L .origin) (L .sound) said n x r

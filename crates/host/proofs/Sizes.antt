@@ -22,22 +22,29 @@ use Rattle.host.specs.Resume.{markSize, listedIn}
 use Rattle.host.proofs.Answers.{listed-read}
 
 -- a field within the front of some bytes
-front-field : (c at : ℕ) (front rest : List ℕ) → at + c ≤ length front → fieldAt c (front ++ rest) at ≡ fieldAt c front at
+front-field :
+    (c at : ℕ) (front rest : List ℕ) → at + c ≤ length front → fieldAt c (front ++ rest) at ≡ fieldAt c front at
 front-field c at front rest h =
     ap (λ (l : List ℕ). readField (take c l)) (drop-append-le at front rest (omega arith))
     ∙ ap readField (take-append-le c (drop at front) rest (rw length-drop (omega arith)))
 
 -- the bytes of a mark, where its length is a number field and the buffer has as many
-size-kept : (bytes : List ℕ) → isValue (fieldAt 4 bytes 20) ≡ true → 91 + 4 * markLength bytes ≤ length bytes → markSize bytes ≡ 91 + 4 * markLength bytes
+size-kept :
+    (bytes : List ℕ) → isValue (fieldAt 4 bytes 20) ≡ true → 91 + 4 * markLength bytes ≤ length bytes →
+    markSize bytes ≡ 91 + 4 * markLength bytes
 unfolding markSize
-size-kept bytes e h = rw (le-leb 91 (length bytes) (omega arith), e, le-leb (91 + 4 * markLength bytes) (length bytes) h)
+size-kept bytes e h =
+    rw (le-leb 91 (length bytes) (omega arith), e, le-leb (91 + 4 * markLength bytes) (length bytes) h)
 
 -- the listed count of a mark that is accepted
 pub listed-restored : (mol : Molecule) (bytes : List ℕ) (q : Search) → Restored mol bytes q → listedIn bytes ≡ q .listed
 unfolding markSearch searchAt
-listed-restored mol bytes q f = sym (listed-read bytes (omega (arith, layout-facts bytes (f .layout) .size))) ∙ ap (λ (x : Search). x .listed) (f .search)
+listed-restored mol bytes q f =
+    sym (listed-read bytes (omega (arith, layout-facts bytes (f .layout) .size))) ∙
+    ap (λ (x : Search). x .listed) (f .search)
 
-module _ (mol : Molecule) (q : Search) (formed : wellFormed mol ≡ true) (kept : restorable mol q ≡ true) (full : length (q .prefix) ≡ 128) where
+module _ (mol : Molecule) (q : Search) (formed : wellFormed mol ≡ true) (kept : restorable mol q ≡ true)
+    (full : length (q .prefix) ≡ 128) where
   saved : Restored mol (markText mol q) q
   saved = restored-facts mol (markText mol q) q (saved-restores mol q formed kept full)
 
@@ -53,7 +60,9 @@ module _ (mol : Molecule) (q : Search) (formed : wellFormed mol ≡ true) (kept 
     length-same = front-field 4 20 (markText mol q) rest (omega (arith, lines .size))
 
     length-read : isValue (fieldAt 4 (markText mol q) 20) ≡ true
-    length-read = allBelow-at 7 (λ (i : ℕ). isValue (fieldAt 4 (markText mol q) (0 + 4 * i))) (unfold fieldsKept in (lines .head-kept)) 5 (omega arith)
+    length-read =
+        allBelow-at 7 (λ (i : ℕ). isValue (fieldAt 4 (markText mol q) (0 + 4 * i)))
+        (unfold fieldsKept in (lines .head-kept)) 5 (omega arith)
 
     pub mark-size : markSize (markText mol q ++ rest) ≡ length (markText mol q)
     mark-size =

@@ -1,4 +1,5 @@
--- Repeated calls from C (document 01, "Judge, host entry and `ringlist`"): what a host keeps, and what demand 3 says of it.
+-- Repeated calls from C (document 01, "Judge, host entry and
+-- `ringlist`"): what a host keeps, and what demand 3 says of it.
 -- It keeps a mark and the records so far; it learns the number of new records from the listed counts of the two marks.
 use Prim.Native.Nat.{ℕ, zero, suc, _+_, _-_, _*_, _≤_, _<_}
 use mathlib.Core.Path.{_≡_}
@@ -120,7 +121,8 @@ listOf R kind s t = members (familyOf R kind s t)
 -- Calls handed the sheet of the record R and the mark as it stands, with 599 bytes for the next mark
 pub record HostGoesOn (sheet : List ℕ) (R : Molecule) (k : Kept) : Type 0 where
   -- are not refused
-  pub call-accepted : (c : HostCall) → c .sheet ≡ sheet → c .mark ≡ k .mark → 599 ≤ length (c .next) → isRefused c ≡ false
+  pub call-accepted :
+      (c : HostCall) → c .sheet ≡ sheet → c .mark ≡ k .mark → 599 ≤ length (c .next) → isRefused c ≡ false
   -- and with 2 × n × n trials and n + 1 bytes list a member, or return 101 or 102
   pub progress :
       (c : HostCall) → c .sheet ≡ sheet → c .mark ≡ k .mark → 599 ≤ length (c .next) →

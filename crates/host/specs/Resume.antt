@@ -1,4 +1,5 @@
--- The entry for the C host (document 01, "Judge, host entry and `ringlist`"): what it returns and leaves in its outputs.
+-- The entry for the C host (document 01, "Judge, host entry
+-- and `ringlist`"): what it returns and leaves in its outputs.
 use Prim.Native.Nat.{ℕ, _+_, _*_}
 use mathlib.Core.Bool.{_&&_, cond}
 use mathlib.Core.List.{List}
@@ -38,21 +39,29 @@ searchFor mol mark = cond (eqb (length mark) 0) (startRings mol) (restoreMark mo
 unfoldable pub runAndSave : Molecule → Search → ℕ → List ℕ → List ℕ → Resumed
 runAndSave mol q budget rings next =
     let ran = runSearch mol q budget rings in
-    record { number = endedNumber (ran .ended); rings = runOutput mol q budget rings; nextMark = saveOutput mol (ran .search) next }
+    record {
+      number = endedNumber (ran .ended);
+      rings = runOutput mol q budget rings;
+      nextMark = saveOutput mol (ran .search) next;
+    }
 
--- The entry: it reads the sheet (rules 1 to 8), restores the mark (14 to 17), asks 599 bytes for the next mark (13), runs and saves
+-- The entry: it reads the sheet (rules 1 to 8), restores the mark
+-- (14 to 17), asks 599 bytes for the next mark (13), runs and saves
 unfoldable pub resume : List ℕ → List ℕ → ℕ → List ℕ → List ℕ → Resumed
 resume sheet mark budget rings next =
     let mol = readSheet sheet .molecule in
     let made = searchFor mol mark in
     unlessRefused (readSheet sheet .answer) rings next
     (unlessRefused (made .answer) rings next
-    (cond (leb 599 (length next)) (runAndSave mol (made .search) budget rings next) (refusedCall refusal.MarkRoom rings next)))
+    (cond (leb 599 (length next)) (runAndSave mol (made .search) budget rings next)
+    (refusedCall refusal.MarkRoom rings next)))
 
--- The bytes of the mark at the start of a buffer, by the length of p in its sixth field; 0 where the buffer holds no mark of that length
+-- The bytes of the mark at the start of a buffer, by the length of p
+-- in its sixth field; 0 where the buffer holds no mark of that length
 unfoldable pub markSize : List ℕ → ℕ
 markSize bytes =
-    cond (leb 91 (length bytes) && isValue (fieldAt 4 bytes 20) && leb (91 + 4 * markLength bytes) (length bytes)) (91 + 4 * markLength bytes) 0
+    cond (leb 91 (length bytes) && isValue (fieldAt 4 bytes 20) && leb (91 + 4 * markLength bytes) (length bytes))
+    (91 + 4 * markLength bytes) 0
 
 -- The listed count of a mark; 0 where there is none, as in no bytes
 unfoldable pub listedIn : List ℕ → ℕ

@@ -13,11 +13,15 @@ use Rattle.judge.specs.declared.Verdict.the-variants.{Refused}
 use Rattle.judge.specs.Verdict.{answer, judgeRing, judgePath}
 
 -- rule 9 comes first
-pub refused-record : (mol : Molecule) → wellFormed mol ≡ false → ((xs : List ℕ) → judgeRing mol xs ≡ Refused Record) × ((s t : ℕ) (xs : List ℕ) → judgePath mol s t xs ≡ Refused Record)
+pub refused-record :
+    (mol : Molecule) → wellFormed mol ≡ false → ((xs : List ℕ) → judgeRing mol xs ≡ Refused Record) ×
+    ((s t : ℕ) (xs : List ℕ) → judgePath mol s t xs ≡ Refused Record)
 unfolding judgeRing judgePath
 refused-record mol e = (λ xs. rw e, λ s t xs. rw e)
 
-pub ring-judged : (mol : Molecule) (xs : List ℕ) → wellFormed mol ≡ true → (b : Bool) → isRing (mol .atoms) (bonded (mol .atoms) (mol .rows)) xs ≡ b → judgeRing mol xs ≡ answer b
+pub ring-judged :
+    (mol : Molecule) (xs : List ℕ) → wellFormed mol ≡ true → (b : Bool) →
+    isRing (mol .atoms) (bonded (mol .atoms) (mol .rows)) xs ≡ b → judgeRing mol xs ≡ answer b
 unfolding judgeRing
 ring-judged mol xs ok b e = rw (ok, e)
 
@@ -36,6 +40,8 @@ module _ (mol : Molecule) (s t : ℕ) (xs : List ℕ) (ok : wellFormed mol ≡ t
       unfolding judgePath
       path-same-ends e = rw (ok, start, end, eq-eqb s t e)
 
-      pub path-judged : (s ≡ t → ⊥) → (b : Bool) → isPath (mol .atoms) (bonded (mol .atoms) (mol .rows)) s t xs ≡ b → judgePath mol s t xs ≡ answer b
+      pub path-judged :
+          (s ≡ t → ⊥) → (b : Bool) → isPath (mol .atoms) (bonded (mol .atoms) (mol .rows)) s t xs ≡ b →
+          judgePath mol s t xs ≡ answer b
       unfolding judgePath
       path-judged n b e = rw (ok, start, end, ne-eqb s t n, e)

@@ -28,7 +28,8 @@ module _ (k i j : ℕ) where
     pub joined-close : i ≡ 0 → (k ≡ 0 → ⊥) → alongRing k i j ≡ eqb j (k - 1)
     joined-close z c =
         let back : k ≡ suc (k - 1) = omega arith in
-        rw (ne-eqb j (suc i) (λ e. apart (omega arith)), eq-eqb i 0 z) (ap (λ x. eqb (suc j) x) back ∙ eqb·suc-suc j (k - 1))
+        rw (ne-eqb j (suc i) (λ e. apart (omega arith)), eq-eqb i 0 z)
+        (ap (λ x. eqb (suc j) x) back ∙ eqb·suc-suc j (k - 1))
 
 module _ (adj : Adjacency) (k : ℕ) (xs : List ℕ) (i j : ℕ) where
   pub pair-equal : atomAt xs i ≡ atomAt xs j → pairFits adj k xs j i ≡ false
@@ -57,7 +58,8 @@ pub in-range-is : (n : ℕ) (xs : List ℕ) → inRange n xs ≡ allBelow (lengt
 unfolding inRange inRangeAt
 in-range-is n xs = refl
 
-pub induces-is : (adj : Adjacency) (k : ℕ) (xs : List ℕ) → induces adj (alongRing k) xs ≡ allBelow (length xs) (fitsBefore adj k xs)
+pub induces-is :
+    (adj : Adjacency) (k : ℕ) (xs : List ℕ) → induces adj (alongRing k) xs ≡ allBelow (length xs) (fitsBefore adj k xs)
 unfolding induces fitsBefore pairFits
 induces-is adj k xs = refl
 

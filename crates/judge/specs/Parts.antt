@@ -8,7 +8,8 @@ use Rattle.graph.specs.Every.{allBelow}
 use Rattle.graph.specs.Chordless.{Adjacency, atomAt, alongRing}
 
 unfoldable pub pairFits : Adjacency → ℕ → List ℕ → ℕ → ℕ → Bool
-pairFits adj k xs j i = not (eqb (atomAt xs i) (atomAt xs j)) && Bool·beq (adj (atomAt xs i) (atomAt xs j)) (alongRing k i j)
+pairFits adj k xs j i =
+    not (eqb (atomAt xs i) (atomAt xs j)) && Bool·beq (adj (atomAt xs i) (atomAt xs j)) (alongRing k i j)
 
 unfoldable pub fitsBefore : Adjacency → ℕ → List ℕ → ℕ → Bool
 fitsBefore adj k xs j = allBelow j (pairFits adj k xs j)

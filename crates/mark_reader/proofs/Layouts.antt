@@ -21,11 +21,15 @@ module _ (c : ℕ) (bytes : List ℕ) (at : ℕ) where
   unfolding fieldsKept
   kept-none = refl
 
-  pub kept-fails : (k i place : ℕ) → i < k → place ≡ at + c * i → isValue (fieldAt c bytes place) ≡ false → false ≡ fieldsKept c bytes at k
+  pub kept-fails :
+      (k i place : ℕ) → i < k → place ≡ at + c * i → isValue (fieldAt c bytes place) ≡ false →
+      false ≡ fieldsKept c bytes at k
   unfolding fieldsKept
   kept-fails k i place h p e = sym (all-fails k isField i h (rw p at e))
 
-  pub kept-more : (i place : ℕ) → fieldsKept c bytes at i ≡ true → place ≡ at + c * i → isValue (fieldAt c bytes place) ≡ true → fieldsKept c bytes at (i + 1) ≡ true
+  pub kept-more :
+      (i place : ℕ) → fieldsKept c bytes at i ≡ true → place ≡ at + c * i → isValue (fieldAt c bytes place) ≡ true →
+      fieldsKept c bytes at (i + 1) ≡ true
   unfolding fieldsKept
   kept-more i place f p e = all-more i isField f (rw p at e)
 
@@ -57,12 +61,28 @@ module _ (bytes : List ℕ) where
         module _ (counts : fieldsKept 20 bytes 29 3 ≡ true) where
           pub layout-second : (getD bytes 89 0 ≡ 10 → ⊥) → false ≡ layoutKept bytes
           unfolding layoutKept
-          layout-second e = rw (le-leb 91 (length bytes) long, head, eq-eqb (getD bytes 28 0) 10 first, counts, ne-eqb (getD bytes 89 0) 10 e)
+          layout-second e =
+              rw (
+                le-leb 91 (length bytes) long,
+                head,
+                eq-eqb (getD bytes 28 0) 10 first,
+                counts,
+                ne-eqb (getD bytes 89 0) 10 e,
+              )
 
           module _ (second : getD bytes 89 0 ≡ 10) where
             -- the tests so far
-            begun : leb 91 (length bytes) && fieldsKept 4 bytes 0 7 && isFeed bytes 28 && fieldsKept 20 bytes 29 3 && isFeed bytes 89 ≡ true
-            begun = rw (le-leb 91 (length bytes) long, head, eq-eqb (getD bytes 28 0) 10 first, counts, eq-eqb (getD bytes 89 0) 10 second)
+            begun :
+                leb 91 (length bytes) && fieldsKept 4 bytes 0 7 && isFeed bytes 28 && fieldsKept 20 bytes 29 3 &&
+                isFeed bytes 89 ≡ true
+            begun =
+                rw (
+                  le-leb 91 (length bytes) long,
+                  head,
+                  eq-eqb (getD bytes 28 0) 10 first,
+                  counts,
+                  eq-eqb (getD bytes 89 0) 10 second,
+                )
 
             module _ (k : ℕ) (is : k ≡ markLength bytes) where
               pub layout-most : 127 < k → false ≡ layoutKept bytes

@@ -21,7 +21,8 @@ use Rattle.mark_reader.specs.Parts.{low}
 
 -- ---- filling the array
 
-values-snoc : (bytes : List ℕ) (at k : ℕ) → valuesAt bytes at (suc k) ≡ valuesAt bytes at k ++ valueAt 4 bytes (at + 4 * k) ∷ []
+values-snoc :
+    (bytes : List ℕ) (at k : ℕ) → valuesAt bytes at (suc k) ≡ valuesAt bytes at k ++ valueAt 4 bytes (at + 4 * k) ∷ []
 unfolding valuesAt
 values-snoc bytes at zero = rw add-zero
 values-snoc bytes at (suc k) =
@@ -33,20 +34,32 @@ unfolding held
 held-snoc p v h =
     let more : 128 - length p ≡ suc (127 - length p) = omega arith in
     let left : 128 - (length p + 1) ≡ 127 - length p = omega arith in
-    rw (more, length-append, left) (set-append-seam p 0 (replicate (127 - length p) 0) v ∙ sym (append-snoc p v (replicate (127 - length p) 0)))
+    rw (more, length-append, left)
+    (set-append-seam p 0 (replicate (127 - length p) 0) v ∙ sym (append-snoc p v (replicate (127 - length p) 0)))
 
 pub low-length : (bytes : List ℕ) (k : ℕ) → length (map low (valuesAt bytes 90 k)) ≡ k
-low-length bytes k = length-map (valuesAt bytes 90 k) low ∙ ap length (values-four bytes 90 k) ∙ values-length 4 bytes 90 k
+low-length bytes k =
+    length-map (valuesAt bytes 90 k) low ∙ ap length (values-four bytes 90 k) ∙ values-length 4 bytes 90 k
 
 pub atoms-none : (bytes : List ℕ) → replicate 128 0 ≡ held (map low (valuesAt bytes 90 0))
 unfolding held valuesAt
 atoms-none bytes = refl
 
-pub atoms-turn : (bytes prefix : List ℕ) (i v : ℕ) → i < 128 → v ≡ low (valueAt 4 bytes (90 + 4 * i)) → prefix ≡ held (map low (valuesAt bytes 90 i)) → set prefix i v ≡ held (map low (valuesAt bytes 90 (i + 1)))
+pub atoms-turn :
+    (bytes prefix : List ℕ) (i v : ℕ) → i < 128 → v ≡ low (valueAt 4 bytes (90 + 4 * i)) →
+    prefix ≡ held (map low (valuesAt bytes 90 i)) → set prefix i v ≡ held (map low (valuesAt bytes 90 (i + 1)))
 atoms-turn bytes prefix i v h s e =
     let size : length (map low (valuesAt bytes 90 i)) ≡ i = low-length bytes i in
-    let one : set (held (map low (valuesAt bytes 90 i))) i (low (valueAt 4 bytes (90 + 4 * i))) ≡ held (map low (valuesAt bytes 90 i) ++ low (valueAt 4 bytes (90 + 4 * i)) ∷ []) = rw size at (held-snoc (map low (valuesAt bytes 90 i)) (low (valueAt 4 bytes (90 + 4 * i))) (omega arith)) in
-    rw (e, s, add-one, values-snoc bytes 90 i, map-append low (valuesAt bytes 90 i) (valueAt 4 bytes (90 + 4 * i) ∷ [])) one
+    let one : set (held (map low (valuesAt bytes 90 i))) i (low (valueAt 4 bytes (90 + 4 * i))) ≡
+    held (map low (valuesAt bytes 90 i) ++ low (valueAt 4 bytes (90 + 4 * i)) ∷ []) =
+    rw size at (held-snoc (map low (valuesAt bytes 90 i)) (low (valueAt 4 bytes (90 + 4 * i))) (omega arith)) in
+    rw (
+      e,
+      s,
+      add-one,
+      values-snoc bytes 90 i,
+      map-append low (valuesAt bytes 90 i) (valueAt 4 bytes (90 + 4 * i) ∷ []),
+    ) one
 
 -- ---- the stored atoms and the atoms
 
@@ -61,7 +74,9 @@ module _ (F : Family) (L : Lawful F) (few : F .atoms ≤ 128) (p : List ℕ) whe
   open-stored e = low-of (λ i h. let r = open-range F L p e i h in omega arith)
 
   pub stored-open : isOpen F (map low p) ≡ true → map low p ≡ p
-  stored-open e = low-of (λ i h. let r = open-range F L (map low p) e i (omega (arith, length-map p low)) in omega (arith, low-at i))
+  stored-open e =
+      low-of (λ i h. let r = open-range F L (map low p) e i (omega (arith, length-map p low)) in
+      omega (arith, low-at i))
 
   stored-same : isOpen F (map low p) ≡ isOpen F p
   stored-same = same-test (isOpen F (map low p)) (isOpen F p) (λ e. rw (stored-open e) at e) (λ e. rw (open-stored e) e)

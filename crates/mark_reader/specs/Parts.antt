@@ -11,4 +11,14 @@ low v = min v 255
 -- the search that the fields of a mark name, with its atoms in an array
 unfoldable pub searchOf : List ℕ → List ℕ → Search
 searchOf bytes prefix =
-    record { kind = valueAt 4 bytes 0; s = valueAt 4 bytes 4; t = valueAt 4 bytes 8; len = valueAt 4 bytes 20; prefix = prefix; next = valueAt 4 bytes 24; trials = valueAt 20 bytes 29; extensions = valueAt 20 bytes 49; listed = valueAt 20 bytes 69 }
+    record {
+      kind = valueAt 4 bytes 0;
+      s = valueAt 4 bytes 4;
+      t = valueAt 4 bytes 8;
+      len = valueAt 4 bytes 20;
+      prefix = prefix;
+      next = valueAt 4 bytes 24;
+      trials = valueAt 20 bytes 29;
+      extensions = valueAt 20 bytes 49;
+      listed = valueAt 20 bytes 69;
+    }

@@ -27,10 +27,15 @@ module _ (mol : Molecule) (q : Search) (out : List ℕ) (formed : wellFormed mol
   pub mark-size : length (markText mol q) ≡ 91 + 4 * q .len
   mark-size = mark-length mol q ∙ ap (λ k. 91 + 4 * k) beginning-size
 
-  pub saved-room : length out < 91 + 4 * q .len → (Refused refusal.MarkRoom ≡ saveAnswer mol q out) × (out ≡ saveOutput mol q out)
-  saved-room h = let a = save-room mol q out formed kept (omega (arith, mark-size)) in (sym a, sym (save-refused mol q out refusal.MarkRoom a))
+  pub saved-room :
+      length out < 91 + 4 * q .len → (Refused refusal.MarkRoom ≡ saveAnswer mol q out) × (out ≡ saveOutput mol q out)
+  saved-room h =
+      let a = save-room mol q out formed kept (omega (arith, mark-size)) in
+      (sym a, sym (save-refused mol q out refusal.MarkRoom a))
 
-  pub saved-written : (last : List ℕ) → 91 + 4 * q .len ≤ length out → last ≡ spliced 0 (markText mol q) out → (Written (91 + 4 * q .len) ≡ saveAnswer mol q out) × (last ≡ saveOutput mol q out)
+  pub saved-written :
+      (last : List ℕ) → 91 + 4 * q .len ≤ length out → last ≡ spliced 0 (markText mol q) out →
+      (Written (91 + 4 * q .len) ≡ saveAnswer mol q out) × (last ≡ saveOutput mol q out)
   unfolding saveOutput
   saved-written last h e =
       let a = save-writes mol q out formed kept (omega (arith, mark-size)) in

@@ -20,9 +20,11 @@ module _ (mol : Molecule) (bytes : List ℕ) where
   restore-record e = rw e
 
 module _ (mol : Molecule) (q : Search) (out : List ℕ) where
-  pub saved-record : wellFormed mol ≡ false → (Refused refusal.Record ≡ saveAnswer mol q out) × (out ≡ saveOutput mol q out)
+  pub saved-record :
+      wellFormed mol ≡ false → (Refused refusal.Record ≡ saveAnswer mol q out) × (out ≡ saveOutput mol q out)
   saved-record e = let a = save-record mol q out e in (sym a, sym (save-refused mol q out refusal.Record a))
 
   module _ (formed : wellFormed mol ≡ true) where
-    pub saved-search : restorable mol q ≡ false → (Refused refusal.Search ≡ saveAnswer mol q out) × (out ≡ saveOutput mol q out)
+    pub saved-search :
+        restorable mol q ≡ false → (Refused refusal.Search ≡ saveAnswer mol q out) × (out ≡ saveOutput mol q out)
     saved-search e = let a = save-search mol q out formed e in (sym a, sym (save-refused mol q out refusal.Search a))

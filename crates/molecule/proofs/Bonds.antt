@@ -17,7 +17,8 @@ pub atom-bounds : (n a : ℕ) → isAtom n a ≡ true → (1 ≤ a) × (a ≤ n)
 atom-bounds n a e = let parts = and-parts (leb 1 a) (leb a n) e in (leb-true 1 a (parts .0), leb-true a n (parts .1))
 
 -- the bit of two atoms
-pub bonded-cell : (n : ℕ) (rows : List ℕ) (a b : ℕ) → 1 ≤ a → a ≤ n → 1 ≤ b → b ≤ n → bonded n rows a b ≡ cell rows (a - 1) (b - 1)
+pub bonded-cell :
+    (n : ℕ) (rows : List ℕ) (a b : ℕ) → 1 ≤ a → a ≤ n → 1 ≤ b → b ≤ n → bonded n rows a b ≡ cell rows (a - 1) (b - 1)
 unfolding bonded
 bonded-cell n rows a b la ha lb hb = rw (le-leb 1 a la, le-leb a n ha, le-leb 1 b lb, le-leb b n hb)
 
@@ -48,12 +49,21 @@ pub record Rule9 (mol : Molecule) : Type 0 where
 pub rule9 : (mol : Molecule) → wellFormed mol ≡ true → Rule9 mol
 unfolding wellFormed
 rule9 mol e =
-    let s1 = and-parts (leb (mol .atoms) 128 && leb (mol .bonds) 1024 && symmetric (mol .rows) && loopless (mol .rows) && within (mol .atoms) (mol .rows)) (eqb (onesOf (mol .rows)) (2 * mol .bonds)) e in
-    let s2 = and-parts (leb (mol .atoms) 128 && leb (mol .bonds) 1024 && symmetric (mol .rows) && loopless (mol .rows)) (within (mol .atoms) (mol .rows)) (s1 .0) in
-    let s3 = and-parts (leb (mol .atoms) 128 && leb (mol .bonds) 1024 && symmetric (mol .rows)) (loopless (mol .rows)) (s2 .0) in
+    let s1 = and-parts
+    (leb (mol .atoms) 128 && leb (mol .bonds) 1024 && symmetric (mol .rows) && loopless (mol .rows) &&
+    within (mol .atoms) (mol .rows)) (eqb (onesOf (mol .rows)) (2 * mol .bonds)) e in
+    let s2 = and-parts (leb (mol .atoms) 128 && leb (mol .bonds) 1024 && symmetric (mol .rows) && loopless (mol .rows))
+    (within (mol .atoms) (mol .rows)) (s1 .0) in
+    let s3 = and-parts (leb (mol .atoms) 128 && leb (mol .bonds) 1024 && symmetric (mol .rows)) (loopless (mol .rows))
+    (s2 .0) in
     let s4 = and-parts (leb (mol .atoms) 128 && leb (mol .bonds) 1024) (symmetric (mol .rows)) (s3 .0) in
     let s5 = and-parts (leb (mol .atoms) 128) (leb (mol .bonds) 1024) (s4 .0) in
-    record { atoms-high = leb-true (mol .atoms) 128 (s5 .0); bonds-high = leb-true (mol .bonds) 1024 (s5 .1); rows-sound = and-both _ _ (and-both _ _ (s4 .1) (s3 .1)) (s2 .1); ones-count = s1 .1 }
+    record {
+      atoms-high = leb-true (mol .atoms) 128 (s5 .0);
+      bonds-high = leb-true (mol .bonds) 1024 (s5 .1);
+      rows-sound = and-both _ _ (and-both _ _ (s4 .1) (s3 .1)) (s2 .1);
+      ones-count = s1 .1;
+    }
 
 module _ (mol : Molecule) (ok : wellFormed mol ≡ true) where
   abbrev n : ℕ
@@ -80,4 +90,6 @@ module _ (mol : Molecule) (ok : wellFormed mol ≡ true) where
 
   -- No atom is bonded to itself
   pub bonded-irreflexive : (a : ℕ) → bonded n rows a a ≡ false
-  bonded-irreflexive a = ⊎-elim (λ (e : bonded n rows a a ≡ true). absurd (mirror a a e .off-diagonal refl)) (λ f. f) (either (bonded n rows a a))
+  bonded-irreflexive a =
+      ⊎-elim (λ (e : bonded n rows a a ≡ true). absurd (mirror a a e .off-diagonal refl)) (λ f. f)
+      (either (bonded n rows a a))

@@ -20,7 +20,8 @@ module _ (rows : List ℕ) (n at : ℕ) where
   unfolding bitSound
   bit-clear k h = rw (ne-eqb (getD rows at 0 / 2 ^ k % 2) 1 h)
 
-  pub bit-set : (k : ℕ) → getD rows at 0 / 2 ^ k % 2 ≡ 1 → mirrored rows n (at / 16) (at % 16 * 8 + k) ≡ bitSound rows n at k
+  pub bit-set :
+      (k : ℕ) → getD rows at 0 / 2 ^ k % 2 ≡ 1 → mirrored rows n (at / 16) (at % 16 * 8 + k) ≡ bitSound rows n at k
   unfolding bitSound
   bit-set k b = rw (eq-eqb (getD rows at 0 / 2 ^ k % 2) 1 b)
 

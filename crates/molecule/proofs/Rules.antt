@@ -1,4 +1,5 @@
--- The tests of the record check together are the rules of the rows: every bit that is set is within n, off the diagonal and mirrored.
+-- The tests of the record check together are the rules of the rows:
+-- every bit that is set is within n, off the diagonal and mirrored.
 -- A place of the rows is a row and a column, and the other way round.
 use Prim.Native.Nat.{ℕ, _+_, _-_, _*_, _/_, _%_, _≤_, _<_}
 use native.Mathlib.Omega.{arith}
@@ -20,7 +21,8 @@ pub every-elim : (test : ℕ → ℕ → Bool) → everyCell test ≡ true → (
 every-elim test e i j hi hj = allBelow-at 128 (test i) (allBelow-at 128 (λ i. allBelow 128 (test i)) e i hi) j hj
 
 pub every-intro : (test : ℕ → ℕ → Bool) → ((i j : ℕ) → i < 128 → j < 128 → test i j ≡ true) → everyCell test ≡ true
-every-intro test f = allBelow-of 128 (λ i. allBelow 128 (test i)) (λ i hi. allBelow-of 128 (test i) (λ j hj. f i j hi hj))
+every-intro test f =
+    allBelow-of 128 (λ i. allBelow 128 (test i)) (λ i hi. allBelow-of 128 (test i) (λ j hj. f i j hi hj))
 
 -- what is known of a bit that is set
 pub record Mirror (rows : List ℕ) (n i j : ℕ) : Type 0 where
@@ -35,11 +37,17 @@ mirror-of rows n i j e =
     let outer = and-parts (ltb i n && ltb j n && not (eqb i j)) (cell rows j i) e in
     let middle = and-parts (ltb i n && ltb j n) (not (eqb i j)) (outer .0) in
     let inner = and-parts (ltb i n) (ltb j n) (middle .0) in
-    record { row-within = ltb-true i n (inner .0); column-within = ltb-true j n (inner .1); off-diagonal = eqb-false i j (not-true (eqb i j) (middle .1)); image = outer .1 }
+    record {
+      row-within = ltb-true i n (inner .0);
+      column-within = ltb-true j n (inner .1);
+      off-diagonal = eqb-false i j (not-true (eqb i j) (middle .1));
+      image = outer .1;
+    }
 
 of-mirror : (rows : List ℕ) (n i j : ℕ) → Mirror rows n i j → mirrored rows n i j ≡ true
 unfolding mirrored
-of-mirror rows n i j m = rw (lt-ltb i n (m .row-within), lt-ltb j n (m .column-within), ne-eqb i j (m .off-diagonal)) (m .image)
+of-mirror rows n i j m =
+    rw (lt-ltb i n (m .row-within), lt-ltb j n (m .column-within), ne-eqb i j (m .off-diagonal)) (m .image)
 
 -- every bit that is set has its mirror image, by row and column
 unfoldable pub Sound : List ℕ → ℕ → Type 0
@@ -55,20 +63,23 @@ sound-of-bytes rows n e i j hi hj set =
     let column : (16 * i + j / 8) % 16 * 8 + j % 8 ≡ j = omega arith in
     let byte = allBelow-at 2048 (byteSound rows n) e (16 * i + j / 8) place in
     let here = allBelow-at 8 (bitSound rows n (16 * i + j / 8)) byte (j % 8) offset in
-    let m = implies-elim (bit (getD rows (16 * i + j / 8) 0) (j % 8)) (mirrored rows n ((16 * i + j / 8) / 16) ((16 * i + j / 8) % 16 * 8 + j % 8)) here set in
+    let m = implies-elim (bit (getD rows (16 * i + j / 8) 0) (j % 8))
+    (mirrored rows n ((16 * i + j / 8) / 16) ((16 * i + j / 8) % 16 * 8 + j % 8)) here set in
     mirror-of rows n i j (rw (row, column) at m)
 
 pub bytes-of-sound : (rows : List ℕ) (n : ℕ) → Sound rows n → rowsSound rows n ≡ true
 unfolding Sound rowsSound byteSound bitSound cell
 bytes-of-sound rows n sound =
-    allBelow-of 2048 (byteSound rows n) (λ at place. allBelow-of 8 (bitSound rows n at) (λ k offset. here at k place offset))
+    allBelow-of 2048 (byteSound rows n)
+    (λ at place. allBelow-of 8 (bitSound rows n at) (λ k offset. here at k place offset))
   where
     here : (at k : ℕ) → at < 2048 → k < 8 → bitSound rows n at k ≡ true
     here at k place offset =
         let same-byte : 16 * (at / 16) + (at % 16 * 8 + k) / 8 ≡ at = omega arith in
         let same-bit : (at % 16 * 8 + k) % 8 ≡ k = omega arith in
         implies-intro (bit (getD rows at 0) k) (mirrored rows n (at / 16) (at % 16 * 8 + k))
-        (λ set. of-mirror rows n (at / 16) (at % 16 * 8 + k) (sound (at / 16) (at % 16 * 8 + k) (omega arith) (omega arith) (rw (same-byte, same-bit) set)))
+        (λ set. of-mirror rows n (at / 16) (at % 16 * 8 + k)
+        (sound (at / 16) (at % 16 * 8 + k) (omega arith) (omega arith) (rw (same-byte, same-bit) set)))
 
 -- the rules of the rows, one by one
 rules-of-sound : (rows : List ℕ) (n : ℕ) → Sound rows n → (symmetric rows && loopless rows && within n rows) ≡ true
@@ -78,26 +89,38 @@ rules-of-sound rows n sound = and-both _ _ (and-both _ _ mirror diagonal) inside
     mirror : everyCell (λ i j. Bool·beq (cell rows i j) (cell rows j i)) ≡ true
     mirror =
         every-intro (λ i j. Bool·beq (cell rows i j) (cell rows j i))
-        (λ i j hi hj. beq-same (cell rows i j) (cell rows j i) (same-test (cell rows i j) (cell rows j i) (λ e. sound i j hi hj e .image) (λ e. sound j i hj hi e .image)))
+        (λ i j hi hj. beq-same (cell rows i j) (cell rows j i)
+        (same-test (cell rows i j) (cell rows j i) (λ e. sound i j hi hj e .image) (λ e. sound j i hj hi e .image)))
 
     diagonal : allBelow 128 (λ i. not (cell rows i i)) ≡ true
-    diagonal = allBelow-of 128 (λ i. not (cell rows i i)) (λ i hi. not-of (cell rows i i) (false-of (cell rows i i) (λ e. sound i i hi hi e .off-diagonal refl)))
+    diagonal =
+        allBelow-of 128 (λ i. not (cell rows i i))
+        (λ i hi. not-of (cell rows i i) (false-of (cell rows i i) (λ e. sound i i hi hi e .off-diagonal refl)))
 
     inside : everyCell (λ i j. not (cell rows i j) || ltb i n && ltb j n) ≡ true
     inside =
         every-intro (λ i j. not (cell rows i j) || ltb i n && ltb j n)
-        (λ i j hi hj. implies-intro (cell rows i j) (ltb i n && ltb j n) (λ e. let m = sound i j hi hj e in and-both _ _ (lt-ltb i n (m .row-within)) (lt-ltb j n (m .column-within))))
+        (λ i j hi hj. implies-intro (cell rows i j) (ltb i n && ltb j n)
+        (λ e. let m = sound i j hi hj e in and-both _ _ (lt-ltb i n (m .row-within)) (lt-ltb j n (m .column-within))))
 
 pub sound-of-rules : (rows : List ℕ) (n : ℕ) → (symmetric rows && loopless rows && within n rows) ≡ true → Sound rows n
 unfolding Sound symmetric loopless within
 sound-of-rules rows n e i j hi hj set =
     let outer = and-parts (symmetric rows && loopless rows) (within n rows) e in
     let inner = and-parts (symmetric rows) (loopless rows) (outer .0) in
-    let inside = implies-elim (cell rows i j) (ltb i n && ltb j n) (every-elim (λ i j. not (cell rows i j) || ltb i n && ltb j n) (outer .1) i j hi hj) set in
+    let inside =
+    implies-elim (cell rows i j) (ltb i n && ltb j n)
+    (every-elim (λ i j. not (cell rows i j) || ltb i n && ltb j n) (outer .1) i j hi hj) set in
     let parts = and-parts (ltb i n) (ltb j n) inside in
     let clear = allBelow-at 128 (λ i. not (cell rows i i)) (inner .1) i hi in
-    let same = beq-true (cell rows i j) (cell rows j i) (every-elim (λ i j. Bool·beq (cell rows i j) (cell rows j i)) (inner .0) i j hi hj) in
-    record { row-within = ltb-true i n (parts .0); column-within = ltb-true j n (parts .1); off-diagonal = λ d. apart (sym set ∙ ap (λ k. cell rows i k) (sym d) ∙ not-true (cell rows i i) clear); image = sym same ∙ set }
+    let same = beq-true (cell rows i j) (cell rows j i)
+    (every-elim (λ i j. Bool·beq (cell rows i j) (cell rows j i)) (inner .0) i j hi hj) in
+    record {
+      row-within = ltb-true i n (parts .0);
+      column-within = ltb-true j n (parts .1);
+      off-diagonal = λ d. apart (sym set ∙ ap (λ k. cell rows i k) (sym d) ∙ not-true (cell rows i i) clear);
+      image = sym same ∙ set;
+    }
 
 -- The check of the rows decides their rules
 pub rows-rules : (rows : List ℕ) (n : ℕ) → (symmetric rows && loopless rows && within n rows) ≡ rowsSound rows n
@@ -107,6 +130,9 @@ rows-rules rows n =
     (λ e. rules-of-sound rows n (sound-of-bytes rows n e))
 
 -- Rule 9 where n and m are in range
-pub rule-in-range : (mol : Molecule) → mol .atoms ≤ 128 → mol .bonds ≤ 1024 → (sound : Bool) → rowsSound (mol .rows) (mol .atoms) ≡ sound → wellFormed mol ≡ (sound && eqb (onesOf (mol .rows)) (2 * mol .bonds))
+pub rule-in-range :
+    (mol : Molecule) → mol .atoms ≤ 128 → mol .bonds ≤ 1024 → (sound : Bool) →
+    rowsSound (mol .rows) (mol .atoms) ≡ sound → wellFormed mol ≡ (sound && eqb (onesOf (mol .rows)) (2 * mol .bonds))
 unfolding wellFormed
-rule-in-range mol hn hm sound e = rw (le-leb (mol .atoms) 128 hn, le-leb (mol .bonds) 1024 hm, rows-rules (mol .rows) (mol .atoms), e)
+rule-in-range mol hn hm sound e =
+    rw (le-leb (mol .atoms) 128 hn, le-leb (mol .bonds) 1024 hm, rows-rules (mol .rows) (mol .atoms), e)

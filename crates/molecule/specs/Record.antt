@@ -13,7 +13,8 @@ use Rattle.molecule.specs.declared.Molecule.{Molecule}
 abbrev pub bit : ℕ → ℕ → Bool
 bit x k = eqb (x / 2 ^ k % 2) 1
 
--- Row i, column j, both counted from 0: bit j mod 8 of byte j / 8 of the row. It is 1 exactly when atom i + 1 is bonded to atom j + 1
+-- Row i, column j, both counted from 0: bit j mod 8 of byte j / 8 of
+-- the row. It is 1 exactly when atom i + 1 is bonded to atom j + 1
 unfoldable pub cell : List ℕ → ℕ → ℕ → Bool
 cell rows i j = bit (getD rows (16 * i + j / 8) 0) (j % 8)
 

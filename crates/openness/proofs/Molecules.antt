@@ -34,8 +34,11 @@ module _ (mol : Molecule) (ok : wellFormed mol ≡ true) (table : List ℕ) (wor
   -- Its families are the record's
   pub family-same : (kind s t : ℕ) → familyBy (mol .atoms) table kind s t ≡ familyOf mol kind s t
   unfolding familyBy familyOf
-  family-same kind s t = ap (λ (adj : Adjacency). cond (eqb kind 0) (rings (mol .atoms) adj) (paths (mol .atoms) adj s t)) linked-same
+  family-same kind s t =
+      ap (λ (adj : Adjacency). cond (eqb kind 0) (rings (mol .atoms) adj) (paths (mol .atoms) adj s t)) linked-same
 
-  pub open-same : (q : Search) → isOpen (familyBy (mol .atoms) table (q .kind) (q .s) (q .t)) (take (q .len) (q .prefix)) ≡ isOpen (family mol q) (beginning q)
+  pub open-same :
+      (q : Search) → isOpen (familyBy (mol .atoms) table (q .kind) (q .s) (q .t)) (take (q .len) (q .prefix)) ≡
+      isOpen (family mol q) (beginning q)
   unfolding beginning
   open-same q = ap (λ (F : Family). isOpen F (take (q .len) (q .prefix))) (family-same (q .kind) (q .s) (q .t))

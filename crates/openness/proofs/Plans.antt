@@ -61,13 +61,19 @@ module _ (n : ℕ) (table : List ℕ) (kind s t : ℕ) where
 
 -- ---- the answers
 
-pub alone-yes : (opening : Bool) (c : ℕ) (none one : List ℕ) → opening ≡ true → ((v : ℕ) → has none v ≡ false) → ((v : ℕ) → has one v ≡ eqb v c) → Alone opening c (record { members = none; opens = one })
+pub alone-yes :
+    (opening : Bool) (c : ℕ) (none one : List ℕ) → opening ≡ true → ((v : ℕ) → has none v ≡ false) →
+    ((v : ℕ) → has one v ≡ eqb v c) → Alone opening c (record { members = none; opens = one })
 alone-yes opening c none one e f g = record { no-member = f; one-opens = λ v. g v ∙ sym (rw e (and-true (eqb v c))) }
 
-pub alone-no : (opening : Bool) (c : ℕ) (none : List ℕ) → opening ≡ false → ((v : ℕ) → has none v ≡ false) → Alone opening c (record { members = none; opens = none })
+pub alone-no :
+    (opening : Bool) (c : ℕ) (none : List ℕ) → opening ≡ false → ((v : ℕ) → has none v ≡ false) →
+    Alone opening c (record { members = none; opens = none })
 alone-no opening c none e f = record { no-member = f; one-opens = λ v. f v ∙ sym (rw e (and-false (eqb v c))) }
 
-planned-alone : (F : Family) (p : List ℕ) (c : ℕ) (opening : Bool) (plan : Plan) → length p ≤ 1 → F .member (p ++ c ∷ []) ≡ false → opening ≡ isOpen F (p ++ c ∷ []) → Alone opening c plan → Planned F p c plan
+planned-alone :
+    (F : Family) (p : List ℕ) (c : ℕ) (opening : Bool) (plan : Plan) → length p ≤ 1 → F .member (p ++ c ∷ []) ≡ false →
+    opening ≡ isOpen F (p ++ c ∷ []) → Alone opening c plan → Planned F p c plan
 planned-alone F p c opening plan h m o k =
     record {
       next = record { members = k .no-member c ∙ sym m; opens = k .one-opens c ∙ rw (eq-eqb c c refl) o };
@@ -77,7 +83,8 @@ planned-alone F p c opening plan h m o k =
 planned-every : (F : Family) (p : List ℕ) (c : ℕ) (plan : Plan) → Everywhere F p plan → Planned F p c plan
 planned-every F p c plan f = record { next = f c; every = λ h v. f v }
 
-module _ {n : ℕ} {table : List ℕ} {kind s t : ℕ} {prefix : List ℕ} {len : ℕ} (b : Beginning n table kind s t prefix len) where
+module _ {n : ℕ} {table : List ℕ} {kind s t : ℕ} {prefix : List ℕ} {len : ℕ}
+    (b : Beginning n table kind s t prefix len) where
   none-taken : len ≡ 0 → take len prefix ≡ []
   none-taken e = rw e
 
@@ -86,36 +93,67 @@ module _ {n : ℕ} {table : List ℕ} {kind s t : ℕ} {prefix : List ℕ} {len 
 
   -- its atoms
   pub beginning-atoms : (i : ℕ) → i < len → (1 ≤ atomAt prefix i) × (atomAt prefix i ≤ n)
-  beginning-atoms = let short = b .short in open-atoms (familyBy n table kind s t) n prefix len (family-by-lawful n table kind s t) (family-by-atoms n table kind s t) (b .words .few) (b .size) (omega arith) (b .isOpened)
+  beginning-atoms =
+      let short = b .short in
+      open-atoms (familyBy n table kind s t) n prefix len (family-by-lawful n table kind s t)
+      (family-by-atoms n table kind s t) (b .words .few) (b .size) (omega arith) (b .isOpened)
 
   module _ (e : kind ≡ 0) where
     pub opened-rings : Opened (rings n (linkedBy table)) n table prefix len
-    opened-rings = record { words = b .words; size = b .size; short = b .short; isOpened = rw (← family-rings n table kind s t e) (b .isOpened) }
+    opened-rings =
+        record {
+          words = b .words;
+          size = b .size;
+          short = b .short;
+          isOpened = rw (← family-rings n table kind s t e) (b .isOpened);
+        }
 
-    pub planned-ring-start : (c : ℕ) (opening : Bool) (plan : Plan) → len ≡ 0 → opening ≡ isOpen (rings n (linkedBy table)) (c ∷ []) → Alone opening c plan → Planned (familyBy n table kind s t) (take len prefix) c plan
+    pub planned-ring-start :
+        (c : ℕ) (opening : Bool) (plan : Plan) → len ≡ 0 → opening ≡ isOpen (rings n (linkedBy table)) (c ∷ []) →
+        Alone opening c plan → Planned (familyBy n table kind s t) (take len prefix) c plan
     planned-ring-start c opening plan z o k =
         rw (family-rings n table kind s t e, none-taken z)
-        (planned-alone (rings n (linkedBy table)) [] c opening plan (omega arith) (ring-not-short n (linkedBy table) [] c (omega arith)) o k)
+        (planned-alone (rings n (linkedBy table)) [] c opening plan (omega arith)
+        (ring-not-short n (linkedBy table) [] c (omega arith)) o k)
 
-    pub planned-ring-pair : (a c : ℕ) (opening : Bool) (plan : Plan) → len ≡ 1 → a ≡ atomAt prefix 0 → opening ≡ isOpen (rings n (linkedBy table)) (a ∷ c ∷ []) → Alone opening c plan → Planned (familyBy n table kind s t) (take len prefix) c plan
+    pub planned-ring-pair :
+        (a c : ℕ) (opening : Bool) (plan : Plan) → len ≡ 1 → a ≡ atomAt prefix 0 →
+        opening ≡ isOpen (rings n (linkedBy table)) (a ∷ c ∷ []) → Alone opening c plan →
+        Planned (familyBy n table kind s t) (take len prefix) c plan
     planned-ring-pair a c opening plan z f o k =
         rw (family-rings n table kind s t e, one-taken z, ← f)
-        (planned-alone (rings n (linkedBy table)) (a ∷ []) c opening plan (omega arith) (ring-not-short n (linkedBy table) (a ∷ []) c (omega arith)) o k)
+        (planned-alone (rings n (linkedBy table)) (a ∷ []) c opening plan (omega arith)
+        (ring-not-short n (linkedBy table) (a ∷ []) c (omega arith)) o k)
 
-    pub planned-rings : (c : ℕ) (plan : Plan) → Everywhere (rings n (linkedBy table)) (take len prefix) plan → Planned (familyBy n table kind s t) (take len prefix) c plan
-    planned-rings c plan f = rw (family-rings n table kind s t e) (planned-every (rings n (linkedBy table)) (take len prefix) c plan f)
+    pub planned-rings :
+        (c : ℕ) (plan : Plan) → Everywhere (rings n (linkedBy table)) (take len prefix) plan →
+        Planned (familyBy n table kind s t) (take len prefix) c plan
+    planned-rings c plan f =
+        rw (family-rings n table kind s t e) (planned-every (rings n (linkedBy table)) (take len prefix) c plan f)
 
   module _ (d : kind ≡ 0 → ⊥) where
     pub path-ends : endsKept n s t ≡ true
     path-ends = kind-ends n table kind s t d (b .kinds)
 
     pub opened-paths : Opened (paths n (linkedBy table) s t) n table prefix len
-    opened-paths = record { words = b .words; size = b .size; short = b .short; isOpened = rw (← family-paths n table kind s t d) (b .isOpened) }
+    opened-paths =
+        record {
+          words = b .words;
+          size = b .size;
+          short = b .short;
+          isOpened = rw (← family-paths n table kind s t d) (b .isOpened);
+        }
 
-    pub planned-path-start : (c : ℕ) (opening : Bool) (plan : Plan) → len ≡ 0 → opening ≡ isOpen (paths n (linkedBy table) s t) (c ∷ []) → Alone opening c plan → Planned (familyBy n table kind s t) (take len prefix) c plan
+    pub planned-path-start :
+        (c : ℕ) (opening : Bool) (plan : Plan) → len ≡ 0 → opening ≡ isOpen (paths n (linkedBy table) s t) (c ∷ []) →
+        Alone opening c plan → Planned (familyBy n table kind s t) (take len prefix) c plan
     planned-path-start c opening plan z o k =
         rw (family-paths n table kind s t d, none-taken z)
-        (planned-alone (paths n (linkedBy table) s t) [] c opening plan (omega arith) (path-not-one n (linkedBy table) s t c (ends-facts n s t path-ends .differ)) o k)
+        (planned-alone (paths n (linkedBy table) s t) [] c opening plan (omega arith)
+        (path-not-one n (linkedBy table) s t c (ends-facts n s t path-ends .differ)) o k)
 
-    pub planned-paths : (c : ℕ) (plan : Plan) → Everywhere (paths n (linkedBy table) s t) (take len prefix) plan → Planned (familyBy n table kind s t) (take len prefix) c plan
-    planned-paths c plan f = rw (family-paths n table kind s t d) (planned-every (paths n (linkedBy table) s t) (take len prefix) c plan f)
+    pub planned-paths :
+        (c : ℕ) (plan : Plan) → Everywhere (paths n (linkedBy table) s t) (take len prefix) plan →
+        Planned (familyBy n table kind s t) (take len prefix) c plan
+    planned-paths c plan f =
+        rw (family-paths n table kind s t d) (planned-every (paths n (linkedBy table) s t) (take len prefix) c plan f)

@@ -1,4 +1,5 @@
--- The tests of bonds to a beginning, as membership in the sets of atoms that its first, inner and last atoms are bonded to.
+-- The tests of bonds to a beginning, as membership in the sets
+-- of atoms that its first, inner and last atoms are bonded to.
 -- A test of every place is split into the first place, the inner ones and the last one.
 use Prim.Native.Nat.{ℕ, suc, _+_, _-_, _≤_, _<_}
 use native.Mathlib.Omega.{arith}
@@ -20,23 +21,40 @@ use Rattle.openness.specs.Parts.{Near}
 
 -- ---- the loop over the places
 
-pub near-none : (adj : Adjacency) (p : List ℕ) (low : ℕ) (set : List ℕ) → ((u : ℕ) → has set u ≡ false) → Near adj p low low set
-near-none adj p low set e = record { some = λ u h. absurd (clash (has set u) h (e u)); every = λ u i l h b. absurd (omega arith) }
+pub near-none :
+    (adj : Adjacency) (p : List ℕ) (low : ℕ) (set : List ℕ) → ((u : ℕ) → has set u ≡ false) → Near adj p low low set
+near-none adj p low set e =
+    record { some = λ u h. absurd (clash (has set u) h (e u)); every = λ u i l h b. absurd (omega arith) }
 
-pub near-more : (adj : Adjacency) (p : List ℕ) (low i a : ℕ) (set row more : List ℕ) → low ≤ i → a ≡ atomAt p i → ((u : ℕ) → has row u ≡ adj a u) → ((u : ℕ) → has more u ≡ (has set u || has row u))
+pub near-more :
+    (adj : Adjacency) (p : List ℕ) (low i a : ℕ) (set row more : List ℕ) → low ≤ i → a ≡ atomAt p i →
+    ((u : ℕ) → has row u ≡ adj a u) → ((u : ℕ) → has more u ≡ (has set u || has row u))
     → Near adj p low i set → Near adj p low (i + 1) more
-near-more adj p low i a set row more l e r m k = record { some = λ u h. some u (or-either (has set u) (has row u) (sym (m u) ∙ h)); every = λ u j lj h b. every u j lj b (either (eqb j i)) h }
+near-more adj p low i a set row more l e r m k =
+    record {
+      some = λ u h. some u (or-either (has set u) (has row u) (sym (m u) ∙ h));
+      every = λ u j lj h b. every u j lj b (either (eqb j i)) h;
+    }
   where
-    some : (u : ℕ) → (has set u ≡ true) ⊎ (has row u ≡ true) → (j : ℕ) × (low ≤ j) × (j < i + 1) × (adj (atomAt p j) u ≡ true)
+    some :
+        (u : ℕ) → (has set u ≡ true) ⊎ (has row u ≡ true) → (j : ℕ) × (low ≤ j) × (j < i + 1) ×
+        (adj (atomAt p j) u ≡ true)
     some u (inl h) = let f = k .some u h in (f .0, f .1, omega arith, f .3)
     some u (inr h) = (i, l, omega arith, ap (λ (x : ℕ). adj x u) (sym e) ∙ sym (r u) ∙ h)
 
-    every : (u j : ℕ) → low ≤ j → adj (atomAt p j) u ≡ true → (eqb j i ≡ true) ⊎ (eqb j i ≡ false) → j < i + 1 → has more u ≡ true
-    every u j lj b (inl q) h = m u ∙ or-right (has set u) (has row u) (r u ∙ ap (λ (x : ℕ). adj x u) (e ∙ ap (atomAt p) (sym (eqb-true j i q))) ∙ b)
-    every u j lj b (inr q) h = let d = eqb-false j i q in m u ∙ or-left (has set u) (has row u) (k .every u j lj (omega arith) b)
+    every :
+        (u j : ℕ) → low ≤ j → adj (atomAt p j) u ≡ true → (eqb j i ≡ true) ⊎ (eqb j i ≡ false) → j < i + 1 →
+        has more u ≡ true
+    every u j lj b (inl q) h =
+        m u ∙ or-right (has set u) (has row u)
+        (r u ∙ ap (λ (x : ℕ). adj x u) (e ∙ ap (atomAt p) (sym (eqb-true j i q))) ∙ b)
+    every u j lj b (inr q) h =
+        let d = eqb-false j i q in m u ∙ or-left (has set u) (has row u) (k .every u j lj (omega arith) b)
 
 -- a longer list with the same atoms, and an equal bound
-pub near-same : {adj : Adjacency} {p q : List ℕ} {low high : ℕ} {set : List ℕ} (top : ℕ) → high ≡ top → ((i : ℕ) → i < high → atomAt q i ≡ atomAt p i) → Near adj p low high set → Near adj q low top set
+pub near-same :
+    {adj : Adjacency} {p q : List ℕ} {low high : ℕ} {set : List ℕ} (top : ℕ) → high ≡ top →
+    ((i : ℕ) → i < high → atomAt q i ≡ atomAt p i) → Near adj p low high set → Near adj q low top set
 near-same {adj} top e f k =
     record {
       some = λ u h. let g = k .some u h in (g .0, g .1, omega arith, ap (λ (x : ℕ). adj x u) (f (g .0) (g .2)) ∙ g .3);
@@ -59,7 +77,8 @@ beq-no : (a : Bool) → Bool·beq a false ≡ not a
 beq-no true = refl
 beq-no false = refl
 
-module _ (adj : Adjacency) (p first inner last : List ℕ) (k : Around adj p first inner last) (long : 2 ≤ length p) (u : ℕ) where
+module _ (adj : Adjacency) (p first inner last : List ℕ) (k : Around adj p first inner last) (long : 2 ≤ length p)
+    (u : ℕ) where
   abbrev testAt : (ℕ → Bool) → ℕ → Bool
   testAt want i = Bool·beq (adj (atomAt p i) u) (want i)
 
@@ -67,42 +86,67 @@ module _ (adj : Adjacency) (p first inner last : List ℕ) (k : Around adj p fir
   testBy want = Bool·beq (has first u) (want 0) && not (has inner u) && Bool·beq (has last u) (want (length p - 1))
 
   -- every place, where no inner one is to be bonded
-  ends-test : (want : ℕ → Bool) → ((i : ℕ) → 1 ≤ i → suc i < length p → want i ≡ false) → allBelow (length p) (testAt want) ≡ testBy want
-  ends-test want none = same-test (allBelow (length p) (testAt want)) (testBy want) (λ h. to (λ i g. beq-true (adj (atomAt p i) u) (want i) (allBelow-at (length p) (testAt want) h i g))) (λ h. allBelow-of (length p) (testAt want) (λ i g. beq-same (adj (atomAt p i) u) (want i) (back h i g)))
+  ends-test :
+      (want : ℕ → Bool) → ((i : ℕ) → 1 ≤ i → suc i < length p → want i ≡ false) →
+      allBelow (length p) (testAt want) ≡ testBy want
+  ends-test want none =
+      same-test (allBelow (length p) (testAt want)) (testBy want)
+      (λ h. to (λ i g. beq-true (adj (atomAt p i) u) (want i) (allBelow-at (length p) (testAt want) h i g)))
+      (λ h. allBelow-of (length p) (testAt want) (λ i g. beq-same (adj (atomAt p i) u) (want i) (back h i g)))
     where
       to : ((i : ℕ) → i < length p → adj (atomAt p i) u ≡ want i) → testBy want ≡ true
       to f =
           and-both (Bool·beq (has first u) (want 0) && not (has inner u)) (Bool·beq (has last u) (want (length p - 1)))
           (and-both (Bool·beq (has first u) (want 0)) (not (has inner u))
           (beq-same (has first u) (want 0) (k .first-is u ∙ f 0 (omega arith)))
-          (not-of (has inner u) (false-of (has inner u) (λ e. let g = k .inner-is .some u e in clash (adj (atomAt p (g .0)) u) (g .3) (f (g .0) (omega arith) ∙ none (g .0) (g .1) (omega arith))))))
+          (not-of (has inner u)
+          (false-of (has inner u)
+          (λ e. let g = k .inner-is .some u e in
+          clash (adj (atomAt p (g .0)) u) (g .3) (f (g .0) (omega arith) ∙ none (g .0) (g .1) (omega arith))))))
           (beq-same (has last u) (want (length p - 1)) (k .last-is u ∙ f (length p - 1) (omega arith)))
 
       back : testBy want ≡ true → (i : ℕ) → i < length p → adj (atomAt p i) u ≡ want i
       back h i g = go i g (either (eqb i 0)) (either (eqb (suc i) (length p)))
         where
           front : Bool·beq (has first u) (want 0) && not (has inner u) ≡ true
-          front = and-left (Bool·beq (has first u) (want 0) && not (has inner u)) (Bool·beq (has last u) (want (length p - 1))) h
+          front =
+              and-left (Bool·beq (has first u) (want 0) && not (has inner u))
+              (Bool·beq (has last u) (want (length p - 1))) h
 
-          go : (i : ℕ) → i < length p → (eqb i 0 ≡ true) ⊎ (eqb i 0 ≡ false) → (eqb (suc i) (length p) ≡ true) ⊎ (eqb (suc i) (length p) ≡ false) → adj (atomAt p i) u ≡ want i
+          go :
+              (i : ℕ) → i < length p → (eqb i 0 ≡ true) ⊎ (eqb i 0 ≡ false) → (eqb (suc i) (length p) ≡ true) ⊎
+              (eqb (suc i) (length p) ≡ false) → adj (atomAt p i) u ≡ want i
           go i g (inl e) l =
               subst (λ (j : ℕ). adj (atomAt p j) u ≡ want j) (sym (eqb-true i 0 e))
-              (sym (k .first-is u) ∙ beq-true (has first u) (want 0) (and-left (Bool·beq (has first u) (want 0)) (not (has inner u)) front))
+              (sym (k .first-is u) ∙
+              beq-true (has first u) (want 0) (and-left (Bool·beq (has first u) (want 0)) (not (has inner u)) front))
           go i g (inr d) (inl e) =
               let at : length p - 1 ≡ i = omega (arith, eqb-true (suc i) (length p) e) in
               subst (λ (j : ℕ). adj (atomAt p j) u ≡ want j) at
-              (sym (k .last-is u) ∙ beq-true (has last u) (want (length p - 1)) (and-right (Bool·beq (has first u) (want 0) && not (has inner u)) (Bool·beq (has last u) (want (length p - 1))) h))
+              (sym (k .last-is u) ∙
+              beq-true (has last u) (want (length p - 1))
+              (and-right (Bool·beq (has first u) (want 0) && not (has inner u))
+              (Bool·beq (has last u) (want (length p - 1))) h))
           go i g (inr d) (inr e) =
-              let off = not-true (has inner u) (and-right (Bool·beq (has first u) (want 0)) (not (has inner u)) front) in
+              let off = not-true (has inner u)
+              (and-right (Bool·beq (has first u) (want 0)) (not (has inner u)) front) in
               let d0 = eqb-false i 0 d in
               let d1 = eqb-false (suc i) (length p) e in
-              false-of (adj (atomAt p i) u) (λ b. clash (has inner u) (k .inner-is .every u i (omega arith) (omega arith) b) off) ∙ sym (none i (omega arith) (omega arith))
+              false-of (adj (atomAt p i) u)
+              (λ b. clash (has inner u) (k .inner-is .every u i (omega arith) (omega arith) b) off) ∙
+              sym (none i (omega arith) (omega arith))
 
   pub ends-set : touchesOnlyEnds adj p u ≡ (has first u && not (has inner u) && has last u)
   unfolding touchesOnlyEnds
   ends-set =
-      ends-test (λ i. eqb i 0 || eqb (suc i) (length p)) (λ i l h. rw (ne-eqb i 0 (omega arith), ne-eqb (suc i) (length p) (omega arith)))
-      ∙ rw (ne-eqb (length p - 1) 0 (omega arith), eq-eqb (suc (length p - 1)) (length p) (omega arith), beq-yes (has first u), beq-yes (has last u))
+      ends-test (λ i. eqb i 0 || eqb (suc i) (length p))
+      (λ i l h. rw (ne-eqb i 0 (omega arith), ne-eqb (suc i) (length p) (omega arith)))
+      ∙ rw (
+        ne-eqb (length p - 1) 0 (omega arith),
+        eq-eqb (suc (length p - 1)) (length p) (omega arith),
+        beq-yes (has first u),
+        beq-yes (has last u),
+      )
 
   pub first-set : touchesOnlyFirst adj p u ≡ (has first u && not (has inner u) && not (has last u))
   unfolding touchesOnlyFirst
@@ -114,7 +158,12 @@ module _ (adj : Adjacency) (p first inner last : List ℕ) (k : Around adj p fir
   unfolding touchesOnlyLast
   last-set =
       ends-test (λ i. eqb (suc i) (length p)) (λ i l h. ne-eqb (suc i) (length p) (omega arith))
-      ∙ rw (ne-eqb 1 (length p) (omega arith), eq-eqb (suc (length p - 1)) (length p) (omega arith), beq-no (has first u), beq-yes (has last u))
+      ∙ rw (
+        ne-eqb 1 (length p) (omega arith),
+        eq-eqb (suc (length p - 1)) (length p) (omega arith),
+        beq-no (has first u),
+        beq-yes (has last u),
+      )
 
   pub clear-set : clear adj p u ≡ (not (has first u) && not (has inner u) && not (has last u))
   unfolding clear
@@ -134,7 +183,12 @@ module _ (adj : Adjacency) (p others last : List ℕ) (k : Behind adj p others l
   testOne want i = Bool·beq (adj (atomAt p i) u) (want && eqb (suc i) (length p))
 
   one-test : (want : Bool) → allBelow (length p) (testOne want) ≡ (Bool·beq (has last u) want && not (has others u))
-  one-test want = same-test (allBelow (length p) (testOne want)) (Bool·beq (has last u) want && not (has others u)) (λ h. to (λ i g. beq-true (adj (atomAt p i) u) (want && eqb (suc i) (length p)) (allBelow-at (length p) (testOne want) h i g))) (λ h. allBelow-of (length p) (testOne want) (λ i g. beq-same (adj (atomAt p i) u) (want && eqb (suc i) (length p)) (back h i g)))
+  one-test want =
+      same-test (allBelow (length p) (testOne want)) (Bool·beq (has last u) want && not (has others u))
+      (λ h. to (λ i g. beq-true (adj (atomAt p i) u) (want && eqb (suc i) (length p))
+      (allBelow-at (length p) (testOne want) h i g)))
+      (λ h. allBelow-of (length p) (testOne want)
+      (λ i g. beq-same (adj (atomAt p i) u) (want && eqb (suc i) (length p)) (back h i g)))
     where
       at-last : (w : Bool) → (w && eqb (suc (length p - 1)) (length p)) ≡ w
       at-last true = eq-eqb (suc (length p - 1)) (length p) (omega arith)
@@ -144,24 +198,37 @@ module _ (adj : Adjacency) (p others last : List ℕ) (k : Behind adj p others l
       before true i h = ne-eqb (suc i) (length p) (omega arith)
       before false i h = refl
 
-      to : ((i : ℕ) → i < length p → adj (atomAt p i) u ≡ (want && eqb (suc i) (length p))) → Bool·beq (has last u) want && not (has others u) ≡ true
+      to :
+          ((i : ℕ) → i < length p → adj (atomAt p i) u ≡ (want && eqb (suc i) (length p))) →
+          Bool·beq (has last u) want && not (has others u) ≡ true
       to f =
           and-both (Bool·beq (has last u) want) (not (has others u))
           (beq-same (has last u) want (k .last-is u ∙ f (length p - 1) (omega arith) ∙ at-last want))
-          (not-of (has others u) (false-of (has others u) (λ e. let g = k .others-is .some u e in clash (adj (atomAt p (g .0)) u) (g .3) (f (g .0) (omega arith) ∙ before want (g .0) (omega arith)))))
+          (not-of (has others u)
+          (false-of (has others u)
+          (λ e. let g = k .others-is .some u e in
+          clash (adj (atomAt p (g .0)) u) (g .3) (f (g .0) (omega arith) ∙ before want (g .0) (omega arith)))))
 
-      back : Bool·beq (has last u) want && not (has others u) ≡ true → (i : ℕ) → i < length p → adj (atomAt p i) u ≡ (want && eqb (suc i) (length p))
+      back :
+          Bool·beq (has last u) want && not (has others u) ≡ true → (i : ℕ) → i < length p →
+          adj (atomAt p i) u ≡ (want && eqb (suc i) (length p))
       back h i g = go (either (eqb (suc i) (length p)))
         where
-          go : (eqb (suc i) (length p) ≡ true) ⊎ (eqb (suc i) (length p) ≡ false) → adj (atomAt p i) u ≡ (want && eqb (suc i) (length p))
+          go :
+              (eqb (suc i) (length p) ≡ true) ⊎ (eqb (suc i) (length p) ≡ false) →
+              adj (atomAt p i) u ≡ (want && eqb (suc i) (length p))
           go (inl e) =
               let at : length p - 1 ≡ i = omega (arith, eqb-true (suc i) (length p) e) in
               subst (λ (j : ℕ). adj (atomAt p j) u ≡ (want && eqb (suc j) (length p))) at
-              (sym (k .last-is u) ∙ beq-true (has last u) want (and-left (Bool·beq (has last u) want) (not (has others u)) h) ∙ sym (at-last want))
+              (sym (k .last-is u) ∙
+              beq-true (has last u) want (and-left (Bool·beq (has last u) want) (not (has others u)) h) ∙
+              sym (at-last want))
           go (inr e) =
               let off = not-true (has others u) (and-right (Bool·beq (has last u) want) (not (has others u)) h) in
               let d = eqb-false (suc i) (length p) e in
-              false-of (adj (atomAt p i) u) (λ b. clash (has others u) (k .others-is .every u i (omega arith) (omega arith) b) off) ∙ sym (before want i (omega arith))
+              false-of (adj (atomAt p i) u)
+              (λ b. clash (has others u) (k .others-is .every u i (omega arith) (omega arith) b) off) ∙
+              sym (before want i (omega arith))
 
   pub only-last : touchesOnlyLast adj p u ≡ (has last u && not (has others u))
   unfolding touchesOnlyLast

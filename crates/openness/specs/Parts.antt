@@ -1,4 +1,5 @@
--- What the inner functions ask and return. Nothing to believe: the laws of proofs/ relate them to members and open beginnings.
+-- What the inner functions ask and return. Nothing to believe:
+-- the laws of proofs/ relate them to members and open beginnings.
 use Prim.Native.Nat.{ℕ, _≤_, _<_}
 use mathlib.Core.Path.{_≡_}
 use mathlib.Core.Bool.{Bool, true, false, _&&_}

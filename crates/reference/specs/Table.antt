@@ -26,7 +26,8 @@ use Rattle.reference.specs.Text.{text}
 use Rattle.reference.specs.Molecules.{noAtoms, chain, fiveRing, allBonded, paperSheet, twoToThree}
 
 -- A line: the bytes of a sheet and a search on it, the list written out, and one run of the fresh search: its budget,
--- the bytes of its output before it, what it returns, those bytes after it, and the returned search's mark and its length
+-- the bytes of its output before it, what it returns, those
+-- bytes after it, and the returned search's mark and its length
 pub record Line : Type 0 where
   pub sheet : List ℕ
   pub kind : ℕ

@@ -23,11 +23,13 @@ refusedWord = 114 ∷ 101 ∷ 102 ∷ 117 ∷ 115 ∷ 101 ∷ 100 ∷ []
 unfoldable pub refusalLine : ℕ → List ℕ
 refusalLine number = refusedWord ++ fieldText 4 number ++ lineFeed
 
--- The lines of the first records of some bytes, at most so many. A record is its length in one byte and then its atoms; one that is cut off has no line
+-- The lines of the first records of some bytes, at most so many. A record is
+-- its length in one byte and then its atoms; one that is cut off has no line
 unfoldable pub linesOfFirst : ℕ → List ℕ → List ℕ
 linesOfFirst zero bytes = []
 linesOfFirst (suc most) [] = []
-linesOfFirst (suc most) (k ∷ rest) = cond (leb k (length rest)) (ringLine (take k rest) ++ linesOfFirst most (drop k rest)) []
+linesOfFirst (suc most) (k ∷ rest) =
+    cond (leb k (length rest)) (ringLine (take k rest) ++ linesOfFirst most (drop k rest)) []
 
 -- The lines of all records: they are no more than the bytes
 unfoldable pub ringLines : List ℕ → List ℕ

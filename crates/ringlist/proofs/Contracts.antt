@@ -37,7 +37,9 @@ start-fresh : (m : Molecule) → startRings m .search ≡ freshSearch 0 0 0
 unfolding startRings
 start-fresh m = go (wellFormed m)
   where
-    go : (b : Bool) → cond b (acceptedSearch (freshSearch 0 0 0)) (refusedSearch refusal.Record) .search ≡ freshSearch 0 0 0
+    go :
+        (b : Bool) → cond b (acceptedSearch (freshSearch 0 0 0)) (refusedSearch refusal.Record) .search ≡
+        freshSearch 0 0 0
     go true = refl
     go false = refl
 

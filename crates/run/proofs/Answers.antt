@@ -22,6 +22,7 @@ module _ (m : Molecule) (q : Search) (budget : ℕ) (out : List ℕ) where
   answers-record e r a = rw e (a, refl)
 
   module _ (ok : wellFormed m ≡ true) where
-    pub answers-search : restorable m q ≡ false → (r : Ran) → r ≡ refusedRun q refusal.Search → Answers m q budget out r out
+    pub answers-search :
+        restorable m q ≡ false → (r : Ran) → r ≡ refusedRun q refusal.Search → Answers m q budget out r out
     unfolding runSearch runOutput
     answers-search e r a = rw (ok, e) (a, refl)

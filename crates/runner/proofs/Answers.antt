@@ -25,7 +25,8 @@ use Rattle.runner.specs.Parts.{Ready, outcomeBy, runOnto}
 abbrev Answers : Molecule → Search → ℕ → List ℕ → Ran → List ℕ → Type 0
 Answers m q budget out r last = (r ≡ runSearch m q budget out) × (last ≡ runOutput m q budget out)
 
-module _ (m : Molecule) (q : Search) (budget : ℕ) (out : List ℕ) (ok : wellFormed m ≡ true) (kept : restorable m q ≡ true) (table : List ℕ)
+module _ (m : Molecule) (q : Search) (budget : ℕ) (out : List ℕ) (ok : wellFormed m ≡ true)
+    (kept : restorable m q ≡ true) (table : List ℕ)
     (words : WordsOf (m .rows) table) where
   pub ready : length (q .prefix) ≡ 128 → Ready (m .atoms) table q
   ready full =
@@ -33,13 +34,22 @@ module _ (m : Molecule) (q : Search) (budget : ℕ) (out : List ℕ) (ok : wellF
       record {
         words = table-words m ok table words;
         kinds = f .kind-kept;
-        standing = record { within = record { size = full; most = omega (arith, f .short); zeros = f .padded }; short = f .short };
-        valid = subst (λ (F : Family). Valid F (stateOf q)) (sym (family-same m ok table words (q .kind) (q .s) (q .t))) (restorable-valid m q kept);
+        standing = record {
+          within = record { size = full; most = omega (arith, f .short); zeros = f .padded };
+          short = f .short;
+        };
+        valid =
+            subst (λ (F : Family). Valid F (stateOf q)) (sym (family-same m ok table words (q .kind) (q .s) (q .t)))
+            (restorable-valid m q kept);
         bounded = restorable-bounded m q kept;
       }
 
-  pub answers-run : (r : Ran) (last : List ℕ) → r ≡ ran q (outcomeBy (m .atoms) table q budget out) → last ≡ runOnto (outcomeBy (m .atoms) table q budget out) out → Answers m q budget out r last
+  pub answers-run :
+      (r : Ran) (last : List ℕ) → r ≡ ran q (outcomeBy (m .atoms) table q budget out) →
+      last ≡ runOnto (outcomeBy (m .atoms) table q budget out) out → Answers m q budget out r last
   unfolding runSearch runOutput
   answers-run r last a b =
-      let same : outcomeBy (m .atoms) table q budget out ≡ outcome m q budget out = ap (λ (F : Family). run F budget (length out) (stateOf q)) (family-same m ok table words (q .kind) (q .s) (q .t)) in
+      let same : outcomeBy (m .atoms) table q budget out ≡ outcome m q budget out =
+      ap (λ (F : Family). run F budget (length out) (stateOf q))
+      (family-same m ok table words (q .kind) (q .s) (q .t)) in
       rw (ok, kept, ← same) (a, b)

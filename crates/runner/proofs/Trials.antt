@@ -57,15 +57,19 @@ module _ (n : ℕ) (table : List ℕ) (kind s t : ℕ) where
 stack-none : (prefix : List ℕ) (len : ℕ) → Held prefix len → isEmpty (stackOf prefix len) ≡ eqb len 0
 unfolding isEmpty
 stack-none prefix zero h = refl
-stack-none prefix (suc len) h = rw (stack-more prefix len (omega (arith, h .size, h .most)), ne-eqb (suc len) 0 (λ e. omega arith))
+stack-none prefix (suc len) h =
+    rw (stack-more prefix len (omega (arith, h .size, h .most)), ne-eqb (suc len) 0 (λ e. omega arith))
 
-pub done-test : (n : ℕ) (prefix : List ℕ) (at : Spot) → Held prefix (at .len) → isDone n (stateAt prefix at) ≡ eqb (at .len) 0 && eqb (at .next) (suc n)
+pub done-test :
+    (n : ℕ) (prefix : List ℕ) (at : Spot) → Held prefix (at .len) → isDone n (stateAt prefix at) ≡ eqb (at .len) 0 &&
+    eqb (at .next) (suc n)
 unfolding isDone
 done-test n prefix at h = rw (stack-none prefix (at .len) h)
 
 -- ---- what a run keeps
 
-pub record Turning (F : Family) (budget : ℕ) (out₀ : List ℕ) (st₀ : State) (out prefix : List ℕ) (at : Spot) (found : Plan) (stale : Bool) (used made : ℕ) : Type 0 where
+pub record Turning (F : Family) (budget : ℕ) (out₀ : List ℕ) (st₀ : State) (out prefix : List ℕ) (at : Spot)
+    (found : Plan) (stale : Bool) (used made : ℕ) : Type 0 where
   pub standing : HeldWithRoom prefix (at .len)
   pub valid : Valid F (stateAt prefix at)
   pub bounded : Bounded (stateAt prefix at)
@@ -89,18 +93,26 @@ module _ (F : Family) (st : State) where
   lists-word e = rw e
 
   -- what the trial is, by the plan's two answers
-  act-trial : (n : ℕ) (member extends : Bool) → F .atoms ≡ n → member ≡ F .member (tried st) → extends ≡ isOpen F (tried st) → act n member extends st ≡ trial F st
+  act-trial :
+      (n : ℕ) (member extends : Bool) → F .atoms ≡ n → member ≡ F .member (tried st) → extends ≡ isOpen F (tried st) →
+      act n member extends st ≡ trial F st
   unfolding trial
   act-trial n member extends atoms m x = rw (m, x, ← atoms)
 
   module _ (out : List ℕ) (used : ℕ) where
     -- a trial that lists nothing
     pub written-none : F .member (tried st) ≡ false → Written F out used st out used
-    written-none e = record { output = rw (lists-none e) (sym (take-append-drop used out)); count = rw (lists-none e) (omega arith); fits = rw (lists-none e) (omega arith) }
+    written-none e =
+        record {
+          output = rw (lists-none e) (sym (take-append-drop used out));
+          count = rw (lists-none e) (omega arith);
+          fits = rw (lists-none e) (omega arith);
+        }
 
     -- a trial that lists the word w
     pub written-record :
-        (w out′ : List ℕ) (k used′ : ℕ) → lists F st ≡ recordOf w → length (recordOf w) ≡ k → k ≤ length out - used → out′ ≡ take used out ++ (recordOf w ++ drop k (drop used out)) → used′ ≡ used + k →
+        (w out′ : List ℕ) (k used′ : ℕ) → lists F st ≡ recordOf w → length (recordOf w) ≡ k → k ≤ length out - used →
+        out′ ≡ take used out ++ (recordOf w ++ drop k (drop used out)) → used′ ≡ used + k →
         Written F out used st out′ used′
     written-record w out′ k used′ e size room o u =
         let long : length (lists F st) ≡ k = ap length e ∙ size in
@@ -111,10 +123,18 @@ pub starts :
     Turning (familyBy n table (q .kind) (q .s) (q .t)) budget out (stateOf q) out (q .prefix) (spotOf q) found true 0 0
 unfolding stateOf beginning
 starts n table q budget out found r =
-    record { standing = r .standing; valid = r .valid; bounded = r .bounded; told = λ e. absurd (apart e); going = going-starts (familyBy n table (q .kind) (q .s) (q .t)) budget out (stateOf q) }
+    record {
+      standing = r .standing;
+      valid = r .valid;
+      bounded = r .bounded;
+      told = λ e. absurd (apart e);
+      going = going-starts (familyBy n table (q .kind) (q .s) (q .t)) budget out (stateOf q);
+    }
 
-module _ (F : Family) (L : Lawful F) (n : ℕ) (atoms : F .atoms ≡ n) (few : n ≤ 128) (budget : ℕ) (out₀ : List ℕ) (st₀ : State) where
-  module _ (out prefix : List ℕ) (at : Spot) (found : Plan) (stale : Bool) (used made : ℕ) (t : Turning F budget out₀ st₀ out prefix at found stale used made) where
+module _ (F : Family) (L : Lawful F) (n : ℕ) (atoms : F .atoms ≡ n) (few : n ≤ 128) (budget : ℕ) (out₀ : List ℕ)
+    (st₀ : State) where
+  module _ (out prefix : List ℕ) (at : Spot) (found : Plan) (stale : Bool) (used made : ℕ)
+      (t : Turning F budget out₀ st₀ out prefix at found stale used made) where
     abbrev st : State
     st = stateAt prefix at
 
@@ -129,10 +149,13 @@ module _ (F : Family) (L : Lawful F) (n : ℕ) (atoms : F .atoms ≡ n) (few : n
 
     -- a way out
     pub answers :
-        (q : Search) (r : Ran) (why : Stop) → r ≡ stoppedAt q prefix at why used made → run F (budget - made) (length out₀ - used) st ≡ stopped st why →
+        (q : Search) (r : Ran) (why : Stop) → r ≡ stoppedAt q prefix at why used made →
+        run F (budget - made) (length out₀ - used) st ≡ stopped st why →
         (r ≡ ran q (run F budget (length out₀) st₀)) × (out ≡ runOnto (run F budget (length out₀) st₀) out₀)
     answers q r why f e =
-        let a = going-answers F budget out₀ st₀ out st used made (t .going) q (searchHeld (q .kind) (q .s) (q .t) prefix at) why (search-held (q .kind) (q .s) (q .t) prefix at (t .standing)) e in
+        let a = going-answers F budget out₀ st₀ out st used made (t .going) q
+        (searchHeld (q .kind) (q .s) (q .t) prefix at) why
+        (search-held (q .kind) (q .s) (q .t) prefix at (t .standing)) e in
         (f ∙ a .0, a .1)
 
     module _ (d : isDone (F .atoms) st ≡ false) where
@@ -147,39 +170,74 @@ module _ (F : Family) (L : Lawful F) (n : ℕ) (atoms : F .atoms ≡ n) (few : n
         pub counting : Counting n at
         counting =
             let b = below-limit st (t .bounded) l in
-            record { few = few; low = next-range .0; high = next-range .1; trials-less = b .trials-less; extensions-less = b .extensions-less; listed-less = b .listed-less }
+            record {
+              few = few;
+              low = next-range .0;
+              high = next-range .1;
+              trials-less = b .trials-less;
+              extensions-less = b .extensions-less;
+              listed-less = b .listed-less;
+            }
 
         module _ (b : made < budget) (plan : Plan) (planned : Planned F (take (at .len) prefix) (at .next) plan) where
           pub turn :
-              (out′ : List ℕ) (used′ : ℕ) → Written F out used st out′ used′ → (member extends : Bool) → member ≡ has (plan .members) (at .next) → extends ≡ has (plan .opens) (at .next) →
-              (prefix′ : List ℕ) (at′ : Spot) → Acted n prefix at member extends prefix′ at′ → (stale′ : Bool) → Stale (at .len) (at′ .len) stale′ →
+              (out′ : List ℕ) (used′ : ℕ) → Written F out used st out′ used′ → (member extends : Bool) →
+              member ≡ has (plan .members) (at .next) → extends ≡ has (plan .opens) (at .next) →
+              (prefix′ : List ℕ) (at′ : Spot) → Acted n prefix at member extends prefix′ at′ → (stale′ : Bool) →
+              Stale (at .len) (at′ .len) stale′ →
               Turning F budget out₀ st₀ out′ prefix′ at′ plan stale′ used′ (made + 1)
           turn out′ used′ w member extends m x prefix′ at′ a stale′ fresh = record {
-            standing = record { within = a .within; short = omega (arith, valid-short F L (stateAt prefix′ at′) valid′, stack-length prefix′ (at′ .len) (a .within)) };
+            standing = record {
+              within = a .within;
+              short =
+                  omega (
+                    arith,
+                    valid-short F L (stateAt prefix′ at′) valid′,
+                    stack-length prefix′ (at′ .len) (a .within),
+                  );
+            };
             valid = valid′;
-            bounded = subst (λ (s : State). Bounded s) (sym (a .state-is)) (act-bounded n member extends st (below-limit st (t .bounded) l));
+            bounded =
+                subst (λ (s : State). Bounded s) (sym (a .state-is))
+                (act-bounded n member extends st (below-limit st (t .bounded) l));
             told = λ e v. subst (λ (p : List ℕ). Tells F p plan v) (sym (same-beginning e)) (planned .every (long e) v);
-            going = subst (λ (s : State). Going F budget out₀ st₀ out′ s used′ (made + 1)) (sym stepped) (rw (w .count) (going-turn F budget out₀ st₀ out st used made (t .going) d l b out′ (w .output) (w .fits)));
+            going =
+                subst (λ (s : State). Going F budget out₀ st₀ out′ s used′ (made + 1)) (sym stepped)
+                (rw (w .count)
+                (going-turn F budget out₀ st₀ out st used made (t .going) d l b out′ (w .output) (w .fits)));
           }
             where
               word : tried st ≡ take (at .len) prefix ++ at .next ∷ []
               word = tried-word prefix at
 
               stepped : stateAt prefix′ at′ ≡ trial F st
-              stepped = a .state-is ∙ act-trial F st n member extends atoms (m ∙ planned .next .members ∙ ap (F .member) (sym word)) (x ∙ planned .next .opens ∙ ap (isOpen F) (sym word))
+              stepped =
+                  a .state-is ∙
+                  act-trial F st n member extends atoms (m ∙ planned .next .members ∙ ap (F .member) (sym word))
+                  (x ∙ planned .next .opens ∙ ap (isOpen F) (sym word))
 
               valid′ : Valid F (stateAt prefix′ at′)
               valid′ = subst (λ (s : State). Valid F s) (sym stepped) (trial-valid F L st (t .valid) d)
 
               long : stale′ ≡ false → 2 ≤ length (take (at .len) prefix)
-              long e = omega (arith, length-take-le (at .len) prefix (omega (arith, t .standing .within .size, t .standing .short)), fresh .same e, fresh .long e)
+              long e =
+                  omega (
+                    arith,
+                    length-take-le (at .len) prefix (omega (arith, t .standing .within .size, t .standing .short)),
+                    fresh .same e,
+                    fresh .long e,
+                  )
 
               same-length : stale′ ≡ false → length (act n member extends st .stack) ≡ length (stackOf prefix (at .len))
               same-length e =
-                  ap (λ (s : State). length (s .stack)) (sym (a .state-is)) ∙ stack-length prefix′ (at′ .len) (a .within) ∙ sym (fresh .same e) ∙ sym (stack-length prefix (at .len) (t .standing .within))
+                  ap (λ (s : State). length (s .stack)) (sym (a .state-is)) ∙
+                  stack-length prefix′ (at′ .len) (a .within) ∙ sym (fresh .same e) ∙
+                  sym (stack-length prefix (at .len) (t .standing .within))
 
               same-beginning : stale′ ≡ false → take (at′ .len) prefix′ ≡ take (at .len) prefix
               same-beginning e =
                   sym (stack-back prefix′ (at′ .len))
-                  ∙ ap reverse (ap (λ (s : State). s .stack) (a .state-is) ∙ act-same n member extends st (omega (arith, next-range)) (same-length e))
+                  ∙ ap reverse
+                  (ap (λ (s : State). s .stack) (a .state-is) ∙
+                  act-same n member extends st (omega (arith, next-range)) (same-length e))
                   ∙ stack-back prefix (at .len)

@@ -47,7 +47,9 @@ module _ (F : Family) (room : ℕ) (st : State) where
       run-full zero b h = absurd (omega arith)
       run-full (suc budget) b h = rw (d, l, lt-ltb room (length (lists F st)) h)
 
-      pub run-turn : (budget : ℕ) → length (lists F st) ≤ room → run F (suc budget) room st ≡ after (lists F st) (run F budget (room - length (lists F st)) (trial F st))
+      pub run-turn :
+          (budget : ℕ) → length (lists F st) ≤ room →
+          run F (suc budget) room st ≡ after (lists F st) (run F budget (room - length (lists F st)) (trial F st))
       unfolding run
       run-turn budget h = rw (d, l, le-ltb room (length (lists F st)) h)
 
@@ -69,13 +71,32 @@ below-limit st b e = go (or-neither (eqb (st .trials) limit || eqb (st .extensio
     go : ((eqb (st .trials) limit || eqb (st .extensions) limit) ≡ false) × (eqb (st .listed) limit ≡ false) → Below st
     go r =
         let q = or-neither (eqb (st .trials) limit) (eqb (st .extensions) limit) (r .0) in
-        record { trials-less = less (st .trials) (b .trials-most) (q .0); extensions-less = less (st .extensions) (b .extensions-most) (q .1); listed-less = less (st .listed) (b .listed-most) (r .1) }
+        record {
+          trials-less = less (st .trials) (b .trials-most) (q .0);
+          extensions-less = less (st .extensions) (b .extensions-most) (q .1);
+          listed-less = less (st .listed) (b .listed-most) (r .1);
+        }
 
 pub act-bounded : (n : ℕ) (member extends : Bool) (st : State) → Below st → Bounded (act n member extends st)
 unfolding act
-act-bounded n true extends st b = record { trials-most = b .trials-less; extensions-most = omega (arith, b .extensions-less); listed-most = b .listed-less }
-act-bounded n false true st b = record { trials-most = b .trials-less; extensions-most = b .extensions-less; listed-most = omega (arith, b .listed-less) }
-act-bounded n false false st b = record { trials-most = b .trials-less; extensions-most = omega (arith, b .extensions-less); listed-most = omega (arith, b .listed-less) }
+act-bounded n true extends st b =
+    record {
+      trials-most = b .trials-less;
+      extensions-most = omega (arith, b .extensions-less);
+      listed-most = b .listed-less;
+    }
+act-bounded n false true st b =
+    record {
+      trials-most = b .trials-less;
+      extensions-most = b .extensions-less;
+      listed-most = omega (arith, b .listed-less);
+    }
+act-bounded n false false st b =
+    record {
+      trials-most = b .trials-less;
+      extensions-most = omega (arith, b .extensions-less);
+      listed-most = omega (arith, b .listed-less);
+    }
 
 -- ---- the rest of the work
 
@@ -86,14 +107,19 @@ onto bytes made o = record { state = o .state; stop = o .stop; bytes = bytes ++ 
 onto-none : (o : Outcome) → o ≡ onto [] 0 o
 onto-none o = let z : 0 + o .made ≡ o .made = omega arith in rw z
 
-onto-after : (bytes more : List ℕ) (made : ℕ) (o : Outcome) → onto bytes made (after more o) ≡ onto (bytes ++ more) (made + 1) o
-onto-after bytes more made o = let m : made + suc (o .made) ≡ made + 1 + o .made = omega arith in rw (m, append-assoc bytes more (o .bytes))
+onto-after :
+    (bytes more : List ℕ) (made : ℕ) (o : Outcome) → onto bytes made (after more o) ≡ onto (bytes ++ more) (made + 1) o
+onto-after bytes more made o =
+    let m : made + suc (o .made) ≡ made + 1 + o .made = omega arith in rw (m, append-assoc bytes more (o .bytes))
 
-onto-stopped : (bytes : List ℕ) (made : ℕ) (st : State) (why : Stop) → onto bytes made (stopped st why) ≡ record { state = st; stop = why; bytes = bytes; made = made }
+onto-stopped :
+    (bytes : List ℕ) (made : ℕ) (st : State) (why : Stop) →
+    onto bytes made (stopped st why) ≡ record { state = st; stop = why; bytes = bytes; made = made }
 onto-stopped bytes made st why = let m : made + 0 ≡ made = omega arith in rw (m, append-nil bytes)
 
 -- after `made` trials of a run from st₀, which wrote `bytes`, the search stands at st
-pub record Going (F : Family) (budget : ℕ) (out₀ : List ℕ) (st₀ : State) (out : List ℕ) (st : State) (used made : ℕ) : Type 0 where
+pub record Going (F : Family) (budget : ℕ) (out₀ : List ℕ) (st₀ : State) (out : List ℕ) (st : State) (used made : ℕ) :
+    Type 0 where
   pub bytes : List ℕ
   pub wrote : out ≡ bytes ++ drop (length bytes) out₀
   pub used-is : used ≡ length bytes
@@ -117,7 +143,9 @@ module _ (F : Family) (budget : ℕ) (out₀ : List ℕ) (st₀ : State) where
 
   module _ (out : List ℕ) (st : State) (used made : ℕ) (g : Going F budget out₀ st₀ out st used made) where
     pub going-length : length out ≡ length out₀
-    going-length = ap length (g .wrote) ∙ length-append (g .bytes) (drop (length (g .bytes)) out₀) ∙ omega (arith, length-drop (length (g .bytes)) out₀, g .in-room)
+    going-length =
+        ap length (g .wrote) ∙ length-append (g .bytes) (drop (length (g .bytes)) out₀) ∙
+        omega (arith, length-drop (length (g .bytes)) out₀, g .in-room)
 
     pub going-used : used ≤ length out
     going-used = omega (arith, g .used-is, g .in-room, going-length)
@@ -127,14 +155,19 @@ module _ (F : Family) (budget : ℕ) (out₀ : List ℕ) (st₀ : State) where
     further bytes = take used out ++ (bytes ++ drop (length bytes) (drop used out))
 
     module _ (d : isDone (F .atoms) st ≡ false) (l : atLimit st ≡ false) (b : made < budget) where
-      pub going-turn : (next : List ℕ) → next ≡ further (lists F st) → length (lists F st) ≤ length out - used → Going F budget out₀ st₀ next (trial F st) (used + length (lists F st)) (made + 1)
+      pub going-turn :
+          (next : List ℕ) → next ≡ further (lists F st) → length (lists F st) ≤ length out - used →
+          Going F budget out₀ st₀ next (trial F st) (used + length (lists F st)) (made + 1)
       going-turn next e h = record {
         bytes = g .bytes ++ lists F st;
         wrote = e ∙ written;
         used-is = omega (arith, both, g .used-is);
         in-room = omega (arith, both, g .used-is, going-length, going-used);
         in-budget = omega arith;
-        rest = g .rest ∙ ap (onto (g .bytes) made) turned ∙ onto-after (g .bytes) (lists F st) made (run F (budget - (made + 1)) (length out₀ - length (g .bytes ++ lists F st)) (trial F st));
+        rest =
+            g .rest ∙ ap (onto (g .bytes) made) turned ∙
+            onto-after (g .bytes) (lists F st) made
+            (run F (budget - (made + 1)) (length out₀ - length (g .bytes ++ lists F st)) (trial F st));
       }
         where
           both : length (g .bytes ++ lists F st) ≡ length (g .bytes) + length (lists F st)
@@ -147,19 +180,31 @@ module _ (F : Family) (budget : ℕ) (out₀ : List ℕ) (st₀ : State) where
           back = ap (drop used) (g .wrote) ∙ drop-at (g .bytes) (drop (length (g .bytes)) out₀) used (sym (g .used-is))
 
           written : further (lists F st) ≡ (g .bytes ++ lists F st) ++ drop (length (g .bytes ++ lists F st)) out₀
-          written = rw (front, back, both, drop-drop (length (lists F st)) (length (g .bytes)) out₀) (sym (append-assoc (g .bytes) (lists F st) (drop (length (g .bytes) + length (lists F st)) out₀)))
+          written =
+              rw (front, back, both, drop-drop (length (lists F st)) (length (g .bytes)) out₀)
+              (sym (append-assoc (g .bytes) (lists F st) (drop (length (g .bytes) + length (lists F st)) out₀)))
 
-          turned : run F (budget - made) (length out₀ - length (g .bytes)) st ≡ after (lists F st) (run F (budget - (made + 1)) (length out₀ - length (g .bytes ++ lists F st)) (trial F st))
+          turned :
+              run F (budget - made) (length out₀ - length (g .bytes)) st ≡
+              after (lists F st)
+              (run F (budget - (made + 1)) (length out₀ - length (g .bytes ++ lists F st)) (trial F st))
           turned =
               let one : budget - made ≡ suc (budget - (made + 1)) = omega arith in
-              let left : length out₀ - length (g .bytes ++ lists F st) ≡ length out₀ - length (g .bytes) - length (lists F st) = omega (arith, both) in
-              rw (one, left) (run-turn F (length out₀ - length (g .bytes)) st d l (budget - (made + 1)) (omega (arith, g .used-is, going-length)))
+              let left : length out₀ - length (g .bytes ++ lists F st) ≡ length out₀ - length (g .bytes) - length
+              (lists F st) = omega (arith, both) in
+              rw (one, left)
+              (run-turn F (length out₀ - length (g .bytes)) st d l (budget - (made + 1))
+              (omega (arith, g .used-is, going-length)))
 
     -- a way out: the outcome of the whole run
-    going-ends : (why : Stop) → run F (budget - made) (length out₀ - used) st ≡ stopped st why → run F budget (length out₀) st₀ ≡ record { state = st; stop = why; bytes = g .bytes; made = made }
+    going-ends :
+        (why : Stop) → run F (budget - made) (length out₀ - used) st ≡ stopped st why →
+        run F budget (length out₀) st₀ ≡ record { state = st; stop = why; bytes = g .bytes; made = made }
     going-ends why e = g .rest ∙ ap (onto (g .bytes) made) (rw (g .used-is) at e) ∙ onto-stopped (g .bytes) made st why
 
     pub going-answers :
-        (q at : Search) (why : Stop) → at ≡ searchAt (q .kind) (q .s) (q .t) st → run F (budget - made) (length out₀ - used) st ≡ stopped st why →
-        (record { ended = Stopped why; search = at; used = used; made = made } ≡ ran q (run F budget (length out₀) st₀)) × (out ≡ runOnto (run F budget (length out₀) st₀) out₀)
+        (q at : Search) (why : Stop) → at ≡ searchAt (q .kind) (q .s) (q .t) st →
+        run F (budget - made) (length out₀ - used) st ≡ stopped st why →
+        (record { ended = Stopped why; search = at; used = used; made = made } ≡
+        ran q (run F budget (length out₀) st₀)) × (out ≡ runOnto (run F budget (length out₀) st₀) out₀)
     going-answers q at why f e = rw (going-ends why e) (rw (f, g .used-is), g .wrote)

@@ -1,4 +1,5 @@
--- What the run over a word table asks and promises. Nothing to believe: the contract of `run_checked` is the definition of a run.
+-- What the run over a word table asks and promises. Nothing to
+-- believe: the contract of `run_checked` is the definition of a run.
 use Prim.Native.Nat.{ℕ}
 use mathlib.Core.Path.{_≡_}
 use mathlib.Core.Bool.{true}
@@ -18,7 +19,8 @@ use Rattle.trial.specs.Parts.{searchHeld, HeldWithRoom}
 
 -- the answer of a run of q that has stopped there
 abbrev pub stoppedAt : Search → List ℕ → Spot → Stop → ℕ → ℕ → Ran
-stoppedAt q prefix at stop used made = record { ended = Stopped stop; search = searchHeld (q .kind) (q .s) (q .t) prefix at; used = used; made = made }
+stoppedAt q prefix at stop used made =
+    record { ended = Stopped stop; search = searchHeld (q .kind) (q .s) (q .t) prefix at; used = used; made = made }
 
 -- a search that a run over a word table starts from
 pub record Ready (n : ℕ) (table : List ℕ) (q : Search) : Type 0 where

@@ -1,5 +1,7 @@
--- The laws of marks (document 01, "Marks" and rules 12 to 17): a saved mark restores the search, an accepted mark is saved again as the same bytes, and rule 12 allows exactly the searches that some mark restores.
--- A mark is three lines of number fields, and each field is the one way to write its value; readings of the definitions stand in Readings and Views.
+-- The laws of marks (document 01, "Marks" and rules 12 to 17): a saved mark restores the search, an accepted
+-- mark is saved again as the same bytes, and rule 12 allows exactly the searches that some mark restores.
+-- A mark is three lines of number fields, and each field is the one way to
+-- write its value; readings of the definitions stand in Readings and Views.
 use Prim.Native.Nat.{ℕ, _+_, _*_, _≤_, _<_}
 use native.Mathlib.Omega.{arith}
 use mathlib.Core.Path.{_≡_, refl, ap, sym, _∙_}
@@ -42,8 +44,11 @@ pub mark-length : (mol : Molecule) (q : Search) → length (markText mol q) ≡ 
 mark-length mol q = ap length (mark-text mol q) ∙ text-length (headOf mol q) (countsOf q) (beginning q) refl refl
 
 -- The mark of a search that rule 12 allows restores that search
-pub saved-restores : (mol : Molecule) (q : Search) → wellFormed mol ≡ true → restorable mol q ≡ true → length (q .prefix) ≡ 128 → restoreMark mol (markText mol q) ≡ acceptedSearch q
-saved-restores mol q formed kept full = restored-of mol (markText mol q) q (text-restored mol q formed kept full (markText mol q) (mark-text mol q))
+pub saved-restores :
+    (mol : Molecule) (q : Search) → wellFormed mol ≡ true → restorable mol q ≡ true → length (q .prefix) ≡ 128 →
+    restoreMark mol (markText mol q) ≡ acceptedSearch q
+saved-restores mol q formed kept full =
+    restored-of mol (markText mol q) q (text-restored mol q formed kept full (markText mol q) (mark-text mol q))
 
 -- ---- the search that an accepted mark restores
 
@@ -58,32 +63,51 @@ value-most bs = go (readField bs) refl
 module _ (mol : Molecule) (bytes : List ℕ) (q : Search) (f : Restored mol bytes q) where
   -- the state that the mark names
   abbrev named : State
-  named = record { stack = reverse (markBeginning bytes); next = valueAt 4 bytes 24; trials = valueAt 20 bytes 29; extensions = valueAt 20 bytes 49; listed = valueAt 20 bytes 69 }
+  named = record {
+    stack = reverse (markBeginning bytes);
+    next = valueAt 4 bytes 24;
+    trials = valueAt 20 bytes 29;
+    extensions = valueAt 20 bytes 49;
+    listed = valueAt 20 bytes 69;
+  }
 
   abbrev whole : Search
   whole = searchAt (valueAt 4 bytes 0) (valueAt 4 bytes 4) (valueAt 4 bytes 8) named
 
   named-length : length (named .stack) ≡ markLength bytes
-  named-length = length-reverse (markBeginning bytes) ∙ ap length (values-four bytes 90 (markLength bytes)) ∙ values-length 4 bytes 90 (markLength bytes)
+  named-length =
+      length-reverse (markBeginning bytes) ∙ ap length (values-four bytes 90 (markLength bytes)) ∙
+      values-length 4 bytes 90 (markLength bytes)
 
   named-search : whole ≡ q
   named-search = unfold markSearch in (f .search)
 
   named-valid : Valid (familyOf mol (valueAt 4 bytes 0) (valueAt 4 bytes 4) (valueAt 4 bytes 8)) named
   named-valid =
-      let place = place-facts (familyOf mol (valueAt 4 bytes 0) (valueAt 4 bytes 4) (valueAt 4 bytes 8)) (markBeginning bytes) (valueAt 4 bytes 24) (f .place) in
-      placed-valid (familyOf mol (valueAt 4 bytes 0) (valueAt 4 bytes 4) (valueAt 4 bytes 8)) named (rw reverse-reverse place)
+      let place = place-facts (familyOf mol (valueAt 4 bytes 0) (valueAt 4 bytes 4) (valueAt 4 bytes 8))
+      (markBeginning bytes) (valueAt 4 bytes 24) (f .place) in
+      placed-valid (familyOf mol (valueAt 4 bytes 0) (valueAt 4 bytes 4) (valueAt 4 bytes 8)) named
+      (rw reverse-reverse place)
 
   named-bounded : Bounded named
-  named-bounded = record { trials-most = value-most (take 20 (drop 29 bytes)); extensions-most = value-most (take 20 (drop 49 bytes)); listed-most = value-most (take 20 (drop 69 bytes)) }
+  named-bounded =
+      record {
+        trials-most = value-most (take 20 (drop 29 bytes));
+        extensions-most = value-most (take 20 (drop 49 bytes));
+        listed-most = value-most (take 20 (drop 69 bytes));
+      }
 
   named-restorable : restorable mol q ≡ true
-  named-restorable = rw (← named-search) (valid-restorable mol (valueAt 4 bytes 0) (valueAt 4 bytes 4) (valueAt 4 bytes 8) (f .formed) (f .kinds) named named-valid named-bounded)
+  named-restorable =
+      rw (← named-search)
+      (valid-restorable mol (valueAt 4 bytes 0) (valueAt 4 bytes 4) (valueAt 4 bytes 8) (f .formed)
+      (f .kinds) named named-valid named-bounded)
 
   named-full : length (q .prefix) ≡ 128
   named-full =
       let most = layout-facts bytes (f .layout) .most in
-      rw (← named-search) (search-length (valueAt 4 bytes 0) (valueAt 4 bytes 4) (valueAt 4 bytes 8) named (omega (arith, named-length)))
+      rw (← named-search)
+      (search-length (valueAt 4 bytes 0) (valueAt 4 bytes 4) (valueAt 4 bytes 8) named (omega (arith, named-length)))
 
   -- its numbers are the values of the fields
   named-head : headOf mol whole ≡ valuesOf 4 bytes 0 7
@@ -99,36 +123,56 @@ module _ (mol : Molecule) (bytes : List ℕ) (q : Search) (f : Restored mol byte
   named-counts = refl
 
   named-atoms : beginning whole ≡ valuesOf 4 bytes 90 (markLength bytes)
-  named-atoms = beginning-at (valueAt 4 bytes 0) (valueAt 4 bytes 4) (valueAt 4 bytes 8) named ∙ reverse-reverse (markBeginning bytes) ∙ values-four bytes 90 (markLength bytes)
+  named-atoms =
+      beginning-at (valueAt 4 bytes 0) (valueAt 4 bytes 4) (valueAt 4 bytes 8) named ∙
+      reverse-reverse (markBeginning bytes) ∙ values-four bytes 90 (markLength bytes)
 
   named-text : markText mol q ≡ bytes
-  named-text = ap (markText mol) (sym named-search) ∙ mark-text mol whole ∙ same (headOf mol whole) (countsOf whole) (beginning whole) named-head named-counts named-atoms ∙ sym (layout-text bytes (layout-facts bytes (f .layout)))
+  named-text =
+      ap (markText mol) (sym named-search) ∙ mark-text mol whole ∙
+      same (headOf mol whole) (countsOf whole) (beginning whole) named-head named-counts named-atoms ∙
+      sym (layout-text bytes (layout-facts bytes (f .layout)))
     where
-      same : (head counts atoms : List ℕ) → head ≡ valuesOf 4 bytes 0 7 → counts ≡ valuesOf 20 bytes 29 3 → atoms ≡ valuesOf 4 bytes 90 (markLength bytes) → textOf head counts atoms ≡ textOf (valuesOf 4 bytes 0 7) (valuesOf 20 bytes 29 3) (valuesOf 4 bytes 90 (markLength bytes))
+      same :
+          (head counts atoms : List ℕ) → head ≡ valuesOf 4 bytes 0 7 → counts ≡ valuesOf 20 bytes 29 3 →
+          atoms ≡ valuesOf 4 bytes 90 (markLength bytes) →
+          textOf head counts atoms ≡ textOf (valuesOf 4 bytes 0 7) (valuesOf 20 bytes 29 3)
+          (valuesOf 4 bytes 90 (markLength bytes))
       same head counts atoms h c a = rw (h, c, a)
 
 -- Any accepted mark, saved again, has the same bytes
-pub restored-saves : (mol : Molecule) (bytes : List ℕ) (q : Search) → restoreMark mol bytes ≡ acceptedSearch q → markText mol q ≡ bytes
+pub restored-saves :
+    (mol : Molecule) (bytes : List ℕ) (q : Search) → restoreMark mol bytes ≡ acceptedSearch q → markText mol q ≡ bytes
 restored-saves mol bytes q e = named-text mol bytes q (restored-facts mol bytes q e)
 
 -- An accepted mark restores a search that rule 12 allows, on a molecule that rule 9 allows
-pub restored-restorable : (mol : Molecule) (bytes : List ℕ) (q : Search) → restoreMark mol bytes ≡ acceptedSearch q → (wellFormed mol ≡ true) × (restorable mol q ≡ true) × (length (q .prefix) ≡ 128)
+pub restored-restorable :
+    (mol : Molecule) (bytes : List ℕ) (q : Search) → restoreMark mol bytes ≡ acceptedSearch q →
+    (wellFormed mol ≡ true) × (restorable mol q ≡ true) × (length (q .prefix) ≡ 128)
 restored-restorable mol bytes q e =
     let f = restored-facts mol bytes q e in
     (f .formed, named-restorable mol bytes q f, named-full mol bytes q f)
 
 -- The places of a search that rule 12 allows hold at most 128
-pub restorable-prefix : (mol : Molecule) (q : Search) → wellFormed mol ≡ true → restorable mol q ≡ true → length (q .prefix) ≡ 128 → (i : ℕ) → getD (q .prefix) i 0 ≤ 128
+pub restorable-prefix :
+    (mol : Molecule) (q : Search) → wellFormed mol ≡ true → restorable mol q ≡ true → length (q .prefix) ≡ 128 →
+    (i : ℕ) → getD (q .prefix) i 0 ≤ 128
 restorable-prefix mol q formed kept full i = omega (arith, prefix-most mol q kept full i, rule9 mol formed .atoms-high)
 
 -- Rule 12: a search is allowed exactly when it could be restored from some mark on this molecule
-pub rule12 : (mol : Molecule) (q : Search) → wellFormed mol ≡ true → length (q .prefix) ≡ 128 → (restorable mol q ≡ true) ↔ ((bytes : List ℕ) × (restoreMark mol bytes ≡ acceptedSearch q))
-rule12 mol q formed full = (λ kept. (markText mol q, saved-restores mol q formed kept full), λ r. restored-restorable mol (r .0) q (r .1) .1)
+pub rule12 :
+    (mol : Molecule) (q : Search) → wellFormed mol ≡ true → length (q .prefix) ≡ 128 →
+    (restorable mol q ≡ true) ↔ ((bytes : List ℕ) × (restoreMark mol bytes ≡ acceptedSearch q))
+rule12 mol q formed full =
+    (λ kept. (markText mol q, saved-restores mol q formed kept full), λ r. restored-restorable mol (r .0) q (r .1) .1)
 
 -- ---- saving
 
 -- the tests that were passed on the way to a written mark
-written-means : (a b c : Bool) (n k : ℕ) (r s t : Refusal) → cond a (cond b (cond c (Written n) (Refused r)) (Refused s)) (Refused t) ≡ Written k → (a ≡ true) × (b ≡ true) × (c ≡ true) × (k ≡ n)
+written-means :
+    (a b c : Bool) (n k : ℕ) (r s t : Refusal) →
+    cond a (cond b (cond c (Written n) (Refused r)) (Refused s)) (Refused t) ≡ Written k →
+    (a ≡ true) × (b ≡ true) × (c ≡ true) × (k ≡ n)
 written-means true true true n k r s t e = (refl, refl, refl, cc)
 written-means true true false n k r s t e = let z : _≡_ {A = ℕ} 0 1 = cc in absurd (omega arith)
 written-means true false c n k r s t e = let z : _≡_ {A = ℕ} 0 1 = cc in absurd (omega arith)
@@ -143,11 +187,15 @@ module _ (mol : Molecule) (q : Search) (out : List ℕ) where
   unfolding saveAnswer
   save-search e f = rw (e, f)
 
-  pub save-room : wellFormed mol ≡ true → restorable mol q ≡ true → length out < length (markText mol q) → saveAnswer mol q out ≡ Refused refusal.MarkRoom
+  pub save-room :
+      wellFormed mol ≡ true → restorable mol q ≡ true → length out < length (markText mol q) →
+      saveAnswer mol q out ≡ Refused refusal.MarkRoom
   unfolding saveAnswer
   save-room e f h = rw (e, f, lt-leb (length (markText mol q)) (length out) h)
 
-  pub save-writes : wellFormed mol ≡ true → restorable mol q ≡ true → length (markText mol q) ≤ length out → saveAnswer mol q out ≡ Written (length (markText mol q))
+  pub save-writes :
+      wellFormed mol ≡ true → restorable mol q ≡ true → length (markText mol q) ≤ length out →
+      saveAnswer mol q out ≡ Written (length (markText mol q))
   unfolding saveAnswer
   save-writes e f h = rw (e, f, le-leb (length (markText mol q)) (length out) h)
 
@@ -161,12 +209,17 @@ module _ (mol : Molecule) (q : Search) (out : List ℕ) where
     pub rest : drop k (saveOutput mol q out) ≡ drop k out
 
   pub save-written : (k : ℕ) → saveAnswer mol q out ≡ Written k → Wrote k
-  save-written k e = go (unfold saveAnswer in (written-means (wellFormed mol) (restorable mol q) (leb (length (markText mol q)) (length out)) (length (markText mol q)) k refusal.MarkRoom refusal.Search refusal.Record e))
+  save-written k e =
+      go (unfold saveAnswer in
+      (written-means (wellFormed mol) (restorable mol q) (leb (length (markText mol q)) (length out))
+      (length (markText mol q)) k refusal.MarkRoom refusal.Search refusal.Record e))
     where
       after : saveOutput mol q out ≡ markText mol q ++ drop k out
       after = unfold saveOutput in (rw e)
 
-      go : (wellFormed mol ≡ true) × (restorable mol q ≡ true) × (leb (length (markText mol q)) (length out) ≡ true) × (k ≡ length (markText mol q)) → Wrote k
+      go :
+          (wellFormed mol ≡ true) × (restorable mol q ≡ true) × (leb (length (markText mol q)) (length out) ≡ true) ×
+          (k ≡ length (markText mol q)) → Wrote k
       go h =
           let room : length (markText mol q) ≤ length out = leb-true (length (markText mol q)) (length out) (h .2) in
           record {
@@ -189,6 +242,7 @@ module _ (mol : Molecule) (q : Search) (out : List ℕ) where
       go : (x : Saved) → saveAnswer mol q out ≡ x → length (saveOutput mol q out) ≡ length out
       go (Written k) e =
           let w = save-written k e in
-          let bytes : length (saveOutput mol q out) ≡ length (markText mol q ++ drop k out) = unfold saveOutput in (rw e) in
+          let bytes : length (saveOutput mol q out) ≡ length (markText mol q ++ drop k out) = unfold saveOutput in
+          (rw e) in
           bytes ∙ rw (length-append, length-drop) (omega arith)
       go (Refused r) e = ap length (save-refused r e)

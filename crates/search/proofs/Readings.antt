@@ -33,7 +33,10 @@ module _ (mol : Molecule) (kind s t : ℕ) where
   unfolding familyOf
   family-lawful = go (eqb kind 0)
     where
-      go : (b : Bool) → Lawful (cond b (rings (mol .atoms) (bonded (mol .atoms) (mol .rows))) (paths (mol .atoms) (bonded (mol .atoms) (mol .rows)) s t))
+      go :
+          (b : Bool) →
+          Lawful (cond b (rings (mol .atoms) (bonded (mol .atoms) (mol .rows)))
+          (paths (mol .atoms) (bonded (mol .atoms) (mol .rows)) s t))
       go true = rings-lawful (mol .atoms) (bonded (mol .atoms) (mol .rows))
       go false = paths-lawful (mol .atoms) (bonded (mol .atoms) (mol .rows)) s t
 
@@ -41,7 +44,10 @@ module _ (mol : Molecule) (kind s t : ℕ) where
   unfolding familyOf
   family-atoms = go (eqb kind 0)
     where
-      go : (b : Bool) → cond b (rings (mol .atoms) (bonded (mol .atoms) (mol .rows))) (paths (mol .atoms) (bonded (mol .atoms) (mol .rows)) s t) .atoms ≡ mol .atoms
+      go :
+          (b : Bool) →
+          cond b (rings (mol .atoms) (bonded (mol .atoms) (mol .rows)))
+          (paths (mol .atoms) (bonded (mol .atoms) (mol .rows)) s t) .atoms ≡ mol .atoms
       go true = refl
       go false = refl
 
@@ -53,11 +59,13 @@ module _ (F : Family) (L : Lawful F) where
       let t = open-has F (λ v m. (L .short v m, L .inRange v m)) x p e in
       omega (arith, L .short (x ∷ p ++ t .0 ∷ t .1) (t .2), length-append (x ∷ p) (t .0 ∷ t .1))
 
-  pub open-range : (w : List ℕ) → isOpen F w ≡ true → (i : ℕ) → i < length w → (1 ≤ getD w i 0) × (getD w i 0 ≤ F .atoms)
+  pub open-range :
+      (w : List ℕ) → isOpen F w ≡ true → (i : ℕ) → i < length w → (1 ≤ getD w i 0) × (getD w i 0 ≤ F .atoms)
   open-range [] e i h = absurd (omega arith)
   open-range (x ∷ p) e i h =
       let t = open-has F (λ v m. (L .short v m, L .inRange v m)) x p e in
-      rw (List·getD-append (x ∷ p) (t .0 ∷ t .1) 0 i h) at (L .inRange (x ∷ p ++ t .0 ∷ t .1) (t .2) i (omega (arith, length-append (x ∷ p) (t .0 ∷ t .1))))
+      rw (List·getD-append (x ∷ p) (t .0 ∷ t .1) 0 i h) at
+      (L .inRange (x ∷ p ++ t .0 ∷ t .1) (t .2) i (omega (arith, length-append (x ∷ p) (t .0 ∷ t .1))))
 
 -- ---- the kind
 
@@ -76,7 +84,13 @@ ends-facts n s t e =
     let inner = and-parts (isAtom n s) (isAtom n t) (outer .0) in
     let a = atom-bounds n s (inner .0) in
     let b = atom-bounds n t (inner .1) in
-    record { s-low = a .0; s-high = a .1; t-low = b .0; t-high = b .1; differ = eqb-false s t (not-true (eqb s t) (outer .1)) }
+    record {
+      s-low = a .0;
+      s-high = a .1;
+      t-low = b .0;
+      t-high = b .1;
+      differ = eqb-false s t (not-true (eqb s t) (outer .1));
+    }
 
 pub atom-of : (n a : ℕ) → 1 ≤ a → a ≤ n → isAtom n a ≡ true
 atom-of n a low high = and-both (leb 1 a) (leb a n) (le-leb 1 a low) (le-leb a n high)
@@ -108,7 +122,8 @@ pub kind-of : (n kind s t : ℕ) → KindFacts n kind s t → kindKept n kind s 
 unfolding kindKept
 kind-of n kind s t (inl f) =
     or-left (eqb kind 0 && eqb s 0 && eqb t 0) (eqb kind 1 && endsKept n s t)
-    (and-both (eqb kind 0 && eqb s 0) (eqb t 0) (and-both (eqb kind 0) (eqb s 0) (eq-eqb kind 0 (f .0)) (eq-eqb s 0 (f .1))) (eq-eqb t 0 (f .2)))
+    (and-both (eqb kind 0 && eqb s 0) (eqb t 0)
+    (and-both (eqb kind 0) (eqb s 0) (eq-eqb kind 0 (f .0)) (eq-eqb s 0 (f .1))) (eq-eqb t 0 (f .2)))
 kind-of n kind s t (inr f) =
     or-right (eqb kind 0 && eqb s 0 && eqb t 0) (eqb kind 1 && endsKept n s t)
     (and-both (eqb kind 1) (endsKept n s t) (eq-eqb kind 1 (f .0)) (ends-of n s t (f .1)))
@@ -143,8 +158,10 @@ place-facts F p c e =
     let parts = and-parts (isOpen F p) (isAtom (F .atoms) c || isEmpty p && eqb c (suc (F .atoms))) e in
     go (parts .0) (or-either (isAtom (F .atoms) c) (isEmpty p && eqb c (suc (F .atoms))) (parts .1))
   where
-    go : isOpen F p ≡ true → (isAtom (F .atoms) c ≡ true) ⊎ ((isEmpty p && eqb c (suc (F .atoms))) ≡ true) → Placed F p c
-    go o (inl h) = let b = atom-bounds (F .atoms) c h in record { place-open = o; next-low = b .0; next-high = inl (b .1) }
+    go :
+        isOpen F p ≡ true → (isAtom (F .atoms) c ≡ true) ⊎ ((isEmpty p && eqb c (suc (F .atoms))) ≡ true) → Placed F p c
+    go o (inl h) =
+        let b = atom-bounds (F .atoms) c h in record { place-open = o; next-low = b .0; next-high = inl (b .1) }
     go o (inr h) =
         let b = and-parts (isEmpty p) (eqb c (suc (F .atoms))) h in
         let last : c ≡ suc (F .atoms) = eqb-true c (suc (F .atoms)) (b .1) in
@@ -152,14 +169,19 @@ place-facts F p c e =
 
 pub place-of : (F : Family) (p : List ℕ) (c : ℕ) → Placed F p c → placeKept F p c ≡ true
 unfolding placeKept
-place-of F p c f = and-both (isOpen F p) (isAtom (F .atoms) c || isEmpty p && eqb c (suc (F .atoms))) (f .place-open) (go (f .next-high))
+place-of F p c f =
+    and-both (isOpen F p) (isAtom (F .atoms) c || isEmpty p && eqb c (suc (F .atoms))) (f .place-open)
+    (go (f .next-high))
   where
     empty : p ≡ [] → isEmpty p ≡ true
     empty e = rw e (unfold isEmpty in refl)
 
     go : NextHigh (F .atoms) p c → isAtom (F .atoms) c || isEmpty p && eqb c (suc (F .atoms)) ≡ true
-    go (inl h) = or-left (isAtom (F .atoms) c) (isEmpty p && eqb c (suc (F .atoms))) (atom-of (F .atoms) c (f .next-low) h)
-    go (inr h) = or-right (isAtom (F .atoms) c) (isEmpty p && eqb c (suc (F .atoms))) (and-both (isEmpty p) (eqb c (suc (F .atoms))) (empty (h .0)) (eq-eqb c (suc (F .atoms)) (h .1)))
+    go (inl h) =
+        or-left (isAtom (F .atoms) c) (isEmpty p && eqb c (suc (F .atoms))) (atom-of (F .atoms) c (f .next-low) h)
+    go (inr h) =
+        or-right (isAtom (F .atoms) c) (isEmpty p && eqb c (suc (F .atoms)))
+        (and-both (isEmpty p) (eqb c (suc (F .atoms))) (empty (h .0)) (eq-eqb c (suc (F .atoms)) (h .1)))
 
 -- ---- rule 12
 
@@ -175,7 +197,9 @@ pub record Restorable (mol : Molecule) (q : Search) : Type 0 where
   pub listed-most : q .listed ≤ limit
 
 -- the seven parts of a test
-and7 : (a b c d e f g : Bool) → a && b && c && d && e && f && g ≡ true → (a ≡ true) × (b ≡ true) × (c ≡ true) × (d ≡ true) × (e ≡ true) × (f ≡ true) × (g ≡ true)
+and7 :
+    (a b c d e f g : Bool) → a && b && c && d && e && f && g ≡ true → (a ≡ true) × (b ≡ true) × (c ≡ true) ×
+    (d ≡ true) × (e ≡ true) × (f ≡ true) × (g ≡ true)
 and7 a b c d e f g h =
     let h6 = and-parts (a && b && c && d && e && f) g h in
     let h5 = and-parts (a && b && c && d && e) f (h6 .0) in
@@ -201,14 +225,22 @@ module _ (mol : Molecule) (q : Search) where
     where
       go : (i : ℕ) → i < 128 → (ltb i (q .len) ≡ true) ⊎ (ltb i (q .len) ≡ false) → paddedAt i ≡ true
       go i h (inl b) = or-left (ltb i (q .len)) (eqb (getD (q .prefix) i 0) 0) b
-      go i h (inr b) = or-right (ltb i (q .len)) (eqb (getD (q .prefix) i 0) 0) (eq-eqb (getD (q .prefix) i 0) 0 (f i (ltb-false i (q .len) b) h))
+      go i h (inr b) =
+          or-right (ltb i (q .len)) (eqb (getD (q .prefix) i 0) 0)
+          (eq-eqb (getD (q .prefix) i 0) 0 (f i (ltb-false i (q .len) b) h))
 
   pub restorable-facts : restorable mol q ≡ true → Restorable mol q
   unfolding restorable
   restorable-facts e =
-      go (and7 (leb (q .len) 127) (allBelow 128 paddedAt) (kindKept (mol .atoms) (q .kind) (q .s) (q .t)) (placeKept (family mol q) (beginning q) (q .next)) (leb (q .trials) limit) (leb (q .extensions) limit) (leb (q .listed) limit) e)
+      go (and7 (leb (q .len) 127) (allBelow 128 paddedAt) (kindKept (mol .atoms) (q .kind) (q .s) (q .t))
+      (placeKept (family mol q) (beginning q) (q .next)) (leb (q .trials) limit) (leb (q .extensions) limit)
+      (leb (q .listed) limit) e)
     where
-      go : (leb (q .len) 127 ≡ true) × (allBelow 128 paddedAt ≡ true) × (kindKept (mol .atoms) (q .kind) (q .s) (q .t) ≡ true) × (placeKept (family mol q) (beginning q) (q .next) ≡ true) × (leb (q .trials) limit ≡ true) × (leb (q .extensions) limit ≡ true) × (leb (q .listed) limit ≡ true) → Restorable mol q
+      go :
+          (leb (q .len) 127 ≡ true) × (allBelow 128 paddedAt ≡ true) ×
+          (kindKept (mol .atoms) (q .kind) (q .s) (q .t) ≡ true) ×
+          (placeKept (family mol q) (beginning q) (q .next) ≡ true) × (leb (q .trials) limit ≡ true) ×
+          (leb (q .extensions) limit ≡ true) × (leb (q .listed) limit ≡ true) → Restorable mol q
       go h =
           let place = place-facts (family mol q) (beginning q) (q .next) (h .3) in
           record {
@@ -217,7 +249,9 @@ module _ (mol : Molecule) (q : Search) where
             kind-kept = h .2;
             place-open = place .place-open;
             next-low = place .next-low;
-            next-high = subst (λ (n : ℕ). NextHigh n (beginning q) (q .next)) (family-atoms mol (q .kind) (q .s) (q .t)) (place .next-high);
+            next-high =
+                subst (λ (n : ℕ). NextHigh n (beginning q) (q .next)) (family-atoms mol (q .kind) (q .s) (q .t))
+                (place .next-high);
             trials-most = leb-true (q .trials) limit (h .4);
             extensions-most = leb-true (q .extensions) limit (h .5);
             listed-most = leb-true (q .listed) limit (h .6);
@@ -227,12 +261,26 @@ module _ (mol : Molecule) (q : Search) where
   pub restorable-place : Restorable mol q → placeKept (family mol q) (beginning q) (q .next) ≡ true
   restorable-place f =
       place-of (family mol q) (beginning q) (q .next)
-      (record { place-open = f .place-open; next-low = f .next-low; next-high = subst (λ (n : ℕ). NextHigh n (beginning q) (q .next)) (sym (family-atoms mol (q .kind) (q .s) (q .t))) (f .next-high) })
+      (record {
+        place-open = f .place-open;
+        next-low = f .next-low;
+        next-high =
+            subst (λ (n : ℕ). NextHigh n (beginning q) (q .next)) (sym (family-atoms mol (q .kind) (q .s) (q .t)))
+            (f .next-high);
+      })
 
   pub restorable-of : Restorable mol q → restorable mol q ≡ true
   unfolding restorable
   restorable-of f =
-      rw (le-leb (q .len) 127 (f .short), padded-of (f .padded), f .kind-kept, restorable-place f, le-leb (q .trials) limit (f .trials-most), le-leb (q .extensions) limit (f .extensions-most), le-leb (q .listed) limit (f .listed-most))
+      rw (
+        le-leb (q .len) 127 (f .short),
+        padded-of (f .padded),
+        f .kind-kept,
+        restorable-place f,
+        le-leb (q .trials) limit (f .trials-most),
+        le-leb (q .extensions) limit (f .extensions-most),
+        le-leb (q .listed) limit (f .listed-most),
+      )
 
   pub restorable-iff : (restorable mol q ≡ true) ↔ Restorable mol q
   restorable-iff = (restorable-facts, restorable-of)

@@ -34,20 +34,28 @@ pub record Restored (mol : Molecule) (bytes : List ℕ) (q : Search) : Type 0 wh
   pub layout : layoutKept bytes ≡ true
   pub own : belongs mol bytes ≡ true
   pub kinds : kindKept (mol .atoms) (valueAt 4 bytes 0) (valueAt 4 bytes 4) (valueAt 4 bytes 8) ≡ true
-  pub place : placeKept (familyOf mol (valueAt 4 bytes 0) (valueAt 4 bytes 4) (valueAt 4 bytes 8)) (markBeginning bytes) (valueAt 4 bytes 24) ≡ true
+  pub place :
+      placeKept (familyOf mol (valueAt 4 bytes 0) (valueAt 4 bytes 4) (valueAt 4 bytes 8)) (markBeginning bytes)
+      (valueAt 4 bytes 24) ≡ true
   pub search : markSearch bytes ≡ q
 
 -- a test that was passed on the way to an accepted answer
-passed : (t : Bool) (x : Made) (r : Refusal) (q : Search) → cond t x (refusedSearch r) ≡ acceptedSearch q → (t ≡ true) × (x ≡ acceptedSearch q)
+passed :
+    (t : Bool) (x : Made) (r : Refusal) (q : Search) → cond t x (refusedSearch r) ≡ acceptedSearch q →
+    (t ≡ true) × (x ≡ acceptedSearch q)
 passed true x r q e = (refl, e)
 passed false x r q e = let f = ap (λ (m : Made). m .answer) e in let z : _≡_ {A = ℕ} 0 1 = cc in absurd (omega arith)
 
 module _ (mol : Molecule) (bytes : List ℕ) (q : Search) where
   abbrev rule17 : Made
-  rule17 = cond (placeKept (familyOf mol (valueAt 4 bytes 0) (valueAt 4 bytes 4) (valueAt 4 bytes 8)) (markBeginning bytes) (valueAt 4 bytes 24)) (acceptedSearch (markSearch bytes)) (refusedSearch refusal.MarkPlace)
+  rule17 =
+      cond (placeKept (familyOf mol (valueAt 4 bytes 0) (valueAt 4 bytes 4) (valueAt 4 bytes 8)) (markBeginning bytes)
+      (valueAt 4 bytes 24)) (acceptedSearch (markSearch bytes)) (refusedSearch refusal.MarkPlace)
 
   abbrev rule16 : Made
-  rule16 = cond (kindKept (mol .atoms) (valueAt 4 bytes 0) (valueAt 4 bytes 4) (valueAt 4 bytes 8)) rule17 (refusedSearch refusal.MarkKind)
+  rule16 =
+      cond (kindKept (mol .atoms) (valueAt 4 bytes 0) (valueAt 4 bytes 4) (valueAt 4 bytes 8)) rule17
+      (refusedSearch refusal.MarkKind)
 
   abbrev rule15 : Made
   rule15 = cond (belongs mol bytes) rule16 (refusedSearch refusal.MarkMolecule)
@@ -61,9 +69,20 @@ module _ (mol : Molecule) (bytes : List ℕ) (q : Search) where
       let h9 = passed (wellFormed mol) rule14 refusal.Record q e in
       let h14 = passed (layoutKept bytes) rule15 refusal.MarkBytes q (h9 .1) in
       let h15 = passed (belongs mol bytes) rule16 refusal.MarkMolecule q (h14 .1) in
-      let h16 = passed (kindKept (mol .atoms) (valueAt 4 bytes 0) (valueAt 4 bytes 4) (valueAt 4 bytes 8)) rule17 refusal.MarkKind q (h15 .1) in
-      let h17 = passed (placeKept (familyOf mol (valueAt 4 bytes 0) (valueAt 4 bytes 4) (valueAt 4 bytes 8)) (markBeginning bytes) (valueAt 4 bytes 24)) (acceptedSearch (markSearch bytes)) refusal.MarkPlace q (h16 .1) in
-      record { formed = h9 .0; layout = h14 .0; own = h15 .0; kinds = h16 .0; place = h17 .0; search = ap (λ (m : Made). m .search) (h17 .1) }
+      let h16 = passed
+      (kindKept (mol .atoms) (valueAt 4 bytes 0) (valueAt 4 bytes 4) (valueAt 4 bytes 8)) rule17 refusal.MarkKind q
+      (h15 .1) in
+      let h17 = passed
+      (placeKept (familyOf mol (valueAt 4 bytes 0) (valueAt 4 bytes 4) (valueAt 4 bytes 8)) (markBeginning bytes)
+      (valueAt 4 bytes 24)) (acceptedSearch (markSearch bytes)) refusal.MarkPlace q (h16 .1) in
+      record {
+        formed = h9 .0;
+        layout = h14 .0;
+        own = h15 .0;
+        kinds = h16 .0;
+        place = h17 .0;
+        search = ap (λ (m : Made). m .search) (h17 .1);
+      }
 
   pub restored-of : Restored mol bytes q → restoreMark mol bytes ≡ acceptedSearch q
   unfolding restoreMark
@@ -99,19 +118,26 @@ module _ (mol : Molecule) (q : Search) (formed : wellFormed mol ≡ true) (kept 
       let rule = rule9 mol formed in
       let k = kind-small (mol .atoms) (q .kind) (q .s) (q .t) (f .kind-kept) in
       let high = next-most (mol .atoms) (beginning q) (q .next) (f .next-high) in
-      small-fits (q .kind) (omega arith) ◁ small-fits (q .s) (omega arith) ◁ small-fits (q .t) (omega arith) ◁ small-fits (mol .atoms) (omega arith) ◁ small-fits (mol .bonds) (omega arith) ◁ small-fits (q .len) (omega arith) ◁ small-fits (q .next) (omega arith) ◁ none
+      small-fits (q .kind) (omega arith) ◁ small-fits (q .s) (omega arith) ◁ small-fits (q .t)
+      (omega arith) ◁ small-fits (mol .atoms) (omega arith) ◁ small-fits (mol .bonds) (omega arith) ◁ small-fits
+      (q .len) (omega arith) ◁ small-fits (q .next) (omega arith) ◁ none
 
   counts-fit : All (Fits 20) (countsOf q)
   counts-fit =
       let f = restorable-facts mol q kept in
-      count-fits (q .trials) (f .trials-most) ◁ count-fits (q .extensions) (f .extensions-most) ◁ count-fits (q .listed) (f .listed-most) ◁ none
+      count-fits (q .trials) (f .trials-most) ◁ count-fits (q .extensions) (f .extensions-most) ◁ count-fits (q .listed)
+      (f .listed-most) ◁ none
 
   atoms-fit : All (Fits 4) (beginning q)
-  atoms-fit = all-of (beginning q) (λ i h. small-fits (getD (beginning q) i 0) (omega (arith, beginning-range mol q kept i h, rule9 mol formed .atoms-high)))
+  atoms-fit =
+      all-of (beginning q)
+      (λ i h. small-fits (getD (beginning q) i 0)
+      (omega (arith, beginning-range mol q kept i h, rule9 mol formed .atoms-high)))
 
   -- ---- restoring it
 
-  module _ (full : length (q .prefix) ≡ 128) (bytes : List ℕ) (is : bytes ≡ textOf (headOf mol q) (countsOf q) (beginning q)) where
+  module _ (full : length (q .prefix) ≡ 128) (bytes : List ℕ)
+      (is : bytes ≡ textOf (headOf mol q) (countsOf q) (beginning q)) where
     len-is : q .len ≡ length (beginning q)
     len-is = sym (beginning-length q full (restorable-facts mol q kept .short))
 
@@ -124,11 +150,15 @@ module _ (mol : Molecule) (q : Search) (formed : wellFormed mol ≡ true) (kept 
     atoms : markBeginning bytes ≡ beginning q
     atoms =
         values-four bytes 90 (markLength bytes)
-        ∙ ap (valuesOf 4 bytes 90) (mark-length-is bytes (headOf mol q) (countsOf q) (beginning q) is refl refl head-fits counts-fit atoms-fit len-is)
+        ∙ ap (valuesOf 4 bytes 90)
+        (mark-length-is bytes (headOf mol q) (countsOf q)
+        (beginning q) is refl refl head-fits counts-fit atoms-fit len-is)
         ∙ atom-values bytes (headOf mol q) (countsOf q) (beginning q) is refl refl head-fits counts-fit atoms-fit
 
     lines : Layout bytes
-    lines = text-layout bytes (headOf mol q) (countsOf q) (beginning q) is refl refl head-fits counts-fit atoms-fit len-is (rw (← len-is) (restorable-facts mol q kept .short))
+    lines =
+        text-layout bytes (headOf mol q) (countsOf q) (beginning q) is refl refl head-fits counts-fit atoms-fit len-is
+        (rw (← len-is) (restorable-facts mol q kept .short))
 
     kind-is : valueAt 4 bytes 0 ≡ q .kind
     kind-is = ap (λ l. getD l 0 0) heads
@@ -154,7 +184,8 @@ module _ (mol : Molecule) (q : Search) (formed : wellFormed mol ≡ true) (kept 
         let trials-is : valueAt 20 bytes 29 ≡ q .trials = ap (λ l. getD l 0 0) counts in
         let extensions-is : valueAt 20 bytes 49 ≡ q .extensions = ap (λ l. getD l 1 0) counts in
         let listed-is : valueAt 20 bytes 69 ≡ q .listed = ap (λ l. getD l 2 0) counts in
-        rw (kind-is, s-is, t-is, next-is, trials-is, extensions-is, listed-is, atoms) (unfold stateOf in (search-state mol q kept full))
+        rw (kind-is, s-is, t-is, next-is, trials-is, extensions-is, listed-is, atoms)
+        (unfold stateOf in (search-state mol q kept full))
 
     pub text-restored : Restored mol bytes q
     text-restored =

@@ -46,27 +46,42 @@ place-on c at i = omega (arith, mul-suc c i)
 
 module _ (c : ℕ) (some : 0 < c) (bytes : List ℕ) where
   -- where the bytes from a place on begin with the text of values, its fields read as them
-  pub fields-read : (vs post : List ℕ) (at : ℕ) → All (Fits c) vs → drop at bytes ≡ fieldsText c vs ++ post → (i : ℕ) → i < length vs → fieldAt c bytes (at + c * i) ≡ Value (getD vs i 0)
+  pub fields-read :
+      (vs post : List ℕ) (at : ℕ) → All (Fits c) vs → drop at bytes ≡ fieldsText c vs ++ post → (i : ℕ) →
+      i < length vs → fieldAt c bytes (at + c * i) ≡ Value (getD vs i 0)
   unfolding fieldsText
   fields-read [] post at fits e i h = absurd (omega arith)
   fields-read (v ∷ vs) post at (f ◁ fits) e zero h =
-      rw (mul-zero, add-zero, e, append-assoc, take-at (fieldText c v) (fieldsText c vs ++ post) c (field-length c v)) (written-reads-back c v (f .0) (f .1) some)
+      rw (mul-zero, add-zero, e, append-assoc, take-at (fieldText c v) (fieldsText c vs ++ post) c (field-length c v))
+      (written-reads-back c v (f .0) (f .1) some)
   fields-read (v ∷ vs) post at (f ◁ fits) e (suc i) h =
-      rw (place-on c at i) (fields-read vs post (at + c) fits (sym (drop-drop c at bytes) ∙ rw (e, append-assoc) (drop-at (fieldText c v) (fieldsText c vs ++ post) c (field-length c v))) i (omega arith))
+      rw (place-on c at i)
+      (fields-read vs post (at + c) fits
+      (sym (drop-drop c at bytes) ∙
+      rw (e, append-assoc) (drop-at (fieldText c v) (fieldsText c vs ++ post) c (field-length c v))) i (omega arith))
 
   -- so they are kept, and their values are those values
-  pub fields-keep : (vs post : List ℕ) (at k : ℕ) → All (Fits c) vs → drop at bytes ≡ fieldsText c vs ++ post → length vs ≡ k → fieldsKept c bytes at k ≡ true
+  pub fields-keep :
+      (vs post : List ℕ) (at k : ℕ) → All (Fits c) vs → drop at bytes ≡ fieldsText c vs ++ post → length vs ≡ k →
+      fieldsKept c bytes at k ≡ true
   unfolding fieldsKept
-  fields-keep vs post at k fits e l = allBelow-of k (λ i. isValue (fieldAt c bytes (at + c * i))) (λ i h. ap isValue (fields-read vs post at fits e i (omega arith)))
+  fields-keep vs post at k fits e l =
+      allBelow-of k (λ i. isValue (fieldAt c bytes (at + c * i)))
+      (λ i h. ap isValue (fields-read vs post at fits e i (omega arith)))
 
-  values-by : (vs : List ℕ) (at : ℕ) → ((i : ℕ) → i < length vs → fieldAt c bytes (at + c * i) ≡ Value (getD vs i 0)) → valuesOf c bytes at (length vs) ≡ vs
+  values-by :
+      (vs : List ℕ) (at : ℕ) → ((i : ℕ) → i < length vs → fieldAt c bytes (at + c * i) ≡ Value (getD vs i 0)) →
+      valuesOf c bytes at (length vs) ≡ vs
   values-by [] at f = refl
   values-by (v ∷ vs) at f =
       let here : fieldAt c bytes at ≡ Value v = rw (mul-zero, add-zero) at (f 0 (omega arith)) in
-      let more : valuesOf c bytes (at + c) (length vs) ≡ vs = values-by vs (at + c) (λ i h. rw (← place-on c at i) (f (suc i) (omega arith))) in
+      let more : valuesOf c bytes (at + c) (length vs) ≡ vs =
+      values-by vs (at + c) (λ i h. rw (← place-on c at i) (f (suc i) (omega arith))) in
       rw (here, more)
 
-  pub values-read : (vs post : List ℕ) (at k : ℕ) → All (Fits c) vs → drop at bytes ≡ fieldsText c vs ++ post → length vs ≡ k → valuesOf c bytes at k ≡ vs
+  pub values-read :
+      (vs post : List ℕ) (at k : ℕ) → All (Fits c) vs → drop at bytes ≡ fieldsText c vs ++ post → length vs ≡ k →
+      valuesOf c bytes at k ≡ vs
   values-read vs post at k fits e l = rw (← l) (values-by vs at (fields-read vs post at fits e))
 
 -- a field that reads as a value reads as its value
@@ -76,26 +91,37 @@ value-of Bad e = absurd (apart (sym e))
 
 -- the other way round: fields that are kept are the text of their values
 module _ (c : ℕ) (bytes : List ℕ) where
-  one-written : (at : ℕ) → at + c ≤ length bytes → isValue (fieldAt c bytes at) ≡ true → take c (drop at bytes) ≡ fieldText c (valueAt c bytes at)
+  one-written :
+      (at : ℕ) → at + c ≤ length bytes → isValue (fieldAt c bytes at) ≡ true →
+      take c (drop at bytes) ≡ fieldText c (valueAt c bytes at)
   one-written at h e =
       let room : c ≤ length (drop at bytes) = rw (length-drop at bytes) (omega arith) in
       read-is-written (take c (drop at bytes)) (valueAt c bytes at) (value-of (fieldAt c bytes at) e)
       ∙ ap (λ k. fieldText k (valueAt c bytes at)) (length-take-le c (drop at bytes) room)
 
-  all-written : (at k : ℕ) → at + c * k ≤ length bytes → ((i : ℕ) → i < k → isValue (fieldAt c bytes (at + c * i)) ≡ true) → take (c * k) (drop at bytes) ≡ fieldsText c (valuesOf c bytes at k)
+  all-written :
+      (at k : ℕ) → at + c * k ≤ length bytes → ((i : ℕ) → i < k → isValue (fieldAt c bytes (at + c * i)) ≡ true) →
+      take (c * k) (drop at bytes) ≡ fieldsText c (valuesOf c bytes at k)
   unfolding fieldsText
   all-written at zero h f = rw mul-zero
   all-written at (suc k) h f =
       let here : isValue (fieldAt c bytes at) ≡ true = rw (mul-zero, add-zero) at (f 0 (omega arith)) in
       let size : c * suc k ≡ c + c * k = omega (arith, mul-suc c k) in
-      let more : take (c * k) (drop (at + c) bytes) ≡ fieldsText c (valuesOf c bytes (at + c) k) = all-written (at + c) k (omega arith) (λ i j. rw (← place-on c at i) (f (suc i) (omega arith))) in
-      let first : take c (drop at bytes) ≡ fieldText c (valueAt c bytes at) = one-written at (omega (arith, mul-suc c k)) here in
+      let more : take (c * k) (drop (at + c) bytes) ≡ fieldsText c (valuesOf c bytes (at + c) k) =
+      all-written (at + c) k (omega arith) (λ i j. rw (← place-on c at i) (f (suc i) (omega arith))) in
+      let first : take c (drop at bytes) ≡ fieldText c (valueAt c bytes at) =
+      one-written at (omega (arith, mul-suc c k)) here in
       rw (size, take-add c (c * k) (drop at bytes), drop-drop c at bytes) (ap₂ (λ (a b : List ℕ). a ++ b) first more)
 
-  pub fields-written : (at k : ℕ) → at + c * k ≤ length bytes → fieldsKept c bytes at k ≡ true → take (c * k) (drop at bytes) ≡ fieldsText c (valuesOf c bytes at k)
+  pub fields-written :
+      (at k : ℕ) → at + c * k ≤ length bytes → fieldsKept c bytes at k ≡ true →
+      take (c * k) (drop at bytes) ≡ fieldsText c (valuesOf c bytes at k)
   unfolding fieldsKept
   fields-written at k h e = all-written at k h (allBelow-at k (λ i. isValue (fieldAt c bytes (at + c * i))) e)
 
   -- so the bytes from a place on are that text and the bytes past it
-  pub fields-split : (at k : ℕ) → at + c * k ≤ length bytes → fieldsKept c bytes at k ≡ true → drop at bytes ≡ fieldsText c (valuesOf c bytes at k) ++ drop (at + c * k) bytes
-  fields-split at k h e = sym (take-append-drop (c * k) (drop at bytes)) ∙ rw (fields-written at k h e, drop-drop (c * k) at bytes)
+  pub fields-split :
+      (at k : ℕ) → at + c * k ≤ length bytes → fieldsKept c bytes at k ≡ true →
+      drop at bytes ≡ fieldsText c (valuesOf c bytes at k) ++ drop (at + c * k) bytes
+  fields-split at k h e =
+      sym (take-append-drop (c * k) (drop at bytes)) ∙ rw (fields-written at k h e, drop-drop (c * k) at bytes)

@@ -1,4 +1,5 @@
--- The search and the state of the machine are two views of one thing, and rule 12 is "valid, counts at most the limit" of that state.
+-- The search and the state of the machine are two views of one thing,
+-- and rule 12 is "valid, counts at most the limit" of that state.
 -- The array is the beginning and then zeros, so taking its first `len` places and filling it up again undo each other.
 use Prim.Native.Nat.{ℕ, zero, suc, _+_, _-_, _≤_, _<_}
 use native.Mathlib.Decide.{decLt}
@@ -40,9 +41,12 @@ module _ (F : Family) (st : State) where
           absurd (clash (isDone (F .atoms) st) done d)
 
   pub valid-placed : Valid F st → Placed F (reverse (st .stack)) (st .next)
-  valid-placed v = record { place-open = v .open-stack; next-low = v .low; next-high = go (either (isDone (F .atoms) st)) }
+  valid-placed v =
+      record { place-open = v .open-stack; next-low = v .low; next-high = go (either (isDone (F .atoms) st)) }
     where
-      go : (isDone (F .atoms) st ≡ true) ⊎ (isDone (F .atoms) st ≡ false) → NextHigh (F .atoms) (reverse (st .stack)) (st .next)
+      go :
+          (isDone (F .atoms) st ≡ true) ⊎ (isDone (F .atoms) st ≡ false) →
+          NextHigh (F .atoms) (reverse (st .stack)) (st .next)
       go (inl d) = let f = done-place (F .atoms) st d in inr (ap reverse (f .0), f .1)
       go (inr d) = inl (v .within d)
 
@@ -78,7 +82,8 @@ module _ (kind s t : ℕ) (st : State) where
   pub state-search : stateOf (searchAt kind s t st) ≡ st
   unfolding stateOf
   state-search =
-      let same : reverse (beginning (searchAt kind s t st)) ≡ st .stack = ap reverse beginning-at ∙ reverse-reverse (st .stack) in
+      let same : reverse (beginning (searchAt kind s t st)) ≡ st .stack =
+      ap reverse beginning-at ∙ reverse-reverse (st .stack) in
       rw same (unfold searchAt in refl)
 
   pub search-length : length (st .stack) ≤ 128 → length (searchAt kind s t st .prefix) ≡ 128
@@ -97,7 +102,9 @@ module _ (q : Search) (full : length (q .prefix) ≡ 128) (short : q .len ≤ 12
     padding =
         ext-getD 0 (drop (q .len) (q .prefix)) (replicate (128 - q .len) 0)
         (rw (length-drop, length-replicate) (omega arith))
-        (λ i h. getD-drop (q .len) (q .prefix) i 0 ∙ padded (q .len + i) (omega arith) (omega (arith, length-drop (q .len) (q .prefix))) ∙ sym (zeros (128 - q .len) i))
+        (λ i h. getD-drop (q .len) (q .prefix) i 0 ∙
+        padded (q .len + i) (omega arith) (omega (arith, length-drop (q .len) (q .prefix))) ∙
+        sym (zeros (128 - q .len) i))
 
     pub held-beginning : held (beginning q) ≡ q .prefix
     unfolding held
@@ -108,14 +115,17 @@ module _ (mol : Molecule) (q : Search) (kept : restorable mol q ≡ true) where
   unfolding stateOf searchAt
   search-state full =
       let f = restorable-facts mol q kept in
-      let size : length (reverse (beginning q)) ≡ q .len = length-reverse (beginning q) ∙ beginning-length q full (f .short) in
-      let array : held (reverse (reverse (beginning q))) ≡ q .prefix = ap held (reverse-reverse (beginning q)) ∙ held-beginning q full (f .short) (f .padded) in
+      let size : length (reverse (beginning q)) ≡ q .len = length-reverse (beginning q) ∙
+      beginning-length q full (f .short) in
+      let array : held (reverse (reverse (beginning q))) ≡ q .prefix = ap held (reverse-reverse (beginning q)) ∙
+      held-beginning q full (f .short) (f .padded) in
       rw (size, array)
 
   pub restorable-valid : Valid (family mol q) (stateOf q)
   unfolding stateOf
   restorable-valid =
-      let place = place-facts (family mol q) (beginning q) (q .next) (restorable-place mol q (restorable-facts mol q kept)) in
+      let place = place-facts (family mol q) (beginning q) (q .next)
+      (restorable-place mol q (restorable-facts mol q kept)) in
       placed-valid (family mol q) (stateOf q) (rw reverse-reverse place)
 
   pub restorable-bounded : Bounded (stateOf q)
@@ -125,10 +135,12 @@ module _ (mol : Molecule) (q : Search) (kept : restorable mol q ≡ true) where
       record { trials-most = f .trials-most; extensions-most = f .extensions-most; listed-most = f .listed-most }
 
   -- the atoms of the beginning are from 1 to n
-  pub beginning-range : (i : ℕ) → i < length (beginning q) → (1 ≤ getD (beginning q) i 0) × (getD (beginning q) i 0 ≤ mol .atoms)
+  pub beginning-range :
+      (i : ℕ) → i < length (beginning q) → (1 ≤ getD (beginning q) i 0) × (getD (beginning q) i 0 ≤ mol .atoms)
   beginning-range i h =
       let f = restorable-facts mol q kept in
-      rw (family-atoms mol (q .kind) (q .s) (q .t)) at (open-range (family mol q) (family-lawful mol (q .kind) (q .s) (q .t)) (beginning q) (f .place-open) i h)
+      rw (family-atoms mol (q .kind) (q .s) (q .t)) at
+      (open-range (family mol q) (family-lawful mol (q .kind) (q .s) (q .t)) (beginning q) (f .place-open) i h)
 
   -- every place of the array holds at most n
   pub prefix-most : length (q .prefix) ≡ 128 → (i : ℕ) → getD (q .prefix) i 0 ≤ mol .atoms
@@ -136,7 +148,8 @@ module _ (mol : Molecule) (q : Search) (kept : restorable mol q ≡ true) where
     where
       inside : Restorable mol q → i < q .len → getD (q .prefix) i 0 ≤ mol .atoms
       inside f h =
-          let same : getD (beginning q) i 0 ≡ getD (q .prefix) i 0 = unfold beginning in (getD-take (q .len) (q .prefix) i 0 h) in
+          let same : getD (beginning q) i 0 ≡ getD (q .prefix) i 0 = unfold beginning in
+          (getD-take (q .len) (q .prefix) i 0 h) in
           omega (arith, beginning-range i (rw (beginning-length q full (f .short)) h) .1)
 
       go : Restorable mol q → Dec (i < q .len) → Dec (i < 128) → getD (q .prefix) i 0 ≤ mol .atoms
@@ -148,19 +161,29 @@ module _ (mol : Molecule) (q : Search) (kept : restorable mol q ≡ true) where
 
 -- ---- a valid state, counts at most the limit, is a search that rule 12 allows
 
-module _ (mol : Molecule) (kind s t : ℕ) (ok : wellFormed mol ≡ true) (st : State) (v : Valid (familyOf mol kind s t) st) where
+module _ (mol : Molecule) (kind s t : ℕ) (ok : wellFormed mol ≡ true) (st : State)
+    (v : Valid (familyOf mol kind s t) st) where
   pub valid-most : length (st .stack) ≤ 127
-  valid-most = omega (arith, valid-short (familyOf mol kind s t) (family-lawful mol kind s t) st v, family-atoms mol kind s t, rule9 mol ok .atoms-high)
+  valid-most =
+      omega (
+        arith,
+        valid-short (familyOf mol kind s t) (family-lawful mol kind s t) st v,
+        family-atoms mol kind s t,
+        rule9 mol ok .atoms-high,
+      )
 
   pub valid-full : length (searchAt kind s t st .prefix) ≡ 128
   valid-full = search-length kind s t st (omega (arith, valid-most))
 
-module _ (mol : Molecule) (kind s t : ℕ) (ok : wellFormed mol ≡ true) (kinds : kindKept (mol .atoms) kind s t ≡ true) where
-  pub valid-restorable : (st : State) → Valid (familyOf mol kind s t) st → Bounded st → restorable mol (searchAt kind s t st) ≡ true
+module _ (mol : Molecule) (kind s t : ℕ) (ok : wellFormed mol ≡ true)
+    (kinds : kindKept (mol .atoms) kind s t ≡ true) where
+  pub valid-restorable :
+      (st : State) → Valid (familyOf mol kind s t) st → Bounded st → restorable mol (searchAt kind s t st) ≡ true
   unfolding searchAt
   valid-restorable st v b =
       let same : familyOf mol kind s t .atoms ≡ mol .atoms = family-atoms mol kind s t in
-      let place : Placed (familyOf mol kind s t) (beginning (searchAt kind s t st)) (st .next) = rw (beginning-at kind s t st) (valid-placed (familyOf mol kind s t) st v) in
+      let place : Placed (familyOf mol kind s t) (beginning (searchAt kind s t st)) (st .next) =
+      rw (beginning-at kind s t st) (valid-placed (familyOf mol kind s t) st v) in
       restorable-of mol (searchAt kind s t st)
       (record {
         short = valid-most mol kind s t ok st v;
@@ -176,11 +199,17 @@ module _ (mol : Molecule) (kind s t : ℕ) (ok : wellFormed mol ≡ true) (kinds
 
   pub fresh-restorable : restorable mol (freshSearch kind s t) ≡ true
   unfolding freshSearch
-  fresh-restorable = valid-restorable fresh (fresh-valid (familyOf mol kind s t) (family-lawful mol kind s t)) (unfold fresh in (record { trials-most = omega arith; extensions-most = omega arith; listed-most = omega arith }))
+  fresh-restorable =
+      valid-restorable fresh (fresh-valid (familyOf mol kind s t) (family-lawful mol kind s t))
+      (unfold fresh in (record { trials-most = omega arith; extensions-most = omega arith; listed-most = omega arith }))
 
 -- A run of a search that rule 12 allows leaves such a search
-pub run-restorable : (mol : Molecule) (q : Search) → wellFormed mol ≡ true → restorable mol q ≡ true → (budget room : ℕ) → restorable mol (searchAt (q .kind) (q .s) (q .t) (run (family mol q) budget room (stateOf q) .state)) ≡ true
+pub run-restorable :
+    (mol : Molecule) (q : Search) → wellFormed mol ≡ true → restorable mol q ≡ true → (budget room : ℕ) →
+    restorable mol (searchAt (q .kind) (q .s) (q .t) (run (family mol q) budget room (stateOf q) .state)) ≡ true
 run-restorable mol q ok kept budget room =
-    valid-restorable mol (q .kind) (q .s) (q .t) ok (restorable-facts mol q kept .kind-kept) (run (family mol q) budget room (stateOf q) .state)
-    (run-keeps-valid (family mol q) (family-lawful mol (q .kind) (q .s) (q .t)) budget room (stateOf q) (restorable-valid mol q kept))
+    valid-restorable mol (q .kind) (q .s) (q .t) ok (restorable-facts mol q kept .kind-kept)
+    (run (family mol q) budget room (stateOf q) .state)
+    (run-keeps-valid (family mol q) (family-lawful mol (q .kind) (q .s) (q .t)) budget room (stateOf q)
+    (restorable-valid mol q kept))
     (run-keeps-bounded (family mol q) budget room (stateOf q) (restorable-bounded mol q kept))

@@ -1,4 +1,5 @@
--- What starting and running return and leave in the output (document 01, "The search, trial by trial" and "Turned back by number").
+-- What starting and running return and leave in the output (document
+-- 01, "The search, trial by trial" and "Turned back by number").
 use Prim.Native.Nat.{ℕ}
 use mathlib.Core.Bool.{_&&_, cond}
 use mathlib.Core.List.{List, _++_}
@@ -49,7 +50,12 @@ abbrev pub refusedRun : Search → Refusal → Ran
 refusedRun q r = record { ended = ended.Refused r; search = q; used = 0; made = 0 }
 
 abbrev pub ran : Search → Outcome → Ran
-ran q o = record { ended = Stopped (o .stop); search = searchAt (q .kind) (q .s) (q .t) (o .state); used = length (o .bytes); made = o .made }
+ran q o = record {
+  ended = Stopped (o .stop);
+  search = searchAt (q .kind) (q .s) (q .t) (o .state);
+  used = length (o .bytes);
+  made = o .made;
+}
 
 -- A run: rule 9, then 12
 unfoldable pub runSearch : Molecule → Search → ℕ → List ℕ → Ran

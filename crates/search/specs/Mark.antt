@@ -87,7 +87,13 @@ markBeginning bytes = valuesAt bytes 90 (markLength bytes)
 unfoldable pub markSearch : List ℕ → Search
 markSearch bytes =
     searchAt (valueAt 4 bytes 0) (valueAt 4 bytes 4) (valueAt 4 bytes 8)
-    (record { stack = reverse (markBeginning bytes); next = valueAt 4 bytes 24; trials = valueAt 20 bytes 29; extensions = valueAt 20 bytes 49; listed = valueAt 20 bytes 69 })
+    (record {
+      stack = reverse (markBeginning bytes);
+      next = valueAt 4 bytes 24;
+      trials = valueAt 20 bytes 29;
+      extensions = valueAt 20 bytes 49;
+      listed = valueAt 20 bytes 69;
+    })
 
 -- Rule 15 kept: the mark belongs to the molecule
 abbrev pub belongs : Molecule → List ℕ → Bool
@@ -100,7 +106,8 @@ restoreMark mol bytes =
     (cond (layoutKept bytes)
     (cond (belongs mol bytes)
     (cond (kindKept (mol .atoms) (valueAt 4 bytes 0) (valueAt 4 bytes 4) (valueAt 4 bytes 8))
-    (cond (placeKept (familyOf mol (valueAt 4 bytes 0) (valueAt 4 bytes 4) (valueAt 4 bytes 8)) (markBeginning bytes) (valueAt 4 bytes 24))
+    (cond (placeKept (familyOf mol (valueAt 4 bytes 0) (valueAt 4 bytes 4) (valueAt 4 bytes 8)) (markBeginning bytes)
+    (valueAt 4 bytes 24))
     (acceptedSearch (markSearch bytes))
     (refusedSearch refusal.MarkPlace))
     (refusedSearch refusal.MarkKind))

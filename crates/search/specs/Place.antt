@@ -15,7 +15,9 @@ use Rattle.search.specs.declared.Search.{Search}
 
 -- What a search of a kind lists: 0 the rings, 1 the paths from s to t
 unfoldable pub familyOf : Molecule → ℕ → ℕ → ℕ → Family
-familyOf mol kind s t = cond (eqb kind 0) (rings (mol .atoms) (bonded (mol .atoms) (mol .rows))) (paths (mol .atoms) (bonded (mol .atoms) (mol .rows)) s t)
+familyOf mol kind s t =
+    cond (eqb kind 0) (rings (mol .atoms) (bonded (mol .atoms) (mol .rows)))
+    (paths (mol .atoms) (bonded (mol .atoms) (mol .rows)) s t)
 
 abbrev pub family : Molecule → Search → Family
 family mol q = familyOf mol (q .kind) (q .s) (q .t)
@@ -26,7 +28,13 @@ beginning q = take (q .len) (q .prefix)
 
 -- The search as the machine of trials sees it
 unfoldable pub stateOf : Search → State
-stateOf q = record { stack = reverse (beginning q); next = q .next; trials = q .trials; extensions = q .extensions; listed = q .listed }
+stateOf q = record {
+  stack = reverse (beginning q);
+  next = q .next;
+  trials = q .trials;
+  extensions = q .extensions;
+  listed = q .listed;
+}
 
 -- a beginning in its array: the places past its length hold 0
 unfoldable pub held : List ℕ → List ℕ
@@ -35,7 +43,17 @@ held p = p ++ replicate (128 - length p) 0
 -- The search of a kind, s and t at a state of the machine, whose stack has at most 128 atoms
 unfoldable pub searchAt : ℕ → ℕ → ℕ → State → Search
 searchAt kind s t st =
-    record { kind = kind; s = s; t = t; len = length (st .stack); prefix = held (reverse (st .stack)); next = st .next; trials = st .trials; extensions = st .extensions; listed = st .listed }
+    record {
+      kind = kind;
+      s = s;
+      t = t;
+      len = length (st .stack);
+      prefix = held (reverse (st .stack));
+      next = st .next;
+      trials = st .trials;
+      extensions = st .extensions;
+      listed = st .listed;
+    }
 
 -- The fresh search of a kind, s and t
 unfoldable pub freshSearch : ℕ → ℕ → ℕ → Search

@@ -132,12 +132,15 @@ module _ (n len c : ℕ) where
     where
       go : (isAtom n c ≡ true) ⊎ ((eqb len 0 && eqb c (suc n)) ≡ true) → NextHigh n p c
       go (inl h) = inl (atom-bounds n c h .1)
-      go (inr h) = let b = and-parts (eqb len 0) (eqb c (suc n)) h in inr (f (eqb-true len 0 (b .0)), eqb-true c (suc n) (b .1))
+      go (inr h) =
+          let b = and-parts (eqb len 0) (eqb c (suc n)) h in inr (f (eqb-true len 0 (b .0)), eqb-true c (suc n) (b .1))
 
   next-of : (p : List ℕ) → (p ≡ [] → len ≡ 0) → 1 ≤ c → NextHigh n p c → nextKept n len c ≡ true
   unfolding nextKept
   next-of p f l (inl h) = or-left (isAtom n c) (eqb len 0 && eqb c (suc n)) (atom-of n c l h)
-  next-of p f l (inr h) = or-right (isAtom n c) (eqb len 0 && eqb c (suc n)) (and-both (eqb len 0) (eqb c (suc n)) (eq-eqb len 0 (f (h .0))) (eq-eqb c (suc n) (h .1)))
+  next-of p f l (inr h) =
+      or-right (isAtom n c) (eqb len 0 && eqb c (suc n))
+      (and-both (eqb len 0) (eqb c (suc n)) (eq-eqb len 0 (f (h .0))) (eq-eqb c (suc n) (h .1)))
 
 -- ---- the counts
 
@@ -175,7 +178,8 @@ module _ (mol : Molecule) (q : Search) where
       refute
       (λ f. clash countsKept
       (and-both (leb (q .trials) limit && leb (q .extensions) limit) (leb (q .listed) limit)
-      (and-both (leb (q .trials) limit) (leb (q .extensions) limit) (le-leb (q .trials) limit (f .trials-most)) (le-leb (q .extensions) limit (f .extensions-most)))
+      (and-both (leb (q .trials) limit) (leb (q .extensions) limit) (le-leb (q .trials) limit (f .trials-most))
+      (le-leb (q .extensions) limit (f .extensions-most)))
       (le-leb (q .listed) limit (f .listed-most)))
       e)
 
@@ -189,13 +193,19 @@ module _ (mol : Molecule) (q : Search) where
     none-begins e = rw e
 
     pub not-next : nextKept (mol .atoms) (q .len) (q .next) ≡ false → restorable mol q ≡ false
-    not-next e = refute (λ f. clash (nextKept (mol .atoms) (q .len) (q .next)) (next-of (mol .atoms) (q .len) (q .next) (beginning q) begins-none (f .next-low) (f .next-high)) e)
+    not-next e =
+        refute (λ f. clash (nextKept (mol .atoms) (q .len) (q .next))
+        (next-of (mol .atoms) (q .len) (q .next) (beginning q) begins-none (f .next-low) (f .next-high)) e)
 
     -- every other test passed
-    pub checked-open : padded (q .prefix) (q .len) ≡ true → kindKept (mol .atoms) (q .kind) (q .s) (q .t) ≡ true → nextKept (mol .atoms) (q .len) (q .next) ≡ true → countsKept ≡ true → isOpen (family mol q) (beginning q) ≡ restorable mol q
+    pub checked-open :
+        padded (q .prefix) (q .len) ≡ true → kindKept (mol .atoms) (q .kind) (q .s) (q .t) ≡ true →
+        nextKept (mol .atoms) (q .len) (q .next) ≡ true → countsKept ≡ true →
+        isOpen (family mol q) (beginning q) ≡ restorable mol q
     checked-open pad kinds next counts =
         same-test (isOpen (family mol q) (beginning q)) (restorable mol q)
-        (λ e. let outer = and-parts (leb (q .trials) limit && leb (q .extensions) limit) (leb (q .listed) limit) counts in
+        (λ e. let outer = and-parts (leb (q .trials) limit && leb (q .extensions) limit)
+        (leb (q .listed) limit) counts in
         let inner = and-parts (leb (q .trials) limit) (leb (q .extensions) limit) (outer .0) in
         restorable-of mol q
         (record {

@@ -23,10 +23,14 @@ empty-length [] = refl
 empty-length (a ∷ p) = sym (ne-eqb (suc (length p)) 0 (λ e. omega arith))
 
 module _ (mol : Molecule) (q : Search) where
-  pub place-shut : isOpen (family mol q) (beginning q) ≡ false → placeKept (family mol q) (beginning q) (q .next) ≡ false
+  pub place-shut :
+      isOpen (family mol q) (beginning q) ≡ false → placeKept (family mol q) (beginning q) (q .next) ≡ false
   unfolding placeKept
   place-shut e = rw e
 
-  pub place-next : length (q .prefix) ≡ 128 → q .len ≤ 127 → isOpen (family mol q) (beginning q) ≡ true → nextKept (mol .atoms) (q .len) (q .next) ≡ placeKept (family mol q) (beginning q) (q .next)
+  pub place-next :
+      length (q .prefix) ≡ 128 → q .len ≤ 127 → isOpen (family mol q) (beginning q) ≡ true →
+      nextKept (mol .atoms) (q .len) (q .next) ≡ placeKept (family mol q) (beginning q) (q .next)
   unfolding placeKept nextKept
-  place-next full short e = rw (e, family-atoms mol (q .kind) (q .s) (q .t), empty-length (beginning q), beginning-length q full short)
+  place-next full short e =
+      rw (e, family-atoms mol (q .kind) (q .s) (q .t), empty-length (beginning q), beginning-length q full short)

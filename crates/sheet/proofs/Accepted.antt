@@ -22,7 +22,9 @@ use Rattle.sheet.specs.Read.{lengthKept, linesKept, atomsOf, bondsOf, bo
 use Rattle.sheet.proofs.Tables.{Kept, kept-of, Joins, joins-swaps, Table, tables}
 
 -- a rule that was kept on the way to an accepted sheet
-kept-on : (t : Bool) (x : SheetAnswer) (r : Refusal) → cond t x (refusedSheet r) .answer ≡ Accepted → (t ≡ true) × (x .answer ≡ Accepted)
+kept-on :
+    (t : Bool) (x : SheetAnswer) (r : Refusal) → cond t x (refusedSheet r) .answer ≡ Accepted →
+    (t ≡ true) × (x .answer ≡ Accepted)
 kept-on true x r e = (refl, e)
 kept-on false x r e = let z : _≡_ {A = ℕ} 0 1 = cc in absurd (omega arith)
 
@@ -62,13 +64,19 @@ accepted-rules s e =
     }
 
 -- two pairs that are the same
-pub same-pair-cases : (x : Bond) (a b : ℕ) → samePair x (a, b) ≡ true → ((x .0 ≡ a) × (x .1 ≡ b)) ⊎ ((x .0 ≡ b) × (x .1 ≡ a))
+pub same-pair-cases :
+    (x : Bond) (a b : ℕ) → samePair x (a, b) ≡ true → ((x .0 ≡ a) × (x .1 ≡ b)) ⊎ ((x .0 ≡ b) × (x .1 ≡ a))
 unfolding samePair
 same-pair-cases x a b e = go (either (eqb (x .0) a && eqb (x .1) b))
   where
-    go : (eqb (x .0) a && eqb (x .1) b ≡ true) ⊎ (eqb (x .0) a && eqb (x .1) b ≡ false) → ((x .0 ≡ a) × (x .1 ≡ b)) ⊎ ((x .0 ≡ b) × (x .1 ≡ a))
-    go (inl t) = let p = and-parts (eqb (x .0) a) (eqb (x .1) b) t in inl (eqb-true (x .0) a (p .0), eqb-true (x .1) b (p .1))
-    go (inr f) = let p = and-parts (eqb (x .0) b) (eqb (x .1) a) (rw f at e) in inr (eqb-true (x .0) b (p .0), eqb-true (x .1) a (p .1))
+    go :
+        (eqb (x .0) a && eqb (x .1) b ≡ true) ⊎ (eqb (x .0) a && eqb (x .1) b ≡ false) →
+        ((x .0 ≡ a) × (x .1 ≡ b)) ⊎ ((x .0 ≡ b) × (x .1 ≡ a))
+    go (inl t) =
+        let p = and-parts (eqb (x .0) a) (eqb (x .1) b) t in inl (eqb-true (x .0) a (p .0), eqb-true (x .1) b (p .1))
+    go (inr f) =
+        let p = and-parts (eqb (x .0) b) (eqb (x .1) a) (rw f at e) in
+        inr (eqb-true (x .0) b (p .0), eqb-true (x .1) a (p .1))
 
 module _ (n : ℕ) (bond : ℕ → Bond) (m : ℕ) (kept : Kept n bond m) where
   -- the atoms that a bond joins
@@ -78,8 +86,20 @@ module _ (n : ℕ) (bond : ℕ → Bond) (m : ℕ) (kept : Kept n bond m) where
       let l = kept .left q h in
       let r = kept .right q h in
       ⊎-elim
-      (λ (w : (bond q .0 ≡ a) × (bond q .1 ≡ b)). (rw (w .0) at (l .0), rw (w .0) at (l .1), rw (w .1) at (r .0), rw (w .1) at (r .1), λ (d : a ≡ b). kept .apart q h (w .0 ∙ d ∙ sym (w .1))))
-      (λ (w : (bond q .0 ≡ b) × (bond q .1 ≡ a)). (rw (w .1) at (r .0), rw (w .1) at (r .1), rw (w .0) at (l .0), rw (w .0) at (l .1), λ (d : a ≡ b). kept .apart q h (w .0 ∙ sym d ∙ sym (w .1))))
+      (λ (w : (bond q .0 ≡ a) × (bond q .1 ≡ b)). (
+        rw (w .0) at (l .0),
+        rw (w .0) at (l .1),
+        rw (w .1) at (r .0),
+        rw (w .1) at (r .1),
+        λ (d : a ≡ b). kept .apart q h (w .0 ∙ d ∙ sym (w .1)),
+      ))
+      (λ (w : (bond q .0 ≡ b) × (bond q .1 ≡ a)). (
+        rw (w .1) at (r .0),
+        rw (w .1) at (r .1),
+        rw (w .0) at (l .0),
+        rw (w .0) at (l .1),
+        λ (d : a ≡ b). kept .apart q h (w .0 ∙ sym d ∙ sym (w .1)),
+      ))
       (same-pair-cases (bond q) a b e)
 
   table : Table bond m (rowsOf bond m)
@@ -115,18 +135,24 @@ module _ (n : ℕ) (bond : ℕ → Bond) (m : ℕ) (kept : Kept n bond m) where
           let few = kept .few in
           let up-a : suc (a - 1) ≡ a = omega arith in
           let up-b : suc (b - 1) ≡ b = omega arith in
-          bonded-cell n (rowsOf bond m) a b (f .0) (f .1) (f .2) (f .3) ∙ table .cells (a - 1) (b - 1) (omega arith) (omega arith) .1 (rw (up-a, up-b) w)
+          bonded-cell n (rowsOf bond m) a b (f .0) (f .1) (f .2) (f .3) ∙
+          table .cells (a - 1) (b - 1) (omega arith) (omega arith) .1 (rw (up-a, up-b) w)
 
-  pub record-well-formed : m ≤ 1024 → noneTwice bond m ≡ true → wellFormed (record { atoms = n; bonds = m; rows = rowsOf bond m }) ≡ true
+  pub record-well-formed :
+      m ≤ 1024 → noneTwice bond m ≡ true → wellFormed (record { atoms = n; bonds = m; rows = rowsOf bond m }) ≡ true
   record-well-formed light twice =
-      rule-in-range (record { atoms = n; bonds = m; rows = rowsOf bond m }) (kept .few) light true (bytes-of-sound (rowsOf bond m) n sound)
+      rule-in-range (record { atoms = n; bonds = m; rows = rowsOf bond m }) (kept .few) light true
+      (bytes-of-sound (rowsOf bond m) n sound)
       ∙ eq-eqb (onesOf (rowsOf bond m)) (2 * m) (table .ones-count twice)
 
 -- An accepted sheet's record satisfies rule 9
 pub accepted-well-formed : (s : List ℕ) → readSheet s .answer ≡ Accepted → wellFormed (readSheet s .molecule) ≡ true
 accepted-well-formed s e =
     let r = accepted-rules s e in
-    rw (r .reads) (record-well-formed (atomsOf s) (bondOf s) (bondsOf s) (kept-of (atomsOf s) (bondOf s) (bondsOf s) (r .few) (r .atoms-kept) (r .none-to-itself)) (r .light) (r .none-twice))
+    rw (r .reads)
+    (record-well-formed (atomsOf s) (bondOf s) (bondsOf s)
+    (kept-of (atomsOf s) (bondOf s) (bondsOf s) (r .few) (r .atoms-kept) (r .none-to-itself)) (r .light)
+    (r .none-twice))
 
 -- Its atoms, bonds and pairs are the sheet's
 pub record SameAs (s : List ℕ) (mol : Molecule) : Type 0 where
@@ -141,5 +167,7 @@ accepted-same s e =
     (record {
       atoms = refl;
       bonds = refl;
-      pairs = record-bonds (atomsOf s) (bondOf s) (bondsOf s) (kept-of (atomsOf s) (bondOf s) (bondsOf s) (r .few) (r .atoms-kept) (r .none-to-itself));
+      pairs =
+          record-bonds (atomsOf s) (bondOf s) (bondsOf s)
+          (kept-of (atomsOf s) (bondOf s) (bondsOf s) (r .few) (r .atoms-kept) (r .none-to-itself));
     })

@@ -56,7 +56,9 @@ module _ (n : ℕ) (bond : ℕ → Bond) (m : ℕ) (kept : Kept n bond m) (k : �
   unfolding noneTwice
   twice-found e = all-fails m isNew k h (new-by-cell true e)
 
-  pub twice-none : cell (rowsOf bond k) (bond k .0 - 1) (bond k .1 - 1) ≡ false → noneTwice bond k ≡ true → noneTwice bond (k + 1) ≡ true
+  pub twice-none :
+      cell (rowsOf bond k) (bond k .0 - 1) (bond k .1 - 1) ≡ false → noneTwice bond k ≡ true →
+      noneTwice bond (k + 1) ≡ true
   unfolding noneTwice
   twice-none e before = all-more k isNew before (new-by-cell false e)
 
@@ -84,41 +86,75 @@ module _ (s : List ℕ) where
         module _ (few : atomsOf s ≤ 128) where
           pub sheet-bonds : 1024 < bondsOf s → readSheet s ≡ refusedSheet refusal.TooManyBonds
           unfolding readSheet lengthKept linesKept
-          sheet-bonds h = rw (le-leb 9 (length s) long, eq-eqb (length s % 9) 0 whole, lines, le-leb (atomsOf s) 128 few, lt-leb (bondsOf s) 1024 h)
+          sheet-bonds h =
+              rw (
+                le-leb 9 (length s) long,
+                eq-eqb (length s % 9) 0 whole,
+                lines,
+                le-leb (atomsOf s) 128 few,
+                lt-leb (bondsOf s) 1024 h,
+              )
 
           module _ (light : bondsOf s ≤ 1024) where
             pub sheet-size : (length s ≡ 9 * suc (bondsOf s) → ⊥) → readSheet s ≡ refusedSheet refusal.SheetSize
             unfolding readSheet lengthKept linesKept
-            sheet-size h = rw (le-leb 9 (length s) long, eq-eqb (length s % 9) 0 whole, lines, le-leb (atomsOf s) 128 few, le-leb (bondsOf s) 1024 light, ne-eqb (length s) (9 * suc (bondsOf s)) h)
+            sheet-size h =
+                rw (
+                  le-leb 9 (length s) long,
+                  eq-eqb (length s % 9) 0 whole,
+                  lines,
+                  le-leb (atomsOf s) 128 few,
+                  le-leb (bondsOf s) 1024 light,
+                  ne-eqb (length s) (9 * suc (bondsOf s)) h,
+                )
 
             pub sheet-read : length s ≡ 9 * suc (bondsOf s) → readSheet s ≡ readBonds (atomsOf s) (bondOf s) (bondsOf s)
             unfolding readSheet lengthKept linesKept
-            sheet-read h = rw (le-leb 9 (length s) long, eq-eqb (length s % 9) 0 whole, lines, le-leb (atomsOf s) 128 few, le-leb (bondsOf s) 1024 light, eq-eqb (length s) (9 * suc (bondsOf s)) h)
+            sheet-read h =
+                rw (
+                  le-leb 9 (length s) long,
+                  eq-eqb (length s % 9) 0 whole,
+                  lines,
+                  le-leb (atomsOf s) 128 few,
+                  le-leb (bondsOf s) 1024 light,
+                  eq-eqb (length s) (9 * suc (bondsOf s)) h,
+                )
 
-row-step : (bond : ℕ → Bond) (k a b : ℕ) → bond k ≡ (a, b) → rowsOf bond (suc k) ≡ withCell (withCell (rowsOf bond k) (a - 1) (b - 1)) (b - 1) (a - 1)
+row-step :
+    (bond : ℕ → Bond) (k a b : ℕ) → bond k ≡ (a, b) →
+    rowsOf bond (suc k) ≡ withCell (withCell (rowsOf bond k) (a - 1) (b - 1)) (b - 1) (a - 1)
 unfolding rowsOf withBond
 row-step bond k a b e = rw e
 
 -- the loop over the stored bonds
 module _ (n : ℕ) (values : List ℕ) (m : ℕ) (kept : Kept n (storedBond values) m) where
-  pub stored-ends : (k : ℕ) → k < m → (1 ≤ left values k) × (left values k ≤ n) × (1 ≤ right values k) × (right values k ≤ n)
+  pub stored-ends :
+      (k : ℕ) → k < m → (1 ≤ left values k) × (left values k ≤ n) × (1 ≤ right values k) × (right values k ≤ n)
   stored-ends k h =
       let l = rw (bond-read values k) at (kept .left k h) in
       let r = rw (bond-read values k) at (kept .right k h) in
       (l .0, l .1, r .0, r .1)
 
   pub rows-size : (k : ℕ) (rows : List ℕ) → k ≤ m → rows ≡ rowsOf (storedBond values) k → length rows ≡ 2048
-  rows-size k rows h e = ap length e ∙ tables n (storedBond values) k (kept-fewer n (storedBond values) k m h kept) .bytes .size
+  rows-size k rows h e =
+      ap length e ∙ tables n (storedBond values) k (kept-fewer n (storedBond values) k m h kept) .bytes .size
 
-module _ (values : List ℕ) (k : ℕ) (rows : List ℕ) (a b : ℕ) (first : a ≡ left values k) (second : b ≡ right values k) (filled : rows ≡ rowsOf (storedBond values) k) where
-  pub cell-here : cell rows (a - 1) (b - 1) ≡ cell (rowsOf (storedBond values) k) (storedBond values k .0 - 1) (storedBond values k .1 - 1)
+module _ (values : List ℕ) (k : ℕ) (rows : List ℕ) (a b : ℕ) (first : a ≡ left values k) (second : b ≡ right values k)
+    (filled : rows ≡ rowsOf (storedBond values) k) where
+  pub cell-here :
+      cell rows (a - 1) (b - 1) ≡ cell (rowsOf (storedBond values) k) (storedBond values k .0 - 1)
+      (storedBond values k .1 - 1)
   cell-here = rw (filled, first, second, bond-read values k)
 
-  pub rows-more : (one two : List ℕ) → one ≡ withCell rows (a - 1) (b - 1) → two ≡ withCell one (b - 1) (a - 1) → two ≡ rowsOf (storedBond values) (k + 1)
+  pub rows-more :
+      (one two : List ℕ) → one ≡ withCell rows (a - 1) (b - 1) → two ≡ withCell one (b - 1) (a - 1) →
+      two ≡ rowsOf (storedBond values) (k + 1)
   rows-more one two e f = next ∙ sym (ap (rowsOf (storedBond values)) (add-one k))
     where
       next : two ≡ rowsOf (storedBond values) (suc k)
-      next = rw (f, e, filled, first, second) (sym (row-step (storedBond values) k (left values k) (right values k) (bond-read values k)))
+      next =
+          rw (f, e, filled, first, second)
+          (sym (row-step (storedBond values) k (left values k) (right values k) (bond-read values k)))
 
 pub rows-none : (bond : ℕ → Bond) → replicate 2048 0 ≡ rowsOf bond 0
 unfolding rowsOf
@@ -128,7 +164,9 @@ pub twice-zero : (bond : ℕ → Bond) → noneTwice bond 0 ≡ true
 unfolding noneTwice
 twice-zero bond = refl
 
-pub bonds-done : (n : ℕ) (bond : ℕ → Bond) (m k : ℕ) (rows : List ℕ) → atomsKept n bond m ≡ true → noneToItself bond m ≡ true → k ≤ m → m ≤ k → noneTwice bond k ≡ true → rows ≡ rowsOf bond k → filledSheet n m rows ≡ readBonds n bond m
+pub bonds-done :
+    (n : ℕ) (bond : ℕ → Bond) (m k : ℕ) (rows : List ℕ) → atomsKept n bond m ≡ true → noneToItself bond m ≡ true →
+    k ≤ m → m ≤ k → noneTwice bond k ≡ true → rows ≡ rowsOf bond k → filledSheet n m rows ≡ readBonds n bond m
 bonds-done n bond m k rows range apart l u twice filled =
     let same : k ≡ m = omega arith in
     ap (filledSheet n m) (filled ∙ ap (rowsOf bond) same) ∙ sym (bonds-read n bond m range apart (rw same at twice))

@@ -42,16 +42,19 @@ with-later x k = rw (bit-half x k) (go (bit (x / 2) k))
 
 -- The bits of a number with bit k set: those that it had, and k
 pub with-bit : (k x j : ℕ) → bit (withBit x k) j ≡ bit x j || eqb k j
-with-bit zero x zero = rw (with-first x, bit-first (x / 2 * 2 + 1), eq-eqb ((x / 2 * 2 + 1) % 2) 1 (omega arith)) (sym (or-true (bit x 0)))
+with-bit zero x zero =
+    rw (with-first x, bit-first (x / 2 * 2 + 1), eq-eqb ((x / 2 * 2 + 1) % 2) 1 (omega arith)) (sym (or-true (bit x 0)))
 with-bit zero x (suc j) =
     let same : (x / 2 * 2 + 1) / 2 ≡ x / 2 = omega arith in
     rw (with-first x, bit-half (x / 2 * 2 + 1) j, same, eqb·zero-suc j, or-false (bit x (suc j))) (sym (bit-half x j))
 with-bit (suc k) x zero =
     let same : (withBit (x / 2) k * 2 + x % 2) % 2 ≡ x % 2 = omega arith in
-    rw (with-later x k, bit-first (withBit (x / 2) k * 2 + x % 2), same, eqb·suc-zero k, or-false (bit x 0)) (sym (bit-first x))
+    rw (with-later x k, bit-first (withBit (x / 2) k * 2 + x % 2), same, eqb·suc-zero k, or-false (bit x 0))
+    (sym (bit-first x))
 with-bit (suc k) x (suc j) =
     let same : (withBit (x / 2) k * 2 + x % 2) / 2 ≡ withBit (x / 2) k = omega arith in
-    rw (with-later x k, bit-half (withBit (x / 2) k * 2 + x % 2) j, same, eqb·suc-suc k j, bit-half x j) (with-bit k (x / 2) j)
+    rw (with-later x k, bit-half (withBit (x / 2) k * 2 + x % 2) j, same, eqb·suc-suc k j, bit-half x j)
+    (with-bit k (x / 2) j)
 
 -- One bit more
 pub with-ones : (k x : ℕ) → bit x k ≡ false → ones (withBit x k) ≡ suc (ones x)

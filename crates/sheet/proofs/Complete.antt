@@ -1,4 +1,5 @@
--- Every n and list of bonds that keep the rules have a sheet, and it reads to exactly that record: no reader that refuses all would do.
+-- Every n and list of bonds that keep the rules have a sheet, and it
+-- reads to exactly that record: no reader that refuses all would do.
 -- Line i of the text is what its two numbers are written as, and a written field reads back.
 use Prim.Native.Nat.{ℕ, zero, suc, _+_, _-_, _*_, _/_, _%_, _≤_, _<_}
 use native.Mathlib.Nat.{add-zero, mul-mod-right, mul-div-right}
@@ -26,28 +27,38 @@ use Rattle.sheet.proofs.Stored.{within, atoms-kept-is}
 lines-length : (xs : List Bond) → length (linesText xs) ≡ 9 * length xs
 unfolding linesText
 lines-length [] = refl
-lines-length (x ∷ xs) = simp (length-append, field-length 4 (x .0), field-length 4 (x .1), lines-length xs) (omega arith)
+lines-length (x ∷ xs) =
+    simp (length-append, field-length 4 (x .0), field-length 4 (x .1), lines-length xs) (omega arith)
 
 -- the first line of a text
 
 module _ (x : Bond) (xs : List Bond) (left : x .0 < 10000) (right : x .1 < 10000) where
   first-left : fieldAt 4 (linesText (x ∷ xs)) 0 ≡ Value (x .0)
   unfolding linesText
-  first-left = rw (take-at (fieldText 4 (x .0)) (fieldText 4 (x .1) ++ (10 ∷ linesText xs)) 4 (field-length 4 (x .0))) (written-reads-back 4 (x .0) left (omega arith) (omega arith))
+  first-left =
+      rw (take-at (fieldText 4 (x .0)) (fieldText 4 (x .1) ++ (10 ∷ linesText xs)) 4 (field-length 4 (x .0)))
+      (written-reads-back 4 (x .0) left (omega arith) (omega arith))
 
   first-right : fieldAt 4 (linesText (x ∷ xs)) 4 ≡ Value (x .1)
   unfolding linesText
   first-right =
-      rw (drop-at (fieldText 4 (x .0)) (fieldText 4 (x .1) ++ (10 ∷ linesText xs)) 4 (field-length 4 (x .0)), take-at (fieldText 4 (x .1)) (10 ∷ linesText xs) 4 (field-length 4 (x .1)))
+      rw (
+        drop-at (fieldText 4 (x .0)) (fieldText 4 (x .1) ++ (10 ∷ linesText xs)) 4 (field-length 4 (x .0)),
+        take-at (fieldText 4 (x .1)) (10 ∷ linesText xs) 4 (field-length 4 (x .1)),
+      )
       (written-reads-back 4 (x .1) right (omega arith) (omega arith))
 
 -- the rest of the text
 skip-line : (x : Bond) (xs : List Bond) (k : ℕ) → drop (9 + k) (linesText (x ∷ xs)) ≡ drop k (linesText xs)
 unfolding linesText
 skip-line x xs k =
-    let split : fieldText 4 (x .0) ++ (fieldText 4 (x .1) ++ (10 ∷ linesText xs)) ≡ (fieldText 4 (x .0) ++ (fieldText 4 (x .1) ++ (10 ∷ []))) ++ linesText xs
-    = sym (append-assoc (fieldText 4 (x .0)) (fieldText 4 (x .1) ++ (10 ∷ [])) (linesText xs) ∙ ap (λ l. fieldText 4 (x .0) ++ l) (append-assoc (fieldText 4 (x .1)) (10 ∷ []) (linesText xs))) in
-    let size : length (fieldText 4 (x .0) ++ (fieldText 4 (x .1) ++ (10 ∷ []))) ≡ 9 = simp (length-append, field-length 4 (x .0), field-length 4 (x .1)) in
+    let split : fieldText 4 (x .0) ++ (fieldText 4 (x .1) ++ (10 ∷ linesText xs)) ≡
+    (fieldText 4 (x .0) ++ (fieldText 4 (x .1) ++ (10 ∷ []))) ++ linesText xs
+    =
+    sym (append-assoc (fieldText 4 (x .0)) (fieldText 4 (x .1) ++ (10 ∷ [])) (linesText xs) ∙
+    ap (λ l. fieldText 4 (x .0) ++ l) (append-assoc (fieldText 4 (x .1)) (10 ∷ []) (linesText xs))) in
+    let size : length (fieldText 4 (x .0) ++ (fieldText 4 (x .1) ++ (10 ∷ []))) ≡ 9 =
+    simp (length-append, field-length 4 (x .0), field-length 4 (x .1)) in
     rw (split, ← size) (drop-append-add (fieldText 4 (x .0) ++ (fieldText 4 (x .1) ++ (10 ∷ []))) (linesText xs) k)
 
 first-end : (x : Bond) (xs : List Bond) → getD (linesText (x ∷ xs)) 8 0 ≡ 10
@@ -76,16 +87,19 @@ module _ (x : Bond) (xs : List Bond) (i : ℕ) where
   shift-byte : getD (linesText (x ∷ xs)) (9 * suc i + 8) 0 ≡ getD (linesText xs) (9 * i + 8) 0
   shift-byte =
       let sum : 9 * suc i + 8 ≡ 9 + (9 * i + 8) = omega arith in
-      ap (λ d. getD (linesText (x ∷ xs)) d 0) sum ∙ sym (getD-drop 9 (linesText (x ∷ xs)) (9 * i + 8) 0) ∙ ap (λ l. getD l (9 * i + 8) 0) (skip-line x xs 0)
+      ap (λ d. getD (linesText (x ∷ xs)) d 0) sum ∙ sym (getD-drop 9 (linesText (x ∷ xs)) (9 * i + 8) 0) ∙
+      ap (λ l. getD l (9 * i + 8) 0) (skip-line x xs 0)
 
 -- the parts of line i
-text-left : (xs : List Bond) (i : ℕ) → i < length xs → Small xs → fieldAt 4 (linesText xs) (9 * i + 0) ≡ Value (bondAt xs i .0)
+text-left :
+    (xs : List Bond) (i : ℕ) → i < length xs → Small xs → fieldAt 4 (linesText xs) (9 * i + 0) ≡ Value (bondAt xs i .0)
 unfolding Small
 text-left [] i h small = absurd (omega arith)
 text-left (x ∷ xs) zero h small = first-left x xs (small 0 h .0) (small 0 h .1)
 text-left (x ∷ xs) (suc i) h small = shift-field x xs i 0 ∙ text-left xs i (omega arith) (fewer-small x xs small)
 
-text-right : (xs : List Bond) (i : ℕ) → i < length xs → Small xs → fieldAt 4 (linesText xs) (9 * i + 4) ≡ Value (bondAt xs i .1)
+text-right :
+    (xs : List Bond) (i : ℕ) → i < length xs → Small xs → fieldAt 4 (linesText xs) (9 * i + 4) ≡ Value (bondAt xs i .1)
 unfolding Small
 text-right [] i h small = absurd (omega arith)
 text-right (x ∷ xs) zero h small = first-right x xs (small 0 h .0) (small 0 h .1)
@@ -102,17 +116,22 @@ module _ (xs : List Bond) (small : Small xs) (i : ℕ) (h : i < length xs) where
   at-left = rw (add-zero (9 * i)) at (text-left xs i h small)
 
   text-kept : lineKept (linesText xs) i ≡ true
-  text-kept = line-good (linesText xs) i (bondAt xs i .0) at-left (bondAt xs i .1) (text-right xs i h small) (text-end xs i h)
+  text-kept =
+      line-good (linesText xs) i (bondAt xs i .0) at-left (bondAt xs i .1) (text-right xs i h small) (text-end xs i h)
 
   text-line : lineOf (linesText xs) i ≡ bondAt xs i
   text-line = sym (line-values (linesText xs) i (bondAt xs i .0) at-left (bondAt xs i .1) (text-right xs i h small))
 
 -- the numbers of a sheet that keeps the rules are small
-sheet-small : (n : ℕ) (bonds : List Bond) → n ≤ 128 → length bonds ≤ 1024 → atomsKept n (bondAt bonds) (length bonds) ≡ true → Small ((n, length bonds) ∷ bonds)
+sheet-small :
+    (n : ℕ) (bonds : List Bond) → n ≤ 128 → length bonds ≤ 1024 → atomsKept n (bondAt bonds) (length bonds) ≡ true →
+    Small ((n, length bonds) ∷ bonds)
 unfolding Small within
 sheet-small n bonds few light kept zero h = (omega arith, omega arith)
 sheet-small n bonds few light kept (suc k) h =
-    let both = and-parts (isAtom n (bondAt bonds k .0)) (isAtom n (bondAt bonds k .1)) (allBelow-at (length bonds) (within n (bondAt bonds)) (sym (atoms-kept-is n (bondAt bonds) (length bonds)) ∙ kept) k (omega arith)) in
+    let both = and-parts (isAtom n (bondAt bonds k .0)) (isAtom n (bondAt bonds k .1))
+    (allBelow-at (length bonds) (within n (bondAt bonds)) (sym (atoms-kept-is n (bondAt bonds) (length bonds)) ∙ kept) k
+    (omega arith)) in
     let left = atom-bounds n (bondAt bonds k .0) (both .0) in
     let right = atom-bounds n (bondAt bonds k .1) (both .1) in
     (omega arith, omega arith)
@@ -120,11 +139,13 @@ sheet-small n bonds few light kept (suc k) h =
 -- The sheet of n atoms and some bonds reads to their record
 pub every-molecule-has-a-sheet :
     (n : ℕ) (bonds : List Bond) → n ≤ 128 → length bonds ≤ 1024 →
-    atomsKept n (bondAt bonds) (length bonds) ≡ true → noneToItself (bondAt bonds) (length bonds) ≡ true → noneTwice (bondAt bonds) (length bonds) ≡ true →
+    atomsKept n (bondAt bonds) (length bonds) ≡ true → noneToItself (bondAt bonds) (length bonds) ≡ true →
+    noneTwice (bondAt bonds) (length bonds) ≡ true →
     readSheet (sheetText n bonds) ≡ acceptedSheet n (bondAt bonds) (length bonds)
 unfolding sheetText
 every-molecule-has-a-sheet n bonds few light atoms apart twice =
-    sheet-read text long whole lines (rw (← atoms-here) at few) (rw (← bonds-here) at light) (size ∙ sym (ap (λ b. 9 * suc b) bonds-here))
+    sheet-read text long whole lines (rw (← atoms-here) at few) (rw (← bonds-here) at light)
+    (size ∙ sym (ap (λ b. 9 * suc b) bonds-here))
     ∙ ap₂ (λ x y. readBonds x (bondOf text) y) atoms-here bonds-here
     ∙ bonds-same n (bondOf text) (bondAt bonds) (length bonds) (λ k h. text-line all small (suc k) (omega arith))
     ∙ bonds-read n (bondAt bonds) (length bonds) atoms apart twice

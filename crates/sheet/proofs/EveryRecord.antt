@@ -1,5 +1,6 @@
 -- Every record that rule 9 allows is read from some sheet.
--- Its bonds, one for each bit above the diagonal, keep the rules of a sheet; their rows have the same bits as the record's, and so the same bytes and as many ones.
+-- Its bonds, one for each bit above the diagonal, keep the rules of a sheet; their
+-- rows have the same bits as the record's, and so the same bytes and as many ones.
 use Prim.Native.Nat.{ℕ, zero, suc, _+_, _*_, _/_, _%_, _^_, _≤_, _<_}
 use native.Mathlib.Decide.{decLt}
 use native.Mathlib.Nat.{pow-suc, pow-zero, eq-or-lt-of-le}
@@ -43,13 +44,19 @@ same-bits : (w x y : ℕ) → x < 2 ^ w → y < 2 ^ w → ((k : ℕ) → k < w �
 same-bits zero x y hx hy e = omega (arith, pow-zero 2)
 same-bits (suc w) x y hx hy e =
     let p = pow-suc 2 w in
-    let halves : x / 2 ≡ y / 2 = same-bits w (x / 2) (y / 2) (omega arith) (omega arith) (λ k h. sym (bit-half x k) ∙ e (suc k) (omega arith) ∙ bit-half y k) in
-    let digits : x % 2 ≡ y % 2 = same-digit (x % 2) (y % 2) (omega arith) (omega arith) (sym (bit-first x) ∙ e 0 (omega arith) ∙ bit-first y) in
+    let halves : x / 2 ≡ y / 2 =
+    same-bits w (x / 2) (y / 2) (omega arith) (omega arith)
+    (λ k h. sym (bit-half x k) ∙ e (suc k) (omega arith) ∙ bit-half y k) in
+    let digits : x % 2 ≡ y % 2 =
+    same-digit (x % 2) (y % 2) (omega arith) (omega arith) (sym (bit-first x) ∙ e 0 (omega arith) ∙ bit-first y) in
     omega arith
 
 same-rows : (a b : List ℕ) → Rows a → Rows b → ((i j : ℕ) → i < 128 → j < 128 → cell a i j ≡ cell b i j) → a ≡ b
 unfolding cell
-same-rows a b ra rb e = ext-getD 0 a b (ra .size ∙ sym (rb .size)) (λ at h. same-bits 8 (getD a at 0) (getD b at 0) (ra .byte at) (rb .byte at) (λ k l. here at k (omega (arith, ra .size)) l))
+same-rows a b ra rb e =
+    ext-getD 0 a b (ra .size ∙ sym (rb .size))
+    (λ at h. same-bits 8 (getD a at 0) (getD b at 0) (ra .byte at) (rb .byte at)
+    (λ k l. here at k (omega (arith, ra .size)) l))
   where
     here : (at k : ℕ) → at < 2048 → k < 8 → bit (getD a at 0) k ≡ bit (getD b at 0) k
     here at k place offset =
@@ -67,7 +74,8 @@ pairOf p = (suc (p / 128), suc (p % 128))
 unfoldable above : List ℕ → ℕ → Bool
 above rows p = ltb (p / 128) (p % 128) && cell rows (p / 128) (p % 128)
 
-above-parts : (rows : List ℕ) (p : ℕ) → above rows p ≡ true → (p / 128 < p % 128) × (cell rows (p / 128) (p % 128) ≡ true)
+above-parts :
+    (rows : List ℕ) (p : ℕ) → above rows p ≡ true → (p / 128 < p % 128) × (cell rows (p / 128) (p % 128) ≡ true)
 unfolding above
 above-parts rows p e =
     let f = and-parts (ltb (p / 128) (p % 128)) (cell rows (p / 128) (p % 128)) e in
@@ -81,7 +89,9 @@ above-of rows i j hj h e =
     rw (row, column, lt-ltb i j h) e
 
 -- different places have different pairs
-pairs-differ : (rows : List ℕ) (p k : ℕ) → p < k → above rows p ≡ true → above rows k ≡ true → samePair (pairOf p) (pairOf k) ≡ false
+pairs-differ :
+    (rows : List ℕ) (p k : ℕ) → p < k → above rows p ≡ true → above rows k ≡ true →
+    samePair (pairOf p) (pairOf k) ≡ false
 pairs-differ rows p k h e f =
     let a = above-parts rows p e in
     let b = above-parts rows k f in
@@ -106,7 +116,10 @@ module _ (rows : List ℕ) (k : ℕ) (bonds : List Bond) (f : Pairs rows k bonds
   pairs-same : above rows k ≡ false → Pairs rows (suc k) bonds
   pairs-same e = record {
     from = λ q h. let w = f .from q h in (w .0, omega arith, w .2, w .3);
-    to = λ p h t. f .to p (⊎-elim (λ (s : p ≡ k). absurd (clash (above rows p) t (ap (above rows) s ∙ e))) (λ (l : p < k). l) (eq-or-lt-of-le (omega arith))) t;
+    to =
+        λ p h t. f .to p
+        (⊎-elim (λ (s : p ≡ k). absurd (clash (above rows p) t (ap (above rows) s ∙ e))) (λ (l : p < k). l)
+        (eq-or-lt-of-le (omega arith))) t;
     once = f .once;
   }
 
@@ -132,7 +145,10 @@ module _ (rows : List ℕ) (k : ℕ) (bonds : List Bond) (f : Pairs rows k bonds
 
     longer-once : noneTwice (bondAt longer) (suc (length bonds)) ≡ true
     unfolding noneTwice
-    longer-once = and-both (noneTwice (bondAt longer) (length bonds)) (allBelow (length bonds) (λ j. not (samePair (bondAt longer j) (bondAt longer (length bonds))))) (twice-same 0 (bondAt longer) (bondAt bonds) (length bonds) earlier ∙ f .once) new
+    longer-once =
+        and-both (noneTwice (bondAt longer) (length bonds))
+        (allBelow (length bonds) (λ j. not (samePair (bondAt longer j) (bondAt longer (length bonds)))))
+        (twice-same 0 (bondAt longer) (bondAt bonds) (length bonds) earlier ∙ f .once) new
 
     pairs-longer : Pairs rows (suc k) longer
     pairs-longer = record {
@@ -152,15 +168,20 @@ unfolding bondsTo noneTwice
 pairs-listed rows zero = record { from = λ q h. absurd (omega arith); to = λ p h t. absurd (omega arith); once = refl }
 pairs-listed rows (suc k) = go (pairs-listed rows k) (either (above rows k))
   where
-    go : Pairs rows k (bondsTo rows k) → (above rows k ≡ true) ⊎ (above rows k ≡ false) → Pairs rows (suc k) (cond (above rows k) (bondsTo rows k ++ (pairOf k ∷ [])) (bondsTo rows k))
+    go :
+        Pairs rows k (bondsTo rows k) → (above rows k ≡ true) ⊎ (above rows k ≡ false) →
+        Pairs rows (suc k) (cond (above rows k) (bondsTo rows k ++ (pairOf k ∷ [])) (bondsTo rows k))
     go f (inl t) = rw t (pairs-longer rows k (bondsTo rows k) f t)
     go f (inr e) = rw e (pairs-same rows k (bondsTo rows k) f e)
 
 -- ---- they keep the rules, and their rows are the record's
 
-module _ (n : ℕ) (few : n ≤ 128) (rows : List ℕ) (bytes : Rows rows) (sound : Sound rows n) (bonds : List Bond) (f : Pairs rows 16384 bonds) where
+module _ (n : ℕ) (few : n ≤ 128) (rows : List ℕ) (bytes : Rows rows) (sound : Sound rows n) (bonds : List Bond)
+    (f : Pairs rows 16384 bonds) where
   -- bond q joins two different atoms
-  joined : (q : ℕ) → q < length bonds → (1 ≤ bondAt bonds q .0) × (bondAt bonds q .0 < bondAt bonds q .1) × (bondAt bonds q .1 ≤ n)
+  joined :
+      (q : ℕ) → q < length bonds → (1 ≤ bondAt bonds q .0) × (bondAt bonds q .0 < bondAt bonds q .1) ×
+      (bondAt bonds q .1 ≤ n)
   unfolding Sound
   joined q h =
       let w = f .from q h in
@@ -174,39 +195,55 @@ module _ (n : ℕ) (few : n ≤ 128) (rows : List ℕ) (bytes : Rows rows) (soun
       atoms-kept-is n (bondAt bonds) (length bonds)
       ∙ allBelow-of (length bonds) (within n (bondAt bonds))
       (λ q h. let j = joined q h in
-      rw (le-leb 1 (bondAt bonds q .0) (j .0), le-leb (bondAt bonds q .0) n (omega arith), le-leb 1 (bondAt bonds q .1) (omega arith), le-leb (bondAt bonds q .1) n (j .2)))
+      rw (
+        le-leb 1 (bondAt bonds q .0) (j .0),
+        le-leb (bondAt bonds q .0) n (omega arith),
+        le-leb 1 (bondAt bonds q .1) (omega arith),
+        le-leb (bondAt bonds q .1) n (j .2),
+      ))
 
   bonds-apart : noneToItself (bondAt bonds) (length bonds) ≡ true
   unfolding differs
   bonds-apart =
       none-to-itself-is (bondAt bonds) (length bonds)
-      ∙ allBelow-of (length bonds) (differs (bondAt bonds)) (λ q h. let j = joined q h in rw (ne-eqb (bondAt bonds q .0) (bondAt bonds q .1) (λ e. omega arith)))
+      ∙ allBelow-of (length bonds) (differs (bondAt bonds))
+      (λ q h. let j = joined q h in rw (ne-eqb (bondAt bonds q .0) (bondAt bonds q .1) (λ e. omega arith)))
 
   table : Table (bondAt bonds) (length bonds) (rowsOf (bondAt bonds) (length bonds))
   table = tables n (bondAt bonds) (length bonds) (kept-of n (bondAt bonds) (length bonds) few bonds-atoms bonds-apart)
 
   -- a bit above the diagonal is a bond
-  upper : (i j : ℕ) → i < j → j < 128 → cell rows i j ≡ true → (q : ℕ) × (q < length bonds) × (bondAt bonds q ≡ (suc i, suc j))
+  upper :
+      (i j : ℕ) → i < j → j < 128 → cell rows i j ≡ true → (q : ℕ) × (q < length bonds) ×
+      (bondAt bonds q ≡ (suc i, suc j))
   upper i j h hj e =
       let w = f .to (128 * i + j) (omega arith) (above-of rows i j hj h e) in
       let row : (128 * i + j) / 128 ≡ i = omega arith in
       let column : (128 * i + j) % 128 ≡ j = omega arith in
       (w .0, w .1, w .2 ∙ rw (row, column))
 
-  cells-there : (i j : ℕ) → i < 128 → j < 128 → cell rows i j ≡ true → Joins (bondAt bonds) (length bonds) (suc i) (suc j)
+  cells-there :
+      (i j : ℕ) → i < 128 → j < 128 → cell rows i j ≡ true → Joins (bondAt bonds) (length bonds) (suc i) (suc j)
   unfolding Joins samePair Sound
   cells-there i j hi hj e = go (decLt i j) (sound i j hi hj e)
     where
-      go : Dec (i < j) → Mirror rows n i j → (q : ℕ) × (q < length bonds) × (samePair (bondAt bonds q) (suc i, suc j) ≡ true)
+      go :
+          Dec (i < j) → Mirror rows n i j → (q : ℕ) × (q < length bonds) ×
+          (samePair (bondAt bonds q) (suc i, suc j) ≡ true)
       go (yes h) m =
           let w = upper i j h hj e in
           (w .0, w .1, rw (w .2, eq-eqb (suc i) (suc i) refl, eq-eqb (suc j) (suc j) refl))
       go (no h) m =
           let off = m .off-diagonal in
-          let w = upper j i (omega arith) hi (m .image) in
-          (w .0, w .1, rw (w .2, eq-eqb (suc i) (suc i) refl, eq-eqb (suc j) (suc j) refl) (or-true (eqb (suc j) (suc i) && eqb (suc i) (suc j))))
+          let w = upper j i (omega arith) hi (m .image) in (
+            w .0,
+            w .1,
+            rw (w .2, eq-eqb (suc i) (suc i) refl, eq-eqb (suc j) (suc j) refl)
+                (or-true (eqb (suc j) (suc i) && eqb (suc i) (suc j))),
+          )
 
-  cells-back : (i j : ℕ) → i < 128 → j < 128 → Joins (bondAt bonds) (length bonds) (suc i) (suc j) → cell rows i j ≡ true
+  cells-back :
+      (i j : ℕ) → i < 128 → j < 128 → Joins (bondAt bonds) (length bonds) (suc i) (suc j) → cell rows i j ≡ true
   unfolding Joins Sound
   cells-back i j hi hj (q, h, e) =
       let w = f .from q h in
@@ -216,7 +253,8 @@ module _ (n : ℕ) (few : n ≤ 128) (rows : List ℕ) (bytes : Rows rows) (soun
       (λ (v : (suc (w .0 / 128) ≡ suc i) × (suc (w .0 % 128) ≡ suc j)).
       let row : w .0 / 128 ≡ i = omega arith in let column : w .0 % 128 ≡ j = omega arith in rw (row, column) at (a .1))
       (λ (v : (suc (w .0 / 128) ≡ suc j) × (suc (w .0 % 128) ≡ suc i)).
-      let row : w .0 / 128 ≡ j = omega arith in let column : w .0 % 128 ≡ i = omega arith in rw (row, column) at (m .image))
+      let row : w .0 / 128 ≡ j = omega arith in let column : w .0 % 128 ≡ i = omega arith in
+      rw (row, column) at (m .image))
       (same-pair-cases (pairOf (w .0)) (suc i) (suc j) (rw (w .3) at e))
 
   rows-are : rowsOf (bondAt bonds) (length bonds) ≡ rows
@@ -237,15 +275,22 @@ pub every-record-has-a-sheet :
 every-record-has-a-sheet mol formed size byte =
     let rule = rule9 mol formed in
     let sound = sound-of-rules (mol .rows) (mol .atoms) (rule .rows-sound) in
-    go (bondsTo (mol .rows) 16384) (pairs-listed (mol .rows) 16384) (rule .atoms-high) (rule .bonds-high) sound (eqb-true (onesOf (mol .rows)) (2 * mol .bonds) (rule .ones-count))
+    go (bondsTo (mol .rows) 16384) (pairs-listed (mol .rows) 16384) (rule .atoms-high) (rule .bonds-high) sound
+    (eqb-true (onesOf (mol .rows)) (2 * mol .bonds) (rule .ones-count))
   where
-    go : (bonds : List Bond) → Pairs (mol .rows) 16384 bonds → mol .atoms ≤ 128 → mol .bonds ≤ 1024 → Sound (mol .rows) (mol .atoms) → onesOf (mol .rows) ≡ 2 * mol .bonds → (s : List ℕ) × (readSheet s ≡ record { answer = Accepted; molecule = mol })
+    go :
+        (bonds : List Bond) → Pairs (mol .rows) 16384 bonds → mol .atoms ≤ 128 → mol .bonds ≤ 1024 →
+        Sound (mol .rows) (mol .atoms) → onesOf (mol .rows) ≡ 2 * mol .bonds →
+        (s : List ℕ) × (readSheet s ≡ record { answer = Accepted; molecule = mol })
     go bonds f few light sound count =
         let bytes : Rows (mol .rows) = record { size = size; byte = byte } in
-        let as-many : length bonds ≡ mol .bonds = omega (arith, ones-are (mol .atoms) few (mol .rows) bytes sound bonds f) in
-        let same : rowsOf (bondAt bonds) (length bonds) ≡ mol .rows = rows-are (mol .atoms) few (mol .rows) bytes sound bonds f in (
+        let as-many : length bonds ≡ mol .bonds =
+        omega (arith, ones-are (mol .atoms) few (mol .rows) bytes sound bonds f) in
+        let same : rowsOf (bondAt bonds) (length bonds) ≡ mol .rows =
+        rows-are (mol .atoms) few (mol .rows) bytes sound bonds f in (
           sheetText (mol .atoms) bonds,
           every-molecule-has-a-sheet (mol .atoms) bonds few (omega arith)
-              (bonds-atoms (mol .atoms) few (mol .rows) bytes sound bonds f) (bonds-apart (mol .atoms) few (mol .rows) bytes sound bonds f) (f .once)
+              (bonds-atoms (mol .atoms) few (mol .rows) bytes sound bonds f)
+              (bonds-apart (mol .atoms) few (mol .rows) bytes sound bonds f) (f .once)
               ∙ rw (same, as-many),
         )

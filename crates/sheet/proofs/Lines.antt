@@ -59,22 +59,30 @@ module _ (values : List ℕ) (line : ℕ → Bond) (i a b k : ℕ) (size : lengt
   unfolding stored
   stored-here =
       let room : 2 * k + 1 < length (set values (2 * k) a) = rw length-set (omega arith) in
-      let left : getD after (2 * k) 0 ≡ a = getD-set-other (set values (2 * k) a) (2 * k + 1) (2 * k) b 0 (omega arith) ∙ getD-set-same values (2 * k) a 0 (omega arith) in
+      let left : getD after (2 * k) 0 ≡ a =
+      getD-set-other (set values (2 * k) a) (2 * k + 1) (2 * k) b 0 (omega arith) ∙
+      getD-set-same values (2 * k) a 0 (omega arith) in
       let right : getD after (2 * k + 1) 0 ≡ b = getD-set-same (set values (2 * k) a) (2 * k + 1) b 0 room in
       ap₂ (λ x y. (x, y)) left right
 
   stored-other : (j : ℕ) → (j ≡ k → ⊥) → stored after j ≡ stored values j
   unfolding stored
   stored-other j n =
-      let left : getD after (2 * j) 0 ≡ getD values (2 * j) 0 = getD-set-other (set values (2 * k) a) (2 * k + 1) (2 * j) b 0 (omega arith) ∙ getD-set-other values (2 * k) (2 * j) a 0 (λ e. n (omega arith)) in
-      let right : getD after (2 * j + 1) 0 ≡ getD values (2 * j + 1) 0 = getD-set-other (set values (2 * k) a) (2 * k + 1) (2 * j + 1) b 0 (λ e. n (omega arith)) ∙ getD-set-other values (2 * k) (2 * j + 1) a 0 (omega arith) in
+      let left : getD after (2 * j) 0 ≡ getD values (2 * j) 0 =
+      getD-set-other (set values (2 * k) a) (2 * k + 1) (2 * j) b 0 (omega arith) ∙
+      getD-set-other values (2 * k) (2 * j) a 0 (λ e. n (omega arith)) in
+      let right : getD after (2 * j + 1) 0 ≡ getD values (2 * j + 1) 0 =
+      getD-set-other (set values (2 * k) a) (2 * k + 1) (2 * j + 1) b 0 (λ e. n (omega arith)) ∙
+      getD-set-other values (2 * k) (2 * j + 1) a 0 (omega arith) in
       ap₂ (λ x y. (x, y)) left right
 
   pub decodes-more : Decodes values line i → (a, b) ≡ line i → Decodes after line (i + 1)
   decodes-more d new = record { at = here }
     where
       here : (j : ℕ) → j < i + 1 → j < 1025 → stored after j ≡ line j
-      here j h small = ⊎-elim (λ (e : j ≡ i). last e) (λ (l : j < i). stored-other j (omega arith) ∙ d .at j l small) (eq-or-lt-of-le (omega arith))
+      here j h small =
+          ⊎-elim (λ (e : j ≡ i). last e) (λ (l : j < i). stored-other j (omega arith) ∙ d .at j l small)
+          (eq-or-lt-of-le (omega arith))
         where
           last : j ≡ i → stored after j ≡ line j
           last e =
@@ -84,5 +92,7 @@ module _ (values : List ℕ) (line : ℕ → Bond) (i a b k : ℕ) (size : lengt
 pub decodes-none : (values : List ℕ) (line : ℕ → Bond) → Decodes values line 0
 decodes-none values line = record { at = λ i h. absurd (omega arith) }
 
-pub decodes-done : (values : List ℕ) (line : ℕ → Bond) (i lines : ℕ) → i ≤ lines → lines ≤ i → Decodes values line i → Decodes values line lines
+pub decodes-done :
+    (values : List ℕ) (line : ℕ → Bond) (i lines : ℕ) → i ≤ lines → lines ≤ i → Decodes values line i →
+    Decodes values line lines
 decodes-done values line i lines l u d = let same : i ≡ lines = omega arith in rw same at d

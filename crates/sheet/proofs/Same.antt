@@ -19,26 +19,41 @@ all-same (suc k) p q f = ap₂ (λ a b. a && b) (all-same k p q (λ i h. f i (om
 module _ (n : ℕ) (bond bond′ : ℕ → Bond) (m : ℕ) (same : (k : ℕ) → k < m → bond k ≡ bond′ k) where
   atoms-same : atomsKept n bond m ≡ atomsKept n bond′ m
   unfolding within
-  atoms-same = atoms-kept-is n bond m ∙ all-same m (within n bond) (within n bond′) (λ k h. rw (same k h)) ∙ sym (atoms-kept-is n bond′ m)
+  atoms-same =
+      atoms-kept-is n bond m ∙ all-same m (within n bond) (within n bond′) (λ k h. rw (same k h)) ∙
+      sym (atoms-kept-is n bond′ m)
 
   itself-same : noneToItself bond m ≡ noneToItself bond′ m
   unfolding differs
-  itself-same = none-to-itself-is bond m ∙ all-same m (differs bond) (differs bond′) (λ k h. rw (same k h)) ∙ sym (none-to-itself-is bond′ m)
+  itself-same =
+      none-to-itself-is bond m ∙ all-same m (differs bond) (differs bond′) (λ k h. rw (same k h)) ∙
+      sym (none-to-itself-is bond′ m)
 
   pub twice-same : noneTwice bond m ≡ noneTwice bond′ m
   unfolding noneTwice
   twice-same =
-      all-same m (λ k. allBelow k (λ j. not (samePair (bond j) (bond k)))) (λ k. allBelow k (λ j. not (samePair (bond′ j) (bond′ k))))
-      (λ k h. all-same k (λ j. not (samePair (bond j) (bond k))) (λ j. not (samePair (bond′ j) (bond′ k))) (λ j l. ap₂ (λ x y. not (samePair x y)) (same j (omega arith)) (same k h)))
+      all-same m (λ k. allBelow k (λ j. not (samePair (bond j) (bond k))))
+      (λ k. allBelow k (λ j. not (samePair (bond′ j) (bond′ k))))
+      (λ k h. all-same k (λ j. not (samePair (bond j) (bond k))) (λ j. not (samePair (bond′ j) (bond′ k)))
+      (λ j l. ap₂ (λ x y. not (samePair x y)) (same j (omega arith)) (same k h)))
 
 rows-same : (bond bond′ : ℕ → Bond) (m : ℕ) → ((k : ℕ) → k < m → bond k ≡ bond′ k) → rowsOf bond m ≡ rowsOf bond′ m
 unfolding rowsOf
 rows-same bond bond′ zero same = refl
-rows-same bond bond′ (suc m) same = ap₂ withBond (rows-same bond bond′ m (λ k h. same k (omega arith))) (same m (omega arith))
+rows-same bond bond′ (suc m) same =
+    ap₂ withBond (rows-same bond bond′ m (λ k h. same k (omega arith))) (same m (omega arith))
 
-pub bonds-same : (n : ℕ) (bond bond′ : ℕ → Bond) (m : ℕ) → ((k : ℕ) → k < m → bond k ≡ bond′ k) → readBonds n bond m ≡ readBonds n bond′ m
+pub bonds-same :
+    (n : ℕ) (bond bond′ : ℕ → Bond) (m : ℕ) → ((k : ℕ) → k < m → bond k ≡ bond′ k) →
+    readBonds n bond m ≡ readBonds n bond′ m
 unfolding readBonds
-bonds-same n bond bond′ m same = rw (atoms-same n bond bond′ m same, itself-same n bond bond′ m same, twice-same n bond bond′ m same, rows-same bond bond′ m same)
+bonds-same n bond bond′ m same =
+    rw (
+      atoms-same n bond bond′ m same,
+      itself-same n bond bond′ m same,
+      twice-same n bond bond′ m same,
+      rows-same bond bond′ m same,
+    )
 
 -- what the decoder stored of a sheet
 module _ (s values : List ℕ) (decodes : Decodes values (lineOf s) (length s / 9)) where
@@ -51,8 +66,10 @@ module _ (s values : List ℕ) (decodes : Decodes values (lineOf s) (length s / 
     unfolding stored
     stored-bonds = ap (λ x. x .1) (decodes .at 0 (omega arith) (omega arith))
 
-  pub stored-read : (n m : ℕ) → m ≤ 1024 → length s ≡ 9 * suc m → readBonds n (storedBond values) m ≡ readBonds n (bondOf s) m
-  stored-read n m few size = bonds-same n (storedBond values) (bondOf s) m (λ k h. decodes .at (suc k) (omega arith) (omega arith))
+  pub stored-read :
+      (n m : ℕ) → m ≤ 1024 → length s ≡ 9 * suc m → readBonds n (storedBond values) m ≡ readBonds n (bondOf s) m
+  stored-read n m few size =
+      bonds-same n (storedBond values) (bondOf s) m (λ k h. decodes .at (suc k) (omega arith) (omega arith))
 
 -- the length that the second number of line 1 asks for, as the code computes it
 pub size-same : (m m′ : ℕ) → m ≡ m′ → 9 * suc m′ ≡ 9 * (m + 1)

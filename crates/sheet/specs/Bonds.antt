@@ -1,4 +1,5 @@
--- Bonds as they are listed, the rules on them (6, 7, 8), and the rows that hold them. Bond k, counted from 0, is a pair of atoms.
+-- Bonds as they are listed, the rules on them (6, 7, 8), and the
+-- rows that hold them. Bond k, counted from 0, is a pair of atoms.
 use Prim.Native.Nat.{ℕ, zero, suc, _+_, _-_, _*_, _/_, _%_, _^_}
 use mathlib.Core.Bool.{Bool, _&&_, _||_, not, cond}
 use mathlib.Core.List.{List}

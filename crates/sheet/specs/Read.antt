@@ -1,4 +1,5 @@
--- The bond sheet of document 01: what any bytes are read as, rules 1 to 8, each tried over the whole input before the next.
+-- The bond sheet of document 01: what any bytes are read as,
+-- rules 1 to 8, each tried over the whole input before the next.
 use Prim.Native.Nat.{ℕ, suc, _+_, _*_, _/_, _%_}
 use mathlib.Core.Bool.{Bool, _&&_, cond}
 use mathlib.Core.List.{List}

@@ -24,18 +24,23 @@ unfoldable pub load : (ℕ → Bool) → (ℕ → Bool) → ℕ → ℕ
 load seen pending zero = 0
 load seen pending (suc k) = load seen pending k + cost (seen (suc k)) (pending (suc k))
 
-load-le : (s p s′ p′ : ℕ → Bool) → ((a : ℕ) → cost (s′ a) (p′ a) ≤ cost (s a) (p a)) → (k : ℕ) → load s′ p′ k ≤ load s p k
+load-le :
+    (s p s′ p′ : ℕ → Bool) → ((a : ℕ) → cost (s′ a) (p′ a) ≤ cost (s a) (p a)) → (k : ℕ) → load s′ p′ k ≤ load s p k
 unfolding load
 load-le s p s′ p′ h zero = omega arith
 load-le s p s′ p′ h (suc k) = let rest = load-le s p s′ p′ h k in let here = h (suc k) in omega arith
 
-load-less : (s p s′ p′ : ℕ → Bool) (x : ℕ) → ((a : ℕ) → cost (s′ a) (p′ a) ≤ cost (s a) (p a)) → cost (s′ x) (p′ x) < cost (s x) (p x)
+load-less :
+    (s p s′ p′ : ℕ → Bool) (x : ℕ) → ((a : ℕ) → cost (s′ a) (p′ a) ≤ cost (s a) (p a)) →
+    cost (s′ x) (p′ x) < cost (s x) (p x)
     → (k : ℕ) → 1 ≤ x → x ≤ k → load s′ p′ k < load s p k
 unfolding load
 load-less s p s′ p′ x h g zero l u = absurd (omega arith)
 load-less s p s′ p′ x h g (suc k) l u = split (ℕ-discrete x (suc k)) (λ b. load-less s p s′ p′ x h g k l b)
   where
-    split : Dec (x ≡ suc k) → (x ≤ k → load s′ p′ k < load s p k) → load s′ p′ k + cost (s′ (suc k)) (p′ (suc k)) < load s p k + cost (s (suc k)) (p (suc k))
+    split :
+        Dec (x ≡ suc k) → (x ≤ k → load s′ p′ k < load s p k) → load s′ p′ k + cost (s′ (suc k)) (p′ (suc k)) <
+        load s p k + cost (s (suc k)) (p (suc k))
     split (yes e) rest =
         let here : cost (s′ (suc k)) (p′ (suc k)) < cost (s (suc k)) (p (suc k)) = rw e at g in
         let below = load-le s p s′ p′ h k in
@@ -80,5 +85,7 @@ step-less adj allowed seen pending next s =
     let inside = has-range pending x was in
     let after = s .advanced in
     load-less (has seen) (has pending) (has (next .seen)) (has (next .pending)) x
-    (λ a. rw (after .seen-is a, after .pending-is a) (cost-le (has seen a) (s .near a) (has pending a) (s .taken a) (has allowed a)))
-    (rw (after .seen-is x, after .pending-is x, was, taken) (cost-less (has seen x) (s .near x) (has allowed x))) 128 (inside .0) (inside .1)
+    (λ a. rw (after .seen-is a, after .pending-is a)
+    (cost-le (has seen a) (s .near a) (has pending a) (s .taken a) (has allowed a)))
+    (rw (after .seen-is x, after .pending-is x, was, taken) (cost-less (has seen x) (s .near x) (has allowed x))) 128
+    (inside .0) (inside .1)

@@ -1,4 +1,5 @@
--- The atoms near a word of the frontier are those bonded to one of its atoms: the turns of `near_word` take the bits one at a time, the lowest first.
+-- The atoms near a word of the frontier are those bonded to one of its atoms:
+-- the turns of `near_word` take the bits one at a time, the lowest first.
 -- `word & (word - 1)` has the bits of the word but for its lowest: by induction on the place of that.
 use Prim.Native.Nat.{ℕ, zero, suc, _+_, _-_, _*_, _/_, _%_, _^_, _≤_, _<_}
 use native.Mathlib.Omega.{arith}
@@ -23,7 +24,9 @@ use Rattle.sweep.specs.Swept.{NearWord, Advanced, Stepped}
 use Rattle.sweep.proofs.Frontier.{or-cases, or-left, or-right}
 
 -- one less has the bits above the lowest
-above-lowest : (j n k : ℕ) → bit n j ≡ true → ((i : ℕ) → bit n i ≡ true → j ≤ i) → bit n k ≡ true → (k ≡ j → ⊥) → bit (n - 1) k ≡ true
+above-lowest :
+    (j n k : ℕ) → bit n j ≡ true → ((i : ℕ) → bit n i ≡ true → j ≤ i) → bit n k ≡ true → (k ≡ j → ⊥) →
+    bit (n - 1) k ≡ true
 above-lowest zero n zero set least b d = absurd (d refl)
 above-lowest zero n (suc k) set least b d =
     let odd : n % 2 ≡ 1 = eqb-true (n % 2) 1 (sym (bit-first n) ∙ set) in
@@ -33,7 +36,8 @@ above-lowest (suc j) n zero set least b d = let low : suc j ≤ 0 = least 0 b in
 above-lowest (suc j) n (suc k) set least b d =
     let half : (n - 1) / 2 ≡ n / 2 - 1 = omega (arith, even) in
     bit-next (n - 1) k ∙ ap (λ (m : ℕ). bit m k) half
-    ∙ above-lowest j (n / 2) k (sym (bit-next n j) ∙ set) (λ i e. down i (least (suc i) (bit-next n i ∙ e))) (sym (bit-next n k) ∙ b) (λ e. d (ap suc e))
+    ∙ above-lowest j (n / 2) k (sym (bit-next n j) ∙ set) (λ i e. down i (least (suc i) (bit-next n i ∙ e)))
+    (sym (bit-next n k) ∙ b) (λ e. d (ap suc e))
   where
     even : n % 2 ≡ 1 → ⊥
     even e = let low : suc j ≤ 0 = least 0 (bit-first n ∙ eq-eqb (n % 2) 1 e) in omega arith
@@ -42,7 +46,8 @@ above-lowest (suc j) n (suc k) set least b d =
     down i h = omega arith
 
 others-stay : (n j k : ℕ) → LowestBit n j → bit n k ≡ true → (k ≡ j → ⊥) → bit (bitAnd n (n - 1)) k ≡ true
-others-stay n j k low b d = bit-and n (n - 1) k ∙ and-both (bit n k) (bit (n - 1) k) b (above-lowest j n k (low .set) (low .least) b d)
+others-stay n j k low b d =
+    bit-and n (n - 1) k ∙ and-both (bit n k) (bit (n - 1) k) b (above-lowest j n k (low .set) (low .least) b d)
 
 module _ (adj : Adjacency) (word k : ℕ) where
   -- the atoms of the bits that are not left are done
@@ -52,11 +57,15 @@ module _ (adj : Adjacency) (word k : ℕ) where
     pub done : (j a : ℕ) → bit word j ≡ true → adj (64 * k + j + 1) a ≡ true → (has all a ≡ true) ⊎ (bit left j ≡ true)
 
   pub passed-none : (all : List ℕ) → ((a : ℕ) → has all a ≡ false) → Passed all word
-  passed-none all none = record { some = λ a e. absurd (clash (has all a) e (none a)); within = λ j b. b; done = λ j a b e. inr b }
+  passed-none all none =
+      record { some = λ a e. absurd (clash (has all a) e (none a)); within = λ j b. b; done = λ j a b e. inr b }
 
-  pub passed-more : (all row more : List ℕ) (left j : ℕ) → LowestBit left j → ((a : ℕ) → has row a ≡ adj (64 * k + j + 1) a) → ((a : ℕ) → has more a ≡ (has all a || has row a))
+  pub passed-more :
+      (all row more : List ℕ) (left j : ℕ) → LowestBit left j → ((a : ℕ) → has row a ≡ adj (64 * k + j + 1) a) →
+      ((a : ℕ) → has more a ≡ (has all a || has row a))
       → Passed all left → Passed more (bitAnd left (left - 1))
-  passed-more all row more left j low row-is more-is p = record { some = some; within = λ i b. p .within i (kept i b); done = done }
+  passed-more all row more left j low row-is more-is p =
+      record { some = some; within = λ i b. p .within i (kept i b); done = done }
     where
       kept : (i : ℕ) → bit (bitAnd left (left - 1)) i ≡ true → bit left i ≡ true
       kept i b = and-left (bit left i) (bit (left - 1) i) (sym (bit-and left (left - 1) i) ∙ b)
@@ -64,14 +73,20 @@ module _ (adj : Adjacency) (word k : ℕ) where
       some : (a : ℕ) → has more a ≡ true → (i : ℕ) × (i < 64) × (bit word i ≡ true) × (adj (64 * k + i + 1) a ≡ true)
       some a e = split (or-cases (has all a) (has row a) (sym (more-is a) ∙ e))
         where
-          split : (has all a ≡ true) ⊎ (has row a ≡ true) → (i : ℕ) × (i < 64) × (bit word i ≡ true) × (adj (64 * k + i + 1) a ≡ true)
+          split :
+              (has all a ≡ true) ⊎ (has row a ≡ true) → (i : ℕ) × (i < 64) × (bit word i ≡ true) ×
+              (adj (64 * k + i + 1) a ≡ true)
           split (inl h) = p .some a h
           split (inr h) = (j, low .below, p .within j (low .set), sym (row-is a) ∙ h)
 
-      done : (i a : ℕ) → bit word i ≡ true → adj (64 * k + i + 1) a ≡ true → (has more a ≡ true) ⊎ (bit (bitAnd left (left - 1)) i ≡ true)
+      done :
+          (i a : ℕ) → bit word i ≡ true → adj (64 * k + i + 1) a ≡ true →
+          (has more a ≡ true) ⊎ (bit (bitAnd left (left - 1)) i ≡ true)
       done i a b e = split (p .done i a b e) (ℕ-discrete i j)
         where
-          split : (has all a ≡ true) ⊎ (bit left i ≡ true) → Dec (i ≡ j) → (has more a ≡ true) ⊎ (bit (bitAnd left (left - 1)) i ≡ true)
+          split :
+              (has all a ≡ true) ⊎ (bit left i ≡ true) → Dec (i ≡ j) →
+              (has more a ≡ true) ⊎ (bit (bitAnd left (left - 1)) i ≡ true)
           split (inl h) q = inl (more-is a ∙ or-left (has all a) (has row a) h)
           split (inr h) (yes q) = inl (more-is a ∙ or-right (has all a) (has row a) (row-is a ∙ (rw q at e)))
           split (inr h) (no q) = inr (others-stay left j i low h q)
@@ -84,37 +99,55 @@ module _ (adj : Adjacency) (word k : ℕ) where
       finish j a (inr h) = absurd (clash (bit left j) h (ap (λ (n : ℕ). bit n j) z ∙ bit-none j))
 
 -- A step that takes the atoms of word k, which is not 0
-module _ (adj : Adjacency) (allowed seen pending taken near : List ℕ) (next : Front) (k : ℕ) (inside : k < 2) (were : (x : ℕ) → has taken x ≡ true → has pending x ≡ true)
-    (range : (x : ℕ) → has taken x ≡ true → (64 * k < x) × (x ≤ 64 * k + 64)) (back : (x : ℕ) → has pending x ≡ true → 64 * k < x → x ≤ 64 * k + 64 → has taken x ≡ true) where
-  near-every : NearWord adj (getD taken k 0) k near → (x a : ℕ) → has taken x ≡ true → adj x a ≡ true → has near a ≡ true
+module _ (adj : Adjacency) (allowed seen pending taken near : List ℕ) (next : Front) (k : ℕ) (inside : k < 2)
+    (were : (x : ℕ) → has taken x ≡ true → has pending x ≡ true)
+    (range : (x : ℕ) → has taken x ≡ true → (64 * k < x) × (x ≤ 64 * k + 64))
+    (back : (x : ℕ) → has pending x ≡ true → 64 * k < x → x ≤ 64 * k + 64 → has taken x ≡ true) where
+  near-every :
+      NearWord adj (getD taken k 0) k near → (x a : ℕ) → has taken x ≡ true → adj x a ≡ true → has near a ≡ true
   near-every n x a t e = place (range x t)
     where
       found : (j : ℕ) → 64 * k + j + 1 ≡ x → j < 64 → has near a ≡ true
-      found j q h = n .every j a (sym (has-word taken k j inside h) ∙ ap (has taken) q ∙ t) (ap (λ (y : ℕ). adj y a) q ∙ e)
+      found j q h =
+          n .every j a (sym (has-word taken k j inside h) ∙ ap (has taken) q ∙ t) (ap (λ (y : ℕ). adj y a) q ∙ e)
 
       place : (64 * k < x) × (x ≤ 64 * k + 64) → has near a ≡ true
       place r = found (x - 64 * k - 1) (omega arith) (omega arith)
 
-  stepped : (j : ℕ) → LowestBit (getD pending k 0) j → NearWord adj (getD taken k 0) k near → Advanced allowed seen pending (has taken) (has near) next → Stepped adj allowed seen pending next
+  stepped :
+      (j : ℕ) → LowestBit (getD pending k 0) j → NearWord adj (getD taken k 0) k near →
+      Advanced allowed seen pending (has taken) (has near) next → Stepped adj allowed seen pending next
   stepped j low n advanced =
       let below = low .below in
       record {
         taken = has taken;
         near = has near;
-        some = (64 * k + j + 1, back (64 * k + j + 1) (has-word pending k j inside (low .below) ∙ low .set) (omega arith) (omega arith));
+        some = (
+          64 * k + j + 1,
+          back (64 * k + j + 1) (has-word pending k j inside (low .below) ∙ low .set) (omega arith)
+              (omega arith),
+        );
         were-pending = were;
-        only = λ a e. let from = n .only a e in (64 * k + from .0 + 1, has-word taken k (from .0) inside (from .1) ∙ from .2, from .3);
+        only =
+            λ a e. let from =
+            n .only a e in (64 * k + from .0 + 1, has-word taken k (from .0) inside (from .1) ∙ from .2, from .3);
         every = near-every n;
         advanced = advanced;
       }
 
 -- the atoms up to 64 are those of the first word
-module _ (adj : Adjacency) (allowed seen pending first taken near : List ℕ) (next : Front) (first-is : (a : ℕ) → has first a ≡ (leb 1 a && leb a 64)) where
-  pub step-first : ((a : ℕ) → has taken a ≡ (has pending a && has first a)) → (getD pending 0 0 ≡ 0 → ⊥) → getD pending 0 0 < 2 ^ 64 → NearWord adj (getD taken 0 0) 0 near
+module _ (adj : Adjacency) (allowed seen pending first taken near : List ℕ) (next : Front)
+    (first-is : (a : ℕ) → has first a ≡ (leb 1 a && leb a 64)) where
+  pub step-first :
+      ((a : ℕ) → has taken a ≡ (has pending a && has first a)) → (getD pending 0 0 ≡ 0 → ⊥) →
+      getD pending 0 0 < 2 ^ 64 → NearWord adj (getD taken 0 0) 0 near
       → Advanced allowed seen pending (has taken) (has near) next → Stepped adj allowed seen pending next
   step-first taken-is some small =
-      stepped adj allowed seen pending taken near next 0 (omega arith) (λ x t. and-left (has pending x) (has first x) (sym (taken-is x) ∙ t)) range
-      (λ x p l h. taken-is x ∙ and-both (has pending x) (has first x) p (first-is x ∙ and-both (leb 1 x) (leb x 64) (le-leb 1 x l) (le-leb x 64 h)))
+      stepped adj allowed seen pending taken near next 0 (omega arith)
+      (λ x t. and-left (has pending x) (has first x) (sym (taken-is x) ∙ t)) range
+      (λ x p l h. taken-is x ∙
+      and-both (has pending x) (has first x) p
+      (first-is x ∙ and-both (leb 1 x) (leb x 64) (le-leb 1 x l) (le-leb x 64 h)))
       (trailingZeros 64 (getD pending 0 0)) (lowest-in (getD pending 0 0) some small)
     where
       range : (x : ℕ) → has taken x ≡ true → (64 * 0 < x) × (x ≤ 64 * 0 + 64)
@@ -122,19 +155,26 @@ module _ (adj : Adjacency) (allowed seen pending first taken near : List ℕ) (n
           let low = sym (first-is x) ∙ and-right (has pending x) (has first x) (sym (taken-is x) ∙ t) in
           (leb-true 1 x (and-left (leb 1 x) (leb x 64) low), leb-true x 64 (and-right (leb 1 x) (leb x 64) low))
 
-  pub step-second : ((a : ℕ) → has taken a ≡ (has pending a && not (has first a))) → (getD pending 1 0 ≡ 0 → ⊥) → getD pending 1 0 < 2 ^ 64 → NearWord adj (getD taken 1 0) 1 near
+  pub step-second :
+      ((a : ℕ) → has taken a ≡ (has pending a && not (has first a))) → (getD pending 1 0 ≡ 0 → ⊥) →
+      getD pending 1 0 < 2 ^ 64 → NearWord adj (getD taken 1 0) 1 near
       → Advanced allowed seen pending (has taken) (has near) next → Stepped adj allowed seen pending next
   step-second taken-is some small =
-      stepped adj allowed seen pending taken near next 1 (omega arith) (λ x t. and-left (has pending x) (not (has first x)) (sym (taken-is x) ∙ t))
-      (λ x t. range x (has-range pending x (and-left (has pending x) (not (has first x)) (sym (taken-is x) ∙ t))) (and-right (has pending x) (not (has first x)) (sym (taken-is x) ∙ t)))
-      (λ x p l h. taken-is x ∙ and-both (has pending x) (not (has first x)) p (not-of (has first x) (false-of (has first x) (λ e. above x l e))))
+      stepped adj allowed seen pending taken near next 1 (omega arith)
+      (λ x t. and-left (has pending x) (not (has first x)) (sym (taken-is x) ∙ t))
+      (λ x t. range x (has-range pending x (and-left (has pending x) (not (has first x)) (sym (taken-is x) ∙ t)))
+      (and-right (has pending x) (not (has first x)) (sym (taken-is x) ∙ t)))
+      (λ x p l h. taken-is x ∙
+      and-both (has pending x) (not (has first x)) p (not-of (has first x) (false-of (has first x) (λ e. above x l e))))
       (trailingZeros 64 (getD pending 1 0)) (lowest-in (getD pending 1 0) some small)
     where
       range : (x : ℕ) → (1 ≤ x) × (x ≤ 128) → not (has first x) ≡ true → (64 * 1 < x) × (x ≤ 64 * 1 + 64)
       range x r e = split (either (leb x 64))
         where
           split : (leb x 64 ≡ true) ⊎ (leb x 64 ≡ false) → (64 * 1 < x) × (x ≤ 64 * 1 + 64)
-          split (inl h) = absurd (clash (not (has first x)) e (ap not (first-is x ∙ and-both (leb 1 x) (leb x 64) (le-leb 1 x (r .0)) h)))
+          split (inl h) =
+              absurd (clash (not (has first x)) e
+              (ap not (first-is x ∙ and-both (leb 1 x) (leb x 64) (le-leb 1 x (r .0)) h)))
           split (inr h) = (leb-false x 64 h, r .1)
 
       above : (x : ℕ) → 64 * 1 < x → has first x ≡ true → ⊥

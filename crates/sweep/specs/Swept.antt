@@ -29,7 +29,8 @@ pub record NearWord (adj : Adjacency) (word k : ℕ) (near : List ℕ) : Type 0 
 -- The atoms near are seen, those taken leave the frontier, and those near that are new and allowed join it
 pub record Advanced (allowed seen pending : List ℕ) (taken near : ℕ → Bool) (next : Front) : Type 0 where
   pub seen-is : (a : ℕ) → has (next .seen) a ≡ (has seen a || near a)
-  pub pending-is : (a : ℕ) → has (next .pending) a ≡ (has pending a && not (taken a) || near a && not (has seen a) && has allowed a)
+  pub pending-is :
+      (a : ℕ) → has (next .pending) a ≡ (has pending a && not (taken a) || near a && not (has seen a) && has allowed a)
 
 -- One step: some atoms of the frontier are taken, and near are the atoms bonded to one of them
 pub record Stepped (adj : Adjacency) (allowed seen pending : List ℕ) (next : Front) : Type 0 where

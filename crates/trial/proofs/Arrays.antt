@@ -21,15 +21,20 @@ use Rattle.trial.specs.Parts.{stackOf, stateAt, searchHeld, Held, HeldWi
 -- ---- an atom more and an atom less
 
 pub stack-length : (prefix : List ℕ) (len : ℕ) → Held prefix len → length (stackOf prefix len) ≡ len
-stack-length prefix len h = length-reverse (take len prefix) ∙ length-take-le len prefix (omega (arith, h .size, h .most))
+stack-length prefix len h =
+    length-reverse (take len prefix) ∙ length-take-le len prefix (omega (arith, h .size, h .most))
 
 pub stack-back : (prefix : List ℕ) (len : ℕ) → reverse (stackOf prefix len) ≡ take len prefix
 stack-back prefix len = reverse-reverse (take len prefix)
 
-pub stack-more : (prefix : List ℕ) (len : ℕ) → len < length prefix → stackOf prefix (suc len) ≡ getD prefix len 0 ∷ stackOf prefix len
-stack-more prefix len h = ap reverse (take-suc prefix len 0 h) ∙ reverse-append (take len prefix) (getD prefix len 0 ∷ [])
+pub stack-more :
+    (prefix : List ℕ) (len : ℕ) → len < length prefix →
+    stackOf prefix (suc len) ≡ getD prefix len 0 ∷ stackOf prefix len
+stack-more prefix len h =
+    ap reverse (take-suc prefix len 0 h) ∙ reverse-append (take len prefix) (getD prefix len 0 ∷ [])
 
-pub stack-push : (prefix : List ℕ) (len v : ℕ) → len < length prefix → stackOf (set prefix len v) (suc len) ≡ v ∷ stackOf prefix len
+pub stack-push :
+    (prefix : List ℕ) (len v : ℕ) → len < length prefix → stackOf (set prefix len v) (suc len) ≡ v ∷ stackOf prefix len
 stack-push prefix len v h = ap reverse (take-suc-set prefix len v h) ∙ reverse-append (take len prefix) (v ∷ [])
 
 pub stack-set : (prefix : List ℕ) (len v : ℕ) → stackOf (set prefix len v) len ≡ stackOf prefix len
@@ -53,7 +58,8 @@ held-pop prefix len h = record {
     go i l m (yes k) = getD-set-other prefix len i 0 0 (λ e. omega arith) ∙ h .zeros i (omega arith) m
     go i l m (no k) =
         let same : i ≡ len = omega arith in
-        subst (λ (j : ℕ). getD (set prefix len 0) j 0 ≡ 0) (sym same) (getD-set-same prefix len 0 0 (omega (arith, h .size, h .most)))
+        subst (λ (j : ℕ). getD (set prefix len 0) j 0 ≡ 0) (sym same)
+        (getD-set-same prefix len 0 0 (omega (arith, h .size, h .most)))
 
 -- ---- unwinding
 
@@ -67,16 +73,23 @@ unwound-stays n a stack c e = rw (ne-eqb c (suc n) e)
 
 module _ (n : ℕ) (prefix : List ℕ) where
   -- one turn
-  pub unwound-pop : (len c a : ℕ) → Held prefix (suc len) → c ≡ n + 1 → a ≡ getD prefix len 0 → unwound n (stackOf (set prefix len 0) len) (a + 1) ≡ unwound n (stackOf prefix (suc len)) c
+  pub unwound-pop :
+      (len c a : ℕ) → Held prefix (suc len) → c ≡ n + 1 → a ≡ getD prefix len 0 →
+      unwound n (stackOf (set prefix len 0) len) (a + 1) ≡ unwound n (stackOf prefix (suc len)) c
   unwound-pop len c a h e f =
       let last : c ≡ suc n = omega arith in
       let up : a + 1 ≡ suc (getD prefix len 0) = omega arith in
-      rw (stack-set prefix len 0, up, stack-more prefix len (omega (arith, h .size, h .most))) (sym (unwound-last n (getD prefix len 0) (stackOf prefix len) c last))
+      rw (stack-set prefix len 0, up, stack-more prefix len (omega (arith, h .size, h .most)))
+      (sym (unwound-last n (getD prefix len 0) (stackOf prefix len) c last))
 
   -- the ways out
-  pub unwound-left : (len c : ℕ) → Held prefix len → 0 < len → (c ≡ n + 1 → ⊥) → (stackOf prefix len, c) ≡ unwound n (stackOf prefix len) c
+  pub unwound-left :
+      (len c : ℕ) → Held prefix len → 0 < len → (c ≡ n + 1 → ⊥) →
+      (stackOf prefix len, c) ≡ unwound n (stackOf prefix len) c
   unwound-left zero c h l e = absurd (omega arith)
-  unwound-left (suc len) c h l e = rw (stack-more prefix len (omega (arith, h .size, h .most))) (sym (unwound-stays n (getD prefix len 0) (stackOf prefix len) c (λ q. e (omega arith))))
+  unwound-left (suc len) c h l e =
+      rw (stack-more prefix len (omega (arith, h .size, h .most)))
+      (sym (unwound-stays n (getD prefix len 0) (stackOf prefix len) c (λ q. e (omega arith))))
 
   pub unwound-end : (len c : ℕ) → len ≤ 0 → (stackOf prefix len, c) ≡ unwound n (stackOf prefix len) c
   unfolding unwound
@@ -86,27 +99,66 @@ module _ (n : ℕ) (prefix : List ℕ) where
 -- ---- a trial, by what it does
 
 module _ (n : ℕ) (before after : List ℕ) (at : Spot) where
-  pub acted-lists : (place : Place) (extends : Bool) → Unwound n before (at .len) (at .next + 1) after place → Acted n before at true extends after (record { len = place .len; next = place .next; trials = at .trials + 1; extensions = at .extensions; listed = at .listed + 1 })
+  pub acted-lists :
+      (place : Place) (extends : Bool) → Unwound n before (at .len) (at .next + 1) after place →
+      Acted n before at true extends after
+      (record {
+        len = place .len;
+        next = place .next;
+        trials = at .trials + 1;
+        extensions = at .extensions;
+        listed = at .listed + 1;
+      })
   unfolding act
   acted-lists place extends u = record {
     within = u .within;
-    state-is = rw (add-one (at .trials), add-one (at .listed)) (ap (λ (q : List ℕ × ℕ). placed q (suc (at .trials)) (at .extensions) (suc (at .listed))) (rw (add-one (at .next)) at (u .place-is)));
+    state-is =
+        rw (add-one (at .trials), add-one (at .listed))
+        (ap (λ (q : List ℕ × ℕ). placed q (suc (at .trials)) (at .extensions) (suc (at .listed)))
+        (rw (add-one (at .next)) at (u .place-is)));
   }
 
-  pub acted-rises : (place : Place) → Unwound n before (at .len) (at .next + 1) after place → Acted n before at false false after (record { len = place .len; next = place .next; trials = at .trials + 1; extensions = at .extensions; listed = at .listed })
+  pub acted-rises :
+      (place : Place) → Unwound n before (at .len) (at .next + 1) after place →
+      Acted n before at false false after
+      (record {
+        len = place .len;
+        next = place .next;
+        trials = at .trials + 1;
+        extensions = at .extensions;
+        listed = at .listed;
+      })
   unfolding act
   acted-rises place u = record {
     within = u .within;
-    state-is = rw (add-one (at .trials)) (ap (λ (q : List ℕ × ℕ). placed q (suc (at .trials)) (at .extensions) (at .listed)) (rw (add-one (at .next)) at (u .place-is)));
+    state-is =
+        rw (add-one (at .trials))
+        (ap (λ (q : List ℕ × ℕ). placed q (suc (at .trials)) (at .extensions) (at .listed))
+        (rw (add-one (at .next)) at (u .place-is)));
   }
 
-pub acted-extends : (n : ℕ) (before : List ℕ) (at : Spot) → HeldWithRoom before (at .len) → 1 ≤ n → Acted n before at false true (set before (at .len) (at .next)) (record { len = at .len + 1; next = 1; trials = at .trials + 1; extensions = at .extensions + 1; listed = at .listed })
+pub acted-extends :
+    (n : ℕ) (before : List ℕ) (at : Spot) → HeldWithRoom before (at .len) → 1 ≤ n →
+    Acted n before at false true (set before (at .len) (at .next))
+    (record {
+      len = at .len + 1;
+      next = 1;
+      trials = at .trials + 1;
+      extensions = at .extensions + 1;
+      listed = at .listed;
+    })
 unfolding act
 acted-extends n before at h some = record {
   within = held-push before (at .len) (at .next) h;
   state-is =
-      rw (add-one (at .trials), add-one (at .extensions), add-one (at .len), stack-push before (at .len) (at .next) (omega (arith, h .short, h .within .size)))
-      (ap (λ (q : List ℕ × ℕ). placed q (suc (at .trials)) (suc (at .extensions)) (at .listed)) (sym (unwound-stays n (at .next) (stackOf before (at .len)) 1 (λ e. omega arith))));
+      rw (
+        add-one (at .trials),
+        add-one (at .extensions),
+        add-one (at .len),
+        stack-push before (at .len) (at .next) (omega (arith, h .short, h .within .size)),
+      )
+      (ap (λ (q : List ℕ × ℕ). placed q (suc (at .trials)) (suc (at .extensions)) (at .listed))
+      (sym (unwound-stays n (at .next) (stackOf before (at .len)) 1 (λ e. omega arith))));
 }
 
 -- ---- the length tells whether the beginning has changed
@@ -116,37 +168,51 @@ unfolding unwound
 unwound-most n [] c = omega arith
 unwound-most n (a ∷ stack) c = go (eqb c (suc n)) (unwound-most n stack (suc a))
   where
-    go : (b : Bool) → length (unwound n stack (suc a) .0) ≤ length stack → length (cond b (unwound n stack (suc a)) (a ∷ stack, c) .0) ≤ suc (length stack)
+    go :
+        (b : Bool) → length (unwound n stack (suc a) .0) ≤ length stack →
+        length (cond b (unwound n stack (suc a)) (a ∷ stack, c) .0) ≤ suc (length stack)
     go true h = omega arith
     go false h = omega arith
 
-unwound-same : (n : ℕ) (stack : List ℕ) (c : ℕ) → length (unwound n stack c .0) ≡ length stack → unwound n stack c .0 ≡ stack
+unwound-same :
+    (n : ℕ) (stack : List ℕ) (c : ℕ) → length (unwound n stack c .0) ≡ length stack → unwound n stack c .0 ≡ stack
 unfolding unwound
 unwound-same n [] c e = refl
 unwound-same n (a ∷ stack) c e = go (eqb c (suc n)) e (unwound-most n stack (suc a))
   where
-    go : (b : Bool) → length (cond b (unwound n stack (suc a)) (a ∷ stack, c) .0) ≡ suc (length stack) → length (unwound n stack (suc a) .0) ≤ length stack → cond b (unwound n stack (suc a)) (a ∷ stack, c) .0 ≡ a ∷ stack
+    go :
+        (b : Bool) → length (cond b (unwound n stack (suc a)) (a ∷ stack, c) .0) ≡ suc (length stack) →
+        length (unwound n stack (suc a) .0) ≤ length stack → cond b (unwound n stack (suc a)) (a ∷ stack, c) .0 ≡
+        a ∷ stack
     go true q m = absurd (omega arith)
     go false q m = refl
 
-pub act-same : (n : ℕ) (member extends : Bool) (st : State) → 1 ≤ n → length (act n member extends st .stack) ≡ length (st .stack) → act n member extends st .stack ≡ st .stack
+pub act-same :
+    (n : ℕ) (member extends : Bool) (st : State) → 1 ≤ n →
+    length (act n member extends st .stack) ≡ length (st .stack) → act n member extends st .stack ≡ st .stack
 unfolding act
 act-same n true extends st some e = unwound-same n (st .stack) (suc (st .next)) e
 act-same n false true st some e =
-    let longer : length (unwound n (st .next ∷ st .stack) 1 .0) ≡ suc (length (st .stack)) = ap (λ (q : List ℕ × ℕ). length (q .0)) (unwound-stays n (st .next) (st .stack) 1 (λ f. omega arith)) in
+    let longer : length (unwound n (st .next ∷ st .stack) 1 .0) ≡ suc (length (st .stack)) =
+    ap (λ (q : List ℕ × ℕ). length (q .0)) (unwound-stays n (st .next) (st .stack) 1 (λ f. omega arith)) in
     absurd (omega arith)
 act-same n false false st some e = unwound-same n (st .stack) (suc (st .next)) e
 
 -- ---- the search at a place
 
-pub search-held : (kind s t : ℕ) (prefix : List ℕ) (at : Spot) → HeldWithRoom prefix (at .len) → searchHeld kind s t prefix at ≡ searchAt kind s t (stateAt prefix at)
+pub search-held :
+    (kind s t : ℕ) (prefix : List ℕ) (at : Spot) → HeldWithRoom prefix (at .len) →
+    searchHeld kind s t prefix at ≡ searchAt kind s t (stateAt prefix at)
 unfolding searchAt beginning
 search-held kind s t prefix at h =
     let size : length (stackOf prefix (at .len)) ≡ at .len = stack-length prefix (at .len) (h .within) in
-    let array : held (reverse (stackOf prefix (at .len))) ≡ prefix = ap held (stack-back prefix (at .len)) ∙ held-beginning (searchHeld kind s t prefix at) (h .within .size) (h .short) (h .within .zeros) in
+    let array : held (reverse (stackOf prefix (at .len))) ≡ prefix = ap held (stack-back prefix (at .len)) ∙
+    held-beginning (searchHeld kind s t prefix at) (h .within .size) (h .short) (h .within .zeros) in
     rw (size, array)
 
 -- the word of the next trial
 pub tried-word : (prefix : List ℕ) (at : Spot) → tried (stateAt prefix at) ≡ take (at .len) prefix ++ at .next ∷ []
 unfolding tried
-tried-word prefix at = reverse-cons (at .next) (stackOf prefix (at .len)) ∙ ap (λ (w : List ℕ). w ++ at .next ∷ []) (stack-back prefix (at .len))
+tried-word prefix at =
+    reverse-cons (at .next) (stackOf prefix (at .len)) ∙
+    ap (λ (w : List ℕ). w ++ at .next ∷ []) (stack-back prefix (at .len))

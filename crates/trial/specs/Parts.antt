@@ -1,4 +1,5 @@
--- What a trial and its record promise: the place of a search in its array, unwinding, a trial, trials that only raise the next atom.
+-- What a trial and its record promise: the place of a search in its
+-- array, unwinding, a trial, trials that only raise the next atom.
 -- Nothing to believe: they serve the proof of the run.
 use Prim.Native.Nat.{ℕ, _+_, _≤_, _<_}
 use mathlib.Core.Path.{_≡_}
@@ -20,7 +21,14 @@ stackOf prefix len = reverse (take len prefix)
 
 -- the state of a search at a place
 abbrev pub stateAt : List ℕ → Spot → State
-stateAt prefix at = record { stack = stackOf prefix (at .len); next = at .next; trials = at .trials; extensions = at .extensions; listed = at .listed }
+stateAt prefix at =
+    record {
+      stack = stackOf prefix (at .len);
+      next = at .next;
+      trials = at .trials;
+      extensions = at .extensions;
+      listed = at .listed;
+    }
 
 -- the place and the counts of a search
 abbrev pub spotOf : Search → Spot
@@ -29,7 +37,17 @@ spotOf q = record { len = q .len; next = q .next; trials = q .trials; extensions
 -- the search at a place
 abbrev pub searchHeld : ℕ → ℕ → ℕ → List ℕ → Spot → Search
 searchHeld kind s t prefix at =
-    record { kind = kind; s = s; t = t; len = at .len; prefix = prefix; next = at .next; trials = at .trials; extensions = at .extensions; listed = at .listed }
+    record {
+      kind = kind;
+      s = s;
+      t = t;
+      len = at .len;
+      prefix = prefix;
+      next = at .next;
+      trials = at .trials;
+      extensions = at .extensions;
+      listed = at .listed;
+    }
 
 -- a beginning of `len` atoms in its array: the places past them hold 0
 pub record Held (prefix : List ℕ) (len : ℕ) : Type 0 where
@@ -57,7 +75,8 @@ pub record Unwound (n : ℕ) (before : List ℕ) (from c : ℕ) (after : List �
   pub place-is : (stackOf after (place .len), place .next) ≡ unwound n (stackOf before from) c
 
 -- a trial
-pub record Acted (n : ℕ) (before : List ℕ) (at : Spot) (member extends : Bool) (after : List ℕ) (r : Spot) : Type 0 where
+pub record Acted (n : ℕ) (before : List ℕ) (at : Spot) (member extends : Bool) (after : List ℕ) (r : Spot) :
+    Type 0 where
   pub within : Held after (r .len)
   pub state-is : stateAt after r ≡ act n member extends (stateAt before at)
 
@@ -83,7 +102,13 @@ pub record Idle (found : Plan) (stale : Bool) (at : Spot) (n left k : ℕ) : Typ
 
 -- the place after k such trials
 abbrev pub skip : ℕ → Spot → Spot
-skip k at = record { len = at .len; next = at .next + k; trials = at .trials + k; extensions = at .extensions; listed = at .listed }
+skip k at = record {
+  len = at .len;
+  next = at .next + k;
+  trials = at .trials + k;
+  extensions = at .extensions;
+  listed = at .listed;
+}
 
 -- no new plan: the beginning is as long as it was, and has two atoms or more
 pub record Stale (before after : ℕ) (stale : Bool) : Type 0 where
