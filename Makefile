@@ -1,5 +1,5 @@
 # make example: builds ringlist and lists the rings of cubane.
-# make test: the layout, the layers, the edits, the C and Rust tests, and last the verdict of the prover over every crate.
+# make test: the layout, the layers, the style, docs/SPEC.md, the edits, the C and Rust tests, and last the verdict of the prover over every crate.
 # make bench: ring listings through the host entry against listers in Rust; then reading a full bond sheet.
 
 .PHONY: example test tests bench
@@ -18,6 +18,9 @@ tests:
 	rt fmt --check
 	python3 tests/layout.py
 	python3 tests/layout_test.py
+	python3 tests/style.py
+	python3 tests/spec.py
+	python3 tests/spec_test.py
 	python3 tests/edits.py
 	rt check ringlist judge marks history
 	rt staticlib flat

@@ -103,7 +103,8 @@ extern "C" {
    that outlive a call; the stack is measured on one call
    (tests/c/host_test.c). That the prototypes in this header are those of the
    code is tested (tests/prototypes.py). The proofs of these functions assume
-   nothing of the C library. */
+   nothing of the C library; only those of the program ringlist do, of its read
+   and write. */
 uint32_t ringlist_resume(const uint8_t *sheet, size_t sheet_len,
                          const uint8_t *mark, size_t mark_len,
                          uint64_t budget,
