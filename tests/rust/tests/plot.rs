@@ -55,7 +55,7 @@ fn picture(molecules: usize, listers: usize, lengths: usize, most: f64) -> Pictu
 }
 
 fn check_labels(drawing: &Drawing, what: &str) {
-    let labels = &drawing.labels;
+    let (labels, page) = (&drawing.labels, drawing.page());
     for (number, label) in labels.iter().enumerate() {
         for other in &labels[..number] {
             let apart = !label.area.meets(&other.area);
@@ -65,7 +65,7 @@ fn check_labels(drawing: &Drawing, what: &str) {
             let apart = !label.area.meets(shape);
             assert!(apart, "{what}: {label:?} overlaps a shape, {shape:?}");
         }
-        let (page, area) = (drawing.page(), label.area);
+        let area = label.area;
         let within = area.left >= page.left
             && area.top >= page.top
             && area.right <= page.right
@@ -76,9 +76,9 @@ fn check_labels(drawing: &Drawing, what: &str) {
 
 #[test]
 fn labels_are_apart_from_each_other_and_from_what_is_drawn() {
-    for molecules in [1, 2, 14, 24, 45] {
-        for listers in [1, 2, 3, 7] {
-            for lengths in [1, 2, 5, 12] {
+    for molecules in [1, 14, 40] {
+        for listers in [1, 3, 7] {
+            for lengths in [1, 5, 12] {
                 for most in [1.01, 4.0, 300.0] {
                     let what = format!("{molecules}, {listers}, {lengths}, {most}");
                     check_labels(&picture(molecules, listers, lengths, most).draw(), &what);

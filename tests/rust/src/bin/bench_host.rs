@@ -30,7 +30,7 @@ const SAMPLE: f64 = 0.002;
 const LENGTHS: [u64; 5] = [100, 1_000, 10_000, 100_000, 1_000_000];
 /// Listings of more calls than this are not timed.
 const MOST_CALLS: u64 = 20_000;
-/// The ratio to `lister` that is aimed for.
+/// The ratio to the first lister that is aimed for.
 const AIM: f64 = 1.2;
 const DONE: u32 = 101;
 const MARK: usize = 599;
@@ -42,7 +42,7 @@ struct Lister {
     run: fn(&Record, &mut [u8]),
 }
 
-/// The first is the one that is aimed for.
+/// The listers, each with a column and a bar of its own.
 const LISTERS: &[Lister] = &[
     Lister {
         name: "lister",
