@@ -9,6 +9,7 @@ pub mod generate;
 pub mod guard;
 pub mod host;
 pub mod model;
+pub mod plot;
 pub mod rng;
 pub mod spoil;
 pub mod stepper;

@@ -1,21 +1,23 @@
-//! Times whole ring listings through the host entry beside two listers in plain
+//! Times whole ring listings through the host entry beside listers in plain
 //! Rust, and the entry beside itself in runs of several lengths. It reports and
 //! never fails on time: a table on standard output and in
 //! target/bench/table.md, a plot in target/bench/plot.svg.
 //!
-//! All three take a bond sheet and give the joined records. `lister` is the
+//! All take a bond sheet and give the joined records. `lister` is the
 //! Rust lister of the same method (sets as two words, one sweep for each open
 //! beginning), which takes only the atoms that list or open; `stepper` goes
 //! trial by trial as document 01 counts them. They take turns, and of each the
 //! best time counts.
 
-use std::fmt::Write;
 use std::path::PathBuf;
 use std::time::Instant;
 
 use flat_tests::model::list::Task;
 use flat_tests::model::machine::Stop;
-use flat_tests::model::{lister, sheet};
+use flat_tests::model::{lister, sheet, Record};
+use flat_tests::plot::bars::{BarPanel, Series};
+use flat_tests::plot::lines::{Line, LinePanel};
+use flat_tests::plot::Picture;
 use flat_tests::rng::Rng;
 use flat_tests::{black_box, examples, generate, host, stepper};
 
@@ -28,10 +30,35 @@ const SAMPLE: f64 = 0.002;
 const LENGTHS: [u64; 5] = [100, 1_000, 10_000, 100_000, 1_000_000];
 /// Listings of more calls than this are not timed.
 const MOST_CALLS: u64 = 20_000;
-/// The ratio to `lister` that is aimed for.
+/// The ratio to the first lister that is aimed for.
 const AIM: f64 = 1.2;
 const DONE: u32 = 101;
 const MARK: usize = 599;
+
+/// A lister in plain Rust that the entry is compared with.
+struct Lister {
+    name: &'static str,
+    about: &'static str,
+    run: fn(&Record, &mut [u8]),
+}
+
+/// The listers, each with a column and a bar of its own.
+const LISTERS: &[Lister] = &[
+    Lister {
+        name: "lister",
+        about: "takes only the atoms that list or open",
+        run: |record, _| {
+            black_box(lister::list(record, Task::Rings));
+        },
+    },
+    Lister {
+        name: "stepper",
+        about: "goes trial by trial",
+        run: |record, out| {
+            black_box(stepper::run(record, u64::MAX, out));
+        },
+    },
+];
 
 struct Molecule {
     name: String,
@@ -46,8 +73,8 @@ struct Row {
     rings: u64,
     trials: u64,
     entry: f64,
-    lister: f64,
-    stepper: f64,
+    /// Of each of the listers.
+    listers: Vec<f64>,
     /// A call with budget 0 from a mark halfway.
     resume: f64,
     /// The whole listing in runs of each length; none where they are too many.
@@ -55,12 +82,20 @@ struct Row {
 }
 
 impl Row {
-    fn ratio(&self) -> f64 {
-        self.entry / self.lister
+    /// The entry's time over that of a lister.
+    fn ratio(&self, lister: usize) -> f64 {
+        self.entry / self.listers[lister]
     }
 
-    fn stepped_ratio(&self) -> f64 {
-        self.entry / self.stepper
+    /// The time in runs of each length over that in one run.
+    fn line(&self) -> Line {
+        let timed = LENGTHS.iter().zip(self.runs);
+        Line {
+            name: self.name.clone(),
+            points: timed
+                .filter_map(|(&length, run)| Some((length as f64, run? / self.entry)))
+                .collect(),
+        }
     }
 }
 
@@ -128,68 +163,93 @@ fn list(sheet: &[u8], budget: u64, out: &mut [u8]) -> u64 {
     }
 }
 
-/// The timed calls of one molecule.
-fn measure(molecule: &Molecule) -> Row {
+/// A molecule, the room for its records, and a mark halfway.
+struct Case<'a> {
+    sheet: &'a [u8],
+    out: Vec<u8>,
+    halfway: Vec<u8>,
+}
+
+/// The case of a molecule, of which all listers give the same records, and its
+/// row without times.
+fn checked(molecule: &Molecule) -> (Case<'_>, Row) {
     let sheet = &molecule.sheet;
     let record = sheet::read(sheet).expect("a sheet");
     let expected = lister::list(&record, Task::Rings);
     let trials = record.atoms * (expected.extensions + 1);
     let mut out = vec![0; expected.sheet.len()];
-    let mut next = [0; MARK];
-
-    // All give the same records.
     let stepped = stepper::run(&record, u64::MAX, &mut out);
     assert_eq!((stepped.stop, stepped.trials), (Stop::Done, trials));
     assert!(out == expected.sheet, "the stepper's records");
     out.fill(0);
     list(sheet, u64::MAX, &mut out);
     assert!(out == expected.sheet, "the entry's records");
-    host::resume(sheet, &[], trials / 2, &mut out, &mut next);
-    let halfway = next[..host::mark_length(&next)].to_vec();
-
-    let mut row = Row {
+    let mut mark = [0; MARK];
+    host::resume(sheet, &[], trials / 2, &mut out, &mut mark);
+    let halfway = mark[..host::mark_length(&mark)].to_vec();
+    let row = Row {
         name: molecule.name.clone(),
         atoms: record.atoms,
         bonds: record.bonds,
         rings: expected.listed,
         trials,
         entry: f64::MAX,
-        lister: f64::MAX,
-        stepper: f64::MAX,
+        listers: vec![f64::MAX; LISTERS.len()],
         resume: f64::MAX,
         runs: [None; LENGTHS.len()],
     };
+    (
+        Case {
+            sheet,
+            out,
+            halfway,
+        },
+        row,
+    )
+}
+
+/// One round of the timed calls, each as the mean of so many.
+fn round(case: &mut Case, row: &mut Row, times: u32) {
+    let Case {
+        sheet,
+        out,
+        halfway,
+    } = case;
+    let mut next = [0; MARK];
+    row.entry = row.entry.min(time(times, || {
+        let stop = host::resume(black_box(sheet), &[], u64::MAX, out, &mut next);
+        assert_eq!(stop, DONE);
+    }));
+    for (lister, best) in LISTERS.iter().zip(&mut row.listers) {
+        *best = best.min(time(times, || {
+            let record = sheet::read(black_box(sheet)).expect("a sheet");
+            (lister.run)(&record, out);
+        }));
+    }
+    row.resume = row.resume.min(time(100, || {
+        host::resume(sheet, black_box(halfway), 0, out, &mut next);
+    }));
+    for (length, best) in LENGTHS.iter().zip(&mut row.runs) {
+        if *length < row.trials && row.trials / length <= MOST_CALLS {
+            let seconds = time((times + 3) / 4, || {
+                list(sheet, *length, out);
+            });
+            *best = Some(best.unwrap_or(f64::MAX).min(seconds));
+        }
+    }
+}
+
+/// The timed calls of one molecule.
+fn measure(molecule: &Molecule) -> Row {
+    let (mut case, mut row) = checked(molecule);
     let once = time(1, || {
-        list(sheet, u64::MAX, &mut out);
+        list(case.sheet, u64::MAX, &mut case.out);
     });
     let times = (SAMPLE / once).clamp(1.0, 1_000.0) as u32;
     let begin = Instant::now();
-    for _ in 0..ROUNDS {
-        if begin.elapsed().as_secs_f64() > SECONDS && row.entry < f64::MAX {
-            break;
-        }
-        row.entry = row.entry.min(time(times, || {
-            let stop = host::resume(black_box(sheet), &[], u64::MAX, &mut out, &mut next);
-            assert_eq!(stop, DONE);
-        }));
-        row.lister = row.lister.min(time(times, || {
-            let record = sheet::read(black_box(sheet)).expect("a sheet");
-            black_box(lister::list(&record, Task::Rings));
-        }));
-        row.stepper = row.stepper.min(time(times, || {
-            let record = sheet::read(black_box(sheet)).expect("a sheet");
-            black_box(stepper::run(&record, u64::MAX, &mut out));
-        }));
-        row.resume = row.resume.min(time(100, || {
-            host::resume(sheet, black_box(&halfway), 0, &mut out, &mut next);
-        }));
-        for (length, best) in LENGTHS.iter().zip(&mut row.runs) {
-            if *length < trials && trials / length <= MOST_CALLS {
-                let seconds = time((times + 3) / 4, || {
-                    list(sheet, *length, &mut out);
-                });
-                *best = Some(best.unwrap_or(f64::MAX).min(seconds));
-            }
+    for number in 0..ROUNDS {
+        if number == 0 || begin.elapsed().as_secs_f64() <= SECONDS {
+            round(&mut case, &mut row, times);
         }
     }
     row
@@ -214,250 +274,160 @@ fn geometric_mean(values: impl Iterator<Item = f64>) -> f64 {
     (logs.iter().sum::<f64>() / logs.len() as f64).exp()
 }
 
-fn table(rows: &[Row]) -> String {
-    let mut text = String::from(
+/// A line of a table.
+fn table_line(cells: &[String]) -> String {
+    format!("| {} |\n", cells.join(" | "))
+}
+
+/// The line below a table's heads: names to the left, numbers to the right.
+fn table_rule(columns: usize) -> String {
+    format!("|---|{}\n", "--:|".repeat(columns - 1))
+}
+
+fn head() -> String {
+    let listers: Vec<String> = LISTERS
+        .iter()
+        .map(|lister| format!("`{}` {}", lister.name, lister.about))
+        .collect();
+    format!(
         "# Ring listings through the host entry\n\n\
          Each time is for the whole listing, from the bond sheet to the joined records; best of several, in turns.\n\
-         `lister` takes only the atoms that list or open, `stepper` goes trial by trial; both are plain Rust, not proved.\n\
-         `resume` is a call with budget 0 from a mark halfway: what a slice costs besides its trials.\n\n\
-         | molecule | atoms | bonds | rings | trials | entry | lister | entry / lister | stepper | entry / stepper | M rings/s | M trials/s | resume |\n\
-         |---|--:|--:|--:|--:|--:|--:|--:|--:|--:|--:|--:|--:|\n",
-    );
-    for row in rows {
-        writeln!(
-            text,
-            "| {} | {} | {} | {} | {} | {} | {} | {:.2} | {} | {:.2} | {} | {} | {} |",
-            row.name,
-            row.atoms,
-            row.bonds,
-            row.rings,
-            row.trials,
-            shown(row.entry),
-            shown(row.lister),
-            row.ratio(),
-            shown(row.stepper),
-            row.stepped_ratio(),
-            millions(row.rings as f64 / row.entry),
-            millions(row.trials as f64 / row.entry),
-            shown(row.resume),
-        )
-        .expect("a string takes any text");
-    }
-    let sum = |part: fn(&Row) -> f64| rows.iter().map(part).sum::<f64>();
-    let entry = sum(|row| row.entry);
-    writeln!(
-        text,
-        "\nOver the set: entry / lister {:.2} (mean of the ratios, geometric), {:.2} (all times added); \
-         entry / stepper {:.2} and {:.2}; {} million trials a second.",
-        geometric_mean(rows.iter().map(Row::ratio)),
-        entry / sum(|row| row.lister),
-        geometric_mean(rows.iter().map(Row::stepped_ratio)),
-        entry / sum(|row| row.stepper),
-        millions(sum(|row| row.trials as f64) / entry),
+         {}; all are plain Rust, not proved.\n\
+         `resume` is a call with budget 0 from a mark halfway: what a slice costs besides its trials.\n\n",
+        listers.join(", ")
     )
-    .expect("a string takes any text");
+}
 
-    let above: Vec<_> = rows
-        .iter()
-        .filter(|row| row.ratio() > AIM)
-        .map(|row| row.name.as_str())
-        .collect();
-    if !above.is_empty() {
-        writeln!(
-            text,
-            "\nAbove {AIM} of `lister`: {}. The entry keeps a search that can stop before any trial: it counts trials, tests the \
-             four stops at each atom that lists or opens, walks the present beginning's atoms for its sets, and makes the sets \
-             anew when it comes back to a beginning, where `lister` has them on its stack. A small molecule also pays the fixed \
-             cost of a call, most of `resume`.",
-            above.join("; "),
-        )
-        .expect("a string takes any text");
+/// The times of each molecule, and the ratios.
+fn ratio_table(rows: &[Row]) -> String {
+    let mut heads: Vec<String> = ["molecule", "atoms", "bonds", "rings", "trials", "entry"]
+        .map(String::from)
+        .to_vec();
+    for lister in LISTERS {
+        heads.extend([lister.name.to_string(), format!("entry / {}", lister.name)]);
     }
-
-    text.push_str(
-        "\n## The entry in runs of several lengths, against itself in one run\n\n| molecule |",
-    );
-    for length in LENGTHS {
-        write!(text, " {length} trials |").expect("a string takes any text");
-    }
-    text.push_str("\n|---|--:|--:|--:|--:|--:|\n");
-    for row in rows
-        .iter()
-        .filter(|row| row.runs.iter().any(Option::is_some))
-    {
-        write!(text, "| {} |", row.name).expect("a string takes any text");
-        for run in row.runs {
-            match run {
-                Some(seconds) => write!(text, " {:.2} |", seconds / row.entry),
-                None => write!(text, " |"),
-            }
-            .expect("a string takes any text");
+    heads.extend(["M rings/s", "M trials/s", "resume"].map(String::from));
+    let mut text = table_line(&heads) + &table_rule(heads.len());
+    for row in rows {
+        let mut cells = vec![row.name.clone()];
+        cells.extend([row.atoms, row.bonds, row.rings, row.trials].map(|count| count.to_string()));
+        cells.push(shown(row.entry));
+        for (number, &seconds) in row.listers.iter().enumerate() {
+            cells.extend([shown(seconds), format!("{:.2}", row.ratio(number))]);
         }
-        text.push('\n');
+        cells.push(millions(row.rings as f64 / row.entry));
+        cells.push(millions(row.trials as f64 / row.entry));
+        cells.push(shown(row.resume));
+        text += &table_line(&cells);
     }
     text
 }
 
-/// A text of the plot.
-fn label(svg: &mut String, x: f64, y: f64, anchor: &str, text: &str) {
-    writeln!(
-        svg,
-        r#"<text x="{x:.1}" y="{y:.1}" text-anchor="{anchor}">{text}</text>"#
-    )
-    .expect("a string takes any text");
-}
-
-fn line(svg: &mut String, (x1, y1): (f64, f64), (x2, y2): (f64, f64), color: &str) {
-    writeln!(
-        svg,
-        r#"<line x1="{x1:.1}" y1="{y1:.1}" x2="{x2:.1}" y2="{y2:.1}" stroke="{color}"/>"#
-    )
-    .expect("a string takes any text");
-}
-
-const COLORS: [&str; 8] = [
-    "#1f77b4", "#d62728", "#2ca02c", "#9467bd", "#ff7f0e", "#17becf", "#8c564b", "#7f7f7f",
-];
-const LEFT: f64 = 170.0;
-const WIDTH: f64 = 520.0;
-
-/// Bars of both ratios for each molecule, from 0 to the highest.
-fn ratio_panel(svg: &mut String, rows: &[Row], top: f64) -> f64 {
-    let ratios = rows
-        .iter()
-        .flat_map(|row| [row.ratio(), row.stepped_ratio()]);
-    let highest = ratios.fold(2.0f64, f64::max).ceil();
-    let at = |ratio: f64| LEFT + WIDTH * ratio / highest;
-    let bottom = top + 24.0 + 22.0 * rows.len() as f64;
-    label(
-        svg,
-        10.0,
-        top,
-        "start",
-        "Time of the host entry, as a multiple of a Rust lister's",
-    );
-    for (number, row) in rows.iter().enumerate() {
-        let y = top + 16.0 + 22.0 * number as f64;
-        label(svg, LEFT - 6.0, y + 12.0, "end", &row.name);
-        for (which, ratio) in [row.ratio(), row.stepped_ratio()].into_iter().enumerate() {
-            let (y, width) = (y + 8.0 * which as f64, at(ratio) - LEFT);
-            let color = COLORS[which];
-            writeln!(
-                svg,
-                r#"<rect x="{LEFT}" y="{y:.1}" width="{width:.1}" height="7" fill="{color}"/>"#
-            )
-            .expect("a string takes any text");
-            label(
-                svg,
-                at(ratio) + 4.0,
-                y + 7.0,
-                "start",
-                &format!("{ratio:.2}"),
-            );
-        }
-    }
-    for (mark, color, below) in [(1.0, "black", 12.0), (1.2, "#999999", 24.0)] {
-        line(svg, (at(mark), top + 10.0), (at(mark), bottom), color);
-        label(svg, at(mark), bottom + below, "middle", &format!("{mark}"));
-    }
-    label(
-        svg,
-        LEFT + 120.0,
-        bottom + 14.0,
-        "start",
-        "upper bar: lister; lower bar: stepper, trial by trial",
-    );
-    bottom + 50.0
-}
-
-/// The time in runs of each length over that in one run; both axes by powers.
-fn length_panel(svg: &mut String, rows: &[Row], top: f64) -> f64 {
-    let height = 220.0;
-    let bottom = top + 20.0 + height;
-    let runs = |row: &Row| -> Vec<(f64, f64)> {
-        let timed = LENGTHS.iter().zip(row.runs);
-        timed
-            .filter_map(|(&length, run)| Some((length as f64, run? / row.entry)))
-            .collect()
-    };
-    let highest = rows
-        .iter()
-        .flat_map(&runs)
-        .fold(2.0f64, |highest, (_, ratio)| highest.max(ratio));
-    let x = |length: f64| LEFT + WIDTH * (length.log10() - 2.0) / 4.0;
-    let y = |ratio: f64| bottom - height * ratio.max(1.0).log10() / highest.log10();
-    label(
-        svg,
-        10.0,
-        top,
-        "start",
-        "Time in runs of a length, as a multiple of one run",
-    );
-    for length in LENGTHS {
-        let length = length as f64;
-        line(svg, (x(length), bottom), (x(length), bottom + 4.0), "black");
-        label(
-            svg,
-            x(length),
-            bottom + 16.0,
-            "middle",
-            &format!("{length} trials"),
-        );
-    }
-    for ratio in [1.0, 1.1, 1.5, 2.0, 5.0, 10.0, 20.0, 50.0, 100.0] {
-        if ratio <= highest {
-            line(svg, (LEFT, y(ratio)), (LEFT + WIDTH, y(ratio)), "#dddddd");
-            label(svg, LEFT - 6.0, y(ratio) + 4.0, "end", &format!("{ratio}"));
-        }
-    }
-    let timed = rows.iter().filter(|row| runs(row).len() >= 2);
-    for (number, row) in timed.enumerate() {
-        let color = COLORS[number % COLORS.len()];
-        let points: Vec<String> = runs(row)
-            .iter()
-            .map(|&(length, ratio)| format!("{:.1},{:.1}", x(length), y(ratio)))
-            .collect();
-        let points = points.join(" ");
-        writeln!(
-            svg,
-            r#"<polyline points="{points}" fill="none" stroke="{color}" stroke-width="2"/>"#
-        )
-        .expect("a string takes any text");
-        let at = top + 30.0 + 14.0 * number as f64;
-        line(
-            svg,
-            (LEFT + WIDTH - 130.0, at - 4.0),
-            (LEFT + WIDTH - 110.0, at - 4.0),
-            color,
-        );
-        label(svg, LEFT + WIDTH - 104.0, at, "start", &row.name);
-    }
-    bottom + 30.0
-}
-
-fn plot(rows: &[Row]) -> String {
-    let mut panels = String::new();
-    let middle = ratio_panel(&mut panels, rows, 24.0);
-    let bottom = length_panel(&mut panels, rows, middle);
+/// The ratios over the whole set.
+fn summary(rows: &[Row]) -> String {
+    let entry: f64 = rows.iter().map(|row| row.entry).sum();
+    let trials: f64 = rows.iter().map(|row| row.trials as f64).sum();
+    let ratios = LISTERS.iter().enumerate().map(|(number, lister)| {
+        let mean = geometric_mean(rows.iter().map(|row| row.ratio(number)));
+        let added = entry / rows.iter().map(|row| row.listers[number]).sum::<f64>();
+        format!("entry / {} {mean:.2} and {added:.2}", lister.name)
+    });
     format!(
-        "<svg xmlns=\"http://www.w3.org/2000/svg\" width=\"760\" height=\"{bottom:.0}\" \
-         font-family=\"sans-serif\" font-size=\"11\">\n\
-         <rect width=\"100%\" height=\"100%\" fill=\"white\"/>\n{panels}</svg>\n"
+        "\nOver the set, as the geometric mean of the ratios and with all times added: {}; \
+         {} million trials a second.\n",
+        ratios.collect::<Vec<_>>().join(", "),
+        millions(trials / entry),
     )
+}
+
+/// The molecules whose ratio is above the aim, and why.
+fn above_aim(rows: &[Row]) -> String {
+    let above: Vec<_> = rows
+        .iter()
+        .filter(|row| row.ratio(0) > AIM)
+        .map(|row| row.name.as_str())
+        .collect();
+    if above.is_empty() {
+        return String::new();
+    }
+    format!(
+        "\nAbove {AIM} of `{}`: {}. The entry keeps a search that can stop before any trial: it counts trials, tests the \
+         four stops at each atom that lists or opens, walks the present beginning's atoms for its sets, and makes the sets \
+         anew when it comes back to a beginning, where `lister` has them on its stack. A small molecule also pays the fixed \
+         cost of a call, most of `resume`.\n",
+        LISTERS[0].name,
+        above.join("; "),
+    )
+}
+
+/// The time in runs of each length over that in one run.
+fn length_table(rows: &[Row]) -> String {
+    let mut text =
+        String::from("\n## The entry in runs of several lengths, against itself in one run\n\n");
+    let mut heads = vec!["molecule".to_string()];
+    heads.extend(LENGTHS.map(|length| format!("{length} trials")));
+    text += &(table_line(&heads) + &table_rule(heads.len()));
+    for row in rows {
+        let ratio = |seconds: f64| format!("{:.2}", seconds / row.entry);
+        if row.runs.iter().any(Option::is_some) {
+            let mut cells = vec![row.name.clone()];
+            cells.extend(row.runs.map(|run| run.map_or(String::new(), ratio)));
+            text += &table_line(&cells);
+        }
+    }
+    text
+}
+
+/// The picture of both tables.
+fn picture(rows: &[Row]) -> Picture {
+    let series = LISTERS.iter().enumerate().map(|(number, lister)| Series {
+        about: format!("against {}, which {}", lister.name, lister.about),
+        values: rows.iter().map(|row| row.ratio(number)).collect(),
+    });
+    let mut lines: Vec<Line> = rows.iter().map(Row::line).collect();
+    lines.retain(|line| !line.points.is_empty());
+    lines.sort_by_key(|line| line.points.len() < 2);
+    Picture {
+        bars: BarPanel {
+            title: "A whole listing in one run: time of the host entry / time of a Rust lister"
+                .to_string(),
+            axis: "ratio of times (no unit; below 1 the host entry is faster)".to_string(),
+            names: rows.iter().map(|row| row.name.clone()).collect(),
+            series: series.collect(),
+            marks: vec![
+                (1.0, "1: equally fast".to_string()),
+                (AIM, format!("{AIM}: the aim against {}", LISTERS[0].name)),
+            ],
+        },
+        lines: LinePanel {
+            title: "A whole listing cut into runs: time of the host entry / its time in one run"
+                .to_string(),
+            x_axis: "length of each run (trials)".to_string(),
+            y_axis: "ratio of times (no unit)".to_string(),
+            lines,
+        },
+        notes: vec![
+            "random, n / m: n atoms and m bonds at random. all bonded, n: n atoms, each bonded to each other."
+                .to_string(),
+            "Each time is the best of several, all from one run of the benchmark.".to_string(),
+        ],
+    }
 }
 
 fn main() {
     let mut rows = Vec::new();
     for molecule in molecules() {
         let row = measure(&molecule);
-        eprintln!("{:21} entry / lister {:6.2}", row.name, row.ratio());
+        let name = LISTERS[0].name;
+        eprintln!("{:21} entry / {name} {:6.2}", row.name, row.ratio(0));
         rows.push(row);
     }
     let folder = PathBuf::from(concat!(env!("CARGO_MANIFEST_DIR"), "/../../target/bench"));
     std::fs::create_dir_all(&folder).expect("a folder for the results");
-    let table = table(&rows);
+    let table =
+        head() + &ratio_table(&rows) + &summary(&rows) + &above_aim(&rows) + &length_table(&rows);
     std::fs::write(folder.join("table.md"), &table).expect("a table");
-    std::fs::write(folder.join("plot.svg"), plot(&rows)).expect("a plot");
+    std::fs::write(folder.join("plot.svg"), picture(&rows).draw().svg()).expect("a plot");
     print!("{table}");
     println!("\nwritten: target/bench/table.md, target/bench/plot.svg");
 }
