@@ -210,7 +210,7 @@ module _ (n : ℕ) (few : n ≤ 128) (rows : List ℕ) (bytes : Rows rows) (soun
       (λ q h. let j = joined q h in rw (ne-eqb (bondAt bonds q .0) (bondAt bonds q .1) (λ e. omega arith)))
 
   table : Table (bondAt bonds) (length bonds) (rowsOf (bondAt bonds) (length bonds))
-  table = tables n (bondAt bonds) (length bonds) (kept-of n (bondAt bonds) (length bonds) few bonds-atoms bonds-apart)
+  table = tables (length bonds) (kept-of few bonds-atoms bonds-apart)
 
   -- a bit above the diagonal is a bond
   upper :
