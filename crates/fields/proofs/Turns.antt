@@ -52,8 +52,8 @@ module _ (s : List ℕ) (i : ℕ) where
   module _ (inside : i < length s) where
     digits-turn :
         (v : ℕ) →
-        digits v (drop i s)
-        ≡ cond (isDigit byte && ltb 0 v && leb (v * 10 + worth) limit) (digits (v * 10 + worth) rest) Bad
+        let more = v * 10 + worth in
+        digits v (drop i s) ≡ cond (isDigit byte && ltb 0 v && leb more limit) (digits more rest) Bad
     unfolding digits
     digits-turn v = rw (drop-cons s i 0 inside, add-one)
 
@@ -85,7 +85,8 @@ module _ (s : List ℕ) (i : ℕ) where
 module _ {s : List ℕ} {i : ℕ} (digit : DigitAt s i) where
   digit-turn :
       (v : ℕ) →
-      digits v (drop i s) ≡ cond (ltb 0 v && leb (v * 10 + worth s i) limit) (digits (v * 10 + worth s i) (rest s i)) Bad
+      let more = v * 10 + worth s i in
+      digits v (drop i s) ≡ cond (ltb 0 v && leb more limit) (digits more (rest s i)) Bad
   digit-turn v =
       digits-turn s i (digit .inside) v ∙ simp (le-leb 48 (byte s i) (digit .low), le-leb (byte s i) 57 (digit .high))
 

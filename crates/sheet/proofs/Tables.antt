@@ -133,7 +133,8 @@ before-suc x i h =
     let back : x ≡ suc (x - 1) = omega arith in
     sym (ap (λ y. eqb y (suc i)) back ∙ eqb·suc-suc (x - 1) i)
 
-module _ {n : ℕ} {bond : ℕ → Bond} {k : ℕ} (kept : Kept n bond (suc k)) {rows : List ℕ} (table : Table bond k rows) where
+module _ {n : ℕ} {bond : ℕ → Bond} {k : ℕ} {rows : List ℕ} (kept : Kept n bond (suc k))
+    (table : Table bond k rows) where
   low-left : 1 ≤ bond k .0
   low-left = kept .left k (omega arith) .0
 
@@ -224,7 +225,8 @@ module _ {n : ℕ} {bond : ℕ → Bond} {k : ℕ} (kept : Kept n bond (suc k)) 
               clash (samePair (bond q) (bond k)) same (not-true (samePair (bond q) (bond k)) other)
 
       back : not here ≡ true → isNew bond k ≡ true
-      back clear = allBelow-of k (λ j. not (samePair (bond j) (bond k))) (λ j h. not-of (samePair (bond j) (bond k)) (other j h))
+      back clear =
+          allBelow-of k (λ j. not (samePair (bond j) (bond k))) (λ j h. not-of (samePair (bond j) (bond k)) (other j h))
         where
           other : (j : ℕ) → j < k → samePair (bond j) (bond k) ≡ false
           other j h = false-of (samePair (bond j) (bond k)) (λ same. clash here (set same) (not-true here clear))
