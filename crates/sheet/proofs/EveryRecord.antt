@@ -252,7 +252,10 @@ module _ {n : ℕ} {rows : List ℕ} {bonds : List Bond} (few : n ≤ 128) (byte
       sound (at .place / 128) (at .place % 128) (omega (arith, at .below)) (omega arith) (upper .1)
 
   -- bond q joins two different atoms
-  joined : (q : ℕ) → q < count → (1 ≤ bondAt bonds q .0) × (bondAt bonds q .0 < bondAt bonds q .1) × (bondAt bonds q .1 ≤ n)
+  joined :
+      (q : ℕ) → q < count →
+      let bond = bondAt bonds q in
+      (1 ≤ bond .0) × (bond .0 < bond .1) × (bond .1 ≤ n)
   joined q h =
       let at = f .place-of q h in
       let upper = above-parts rows (at .place) (at .upper) in
@@ -350,7 +353,8 @@ every-record-has-a-sheet mol formed size byte =
     let rule = rule9 mol formed in
     let sound = sound-of-rules (mol .rows) (mol .atoms) (rule .rows-sound) in
     let ones-count = eqb-true (onesOf (mol .rows)) (2 * mol .bonds) (rule .ones-count) in
-    go (bondsTo (mol .rows) 16384) (pairs-listed (mol .rows) 16384) (rule .atoms-high) (rule .bonds-high) sound ones-count
+    let listed = pairs-listed (mol .rows) 16384 in
+    go (bondsTo (mol .rows) 16384) listed (rule .atoms-high) (rule .bonds-high) sound ones-count
   where
     bytes : Rows (mol .rows)
     bytes = record { size = size; byte = byte }

@@ -15,23 +15,8 @@ Inv-loop s i₀ i = readField (drop i s) ≡ readField s
 abbrev μ-loop : tie.MeasureT-loop
 μ-loop s i₀ i = length s - i
 
--- ---- the places of a turn, and what is known there
--- (in a proof, the argument `(search)` is a place: it is found in c by its type)
-
 abbrev Place : (tie.InvT-loop → tie.MeasureT-loop → Type 0) → Type 0
 Place place = place Inv-loop μ-loop
-
--- from where the byte is in the range of digits
-abbrev turn : Place tie.Else3 → Place tie.In-loop
-turn c = c .before .before .before .before
-
-digit :
-    (c : Place tie.Else3) →
-    let head = turn c .before in
-    DigitAt (head .before .before .args .s .now) (head .loop .i)
-digit c = record { inside = turn c .loop-test .taken; low = c .before .if2 .left; high = c .if3 .left }
-
--- ---- the needs
 
 loop-holds : tie.Need-loop-holds Inv-loop μ-loop
 loop-holds c = refl
@@ -50,10 +35,13 @@ returns-2 c =
 
 returns-3 : tie.Need-returns-3 Inv-loop μ-loop
 returns-3 c =
-    let head : Place tie.At-loop = search in
+    let start : Place tie.Start = search in
+    let here : Place tie.In-loop = search in
     let other : Place tie.Then1 = search in
     let first : Place tie.After-u8-u64 = search in
-    let from-here = sym (field-digit (digit (search)) (other .if1 .taken)) ∙ head .loop .inv in
+    let digit : DigitAt (start .args .s .now) (here .before .loop .i) =
+    record { inside = here .loop-test .taken; low = first .before .before .if2 .left; high = first .before .if3 .left } in
+    let from-here = sym (field-digit digit (other .if1 .taken)) ∙ here .before .loop .inv in
     c .more-digits .ensures ∙ rw (first .u8-u64 .ensures .same) from-here
 
 loop-again : tie.Need-loop-again Inv-loop μ-loop
