@@ -164,6 +164,14 @@ column-digit : (w b : ℕ) → 0 < w → 48 ≤ b → b ≤ 57 → column (w * 1
 unfolding column
 column-digit w b some low high = rw (ne-eqb (w * 10 + (b - 48)) 0 (λ e. omega arith)) (omega arith)
 
+columns-on :
+    (k w b : ℕ) (bs : List ℕ) → 0 < w → 48 ≤ b → b ≤ 57 →
+    columns k w ++ (b ∷ bs) ≡ columns (suc k) (w * 10 + (b - 48)) ++ bs
+unfolding columns
+columns-on k w b bs some low high =
+    let tenth : (w * 10 + (b - 48)) / 10 ≡ w = omega arith in
+    rw (tenth, column-digit w b some low high) (sym (append-snoc (columns k w) b bs))
+
 digits-text :
     (k w : ℕ) (bs : List ℕ) (v : ℕ) → 0 < w → digits w bs ≡ Value v →
     (columns k w ++ bs ≡ columns (k + length bs) v) × (0 < v)
@@ -171,12 +179,8 @@ unfolding columns
 digits-text k w [] v some e = rw (add-zero, ← digits-end-value w v e) (append-nil (columns k w), some)
 digits-text k w (b ∷ bs) v some e =
     let digit = digit-read w b bs v e in
-    let now = w * 10 + (b - 48) in
-    let tenth : now / 10 ≡ w = omega (arith, digit .low, digit .high) in
-    let last : column now ≡ b = column-digit w b some (digit .low) (digit .high) in
-    let start : columns k w ++ (b ∷ bs) ≡ columns (suc k) now ++ bs =
-    rw (tenth, last) (sym (append-snoc (columns k w) b bs)) in
-    let more = digits-text (suc k) now bs v (omega arith) (digit .rest) in
+    let start = columns-on k w b bs some (digit .low) (digit .high) in
+    let more = digits-text (suc k) (w * 10 + (b - 48)) bs v (omega arith) (digit .rest) in
     let as-many : suc k + length bs ≡ k + suc (length bs) = suc-add k (length bs) ∙ sym (add-suc k (length bs)) in
     (start ∙ more .0 ∙ ap (λ j. columns j v) as-many, more .1)
 
@@ -194,17 +198,20 @@ zero-alone j b [] v z e = rw (z, ← digits-end-value 0 v e, add-zero j, columns
 zero-alone j b (x ∷ bs) v z e = absurd (omega (arith, digit-read 0 x bs v e .some))
 
 -- any other first digit
+columns-first :
+    (j b : ℕ) (bs : List ℕ) → 48 < b → b ≤ 57 → columns (suc j) (b - 48) ++ bs ≡ blanks j ++ (b ∷ bs)
+unfolding columns column
+columns-first j b bs low high =
+    let none : (b - 48) / 10 ≡ 0 = omega arith in
+    let last : 48 + (b - 48) % 10 ≡ b = omega arith in
+    rw (ne-eqb (b - 48) 0 (λ e. omega arith), none, last, columns-blank j) (append-snoc (blanks j) b bs)
+
 digit-first :
     (j b : ℕ) (bs : List ℕ) (v : ℕ) → 48 < b → b ≤ 57 → digits (b - 48) bs ≡ Value v →
     blanks j ++ (b ∷ bs) ≡ fieldText (suc (j + length bs)) v
-unfolding columns column
 digit-first j b bs v low high e =
     let text = digits-text (suc j) (b - 48) bs v (omega arith) e in
-    let none : (b - 48) / 10 ≡ 0 = omega arith in
-    let last : 48 + (b - 48) % 10 ≡ b = omega arith in
-    let start : columns (suc j) (b - 48) ++ bs ≡ blanks j ++ (b ∷ bs) =
-    rw (ne-eqb (b - 48) 0 (λ e. omega arith), none, last, columns-blank j) (append-snoc (blanks j) b bs) in
-    sym start
+    sym (columns-first j b bs low high)
     ∙ text .0
     ∙ columns-text (suc j + length bs) v (text .1)
     ∙ ap (λ k. fieldText k v) (suc-add j (length bs))

@@ -86,13 +86,11 @@ module _ (values : List ℕ) (line : ℕ → Bond) (i a b k : ℕ) (size : lengt
   stored-other : (j : ℕ) → (j ≡ k → ⊥) → stored both j ≡ stored values j
   unfolding stored
   stored-other j n =
-      let left =
-      getD-set-other one (2 * k + 1) (2 * j) b 0 (omega arith) ∙
-      getD-set-other values (2 * k) (2 * j) a 0 (λ e. n (omega arith)) in
-      let right =
-      getD-set-other one (2 * k + 1) (2 * j + 1) b 0 (λ e. n (omega arith)) ∙
-      getD-set-other values (2 * k) (2 * j + 1) a 0 (omega arith) in
-      ap₂ (λ x y. (x, y)) left right
+      let left-two = getD-set-other one (2 * k + 1) (2 * j) b 0 (omega arith) in
+      let left-one = getD-set-other values (2 * k) (2 * j) a 0 (λ e. n (omega arith)) in
+      let right-two = getD-set-other one (2 * k + 1) (2 * j + 1) b 0 (λ e. n (omega arith)) in
+      let right-one = getD-set-other values (2 * k) (2 * j + 1) a 0 (omega arith) in
+      ap₂ (λ x y. (x, y)) (left-two ∙ left-one) (right-two ∙ right-one)
 
   decodes-more : Decodes values line i → (a, b) ≡ line i → Decodes both line (i + 1)
   decodes-more d new = record { at = here }

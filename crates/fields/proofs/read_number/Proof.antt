@@ -18,6 +18,15 @@ abbrev μ-loop : tie.MeasureT-loop
 abbrev Place : (tie.InvT-loop → tie.MeasureT-loop → Type 0) → Type 0
 Place place = place Inv-loop μ-loop
 
+-- a digit stands at the place of the turn
+digit :
+    (c : Place tie.Else3) →
+    let head = c .before .before .before .before .before in
+    DigitAt (head .before .before .args .s .now) (head .loop .i)
+digit c =
+    let here : Place tie.In-loop = search in
+    record { inside = here .loop-test .taken; low = c .before .if2 .left; high = c .if3 .left }
+
 loop-holds : tie.Need-loop-holds Inv-loop μ-loop
 loop-holds c = refl
 
@@ -35,13 +44,10 @@ returns-2 c =
 
 returns-3 : tie.Need-returns-3 Inv-loop μ-loop
 returns-3 c =
-    let start : Place tie.Start = search in
     let here : Place tie.In-loop = search in
     let other : Place tie.Then1 = search in
     let first : Place tie.After-u8-u64 = search in
-    let digit : DigitAt (start .args .s .now) (here .before .loop .i) =
-    record { inside = here .loop-test .taken; low = first .before .before .if2 .left; high = first .before .if3 .left } in
-    let from-here = sym (field-digit digit (other .if1 .taken)) ∙ here .before .loop .inv in
+    let from-here = sym (field-digit (digit (search)) (other .if1 .taken)) ∙ here .before .loop .inv in
     c .more-digits .ensures ∙ rw (first .u8-u64 .ensures .same) from-here
 
 loop-again : tie.Need-loop-again Inv-loop μ-loop

@@ -26,9 +26,12 @@ abbrev μ-loop : tie.MeasureT-loop
 abbrev Place : (tie.InvT-loop → tie.MeasureT-loop → Type 0) → Type 0
 Place place = place Inv-loop μ-loop
 
--- from where both atoms are read
+-- from where the bond's second atom is read, and its first
+abbrev first : Place tie.After-u16-usize2 → Place tie.After-u16-usize
+first c = c .before .before
+
 abbrev turn : Place tie.After-u16-usize2 → Place tie.In-loop
-turn c = c .before .before .before .before
+turn c = first c .before .before
 
 -- from where the bond's cell is looked at
 abbrev read : Place tie.After-linked → Place tie.After-u16-usize2
@@ -62,8 +65,8 @@ at-turn c stored =
 
 at-read :
     (c : Place tie.After-u16-usize2) →
-    Here (turn c) (c .before .before .u16-usize .result) (c .u16-usize2 .result)
-at-read c = at-turn (turn c) (c .before .before .u16-usize .ensures .same, c .u16-usize2 .ensures .same)
+    Here (turn c) (first c .u16-usize .result) (c .u16-usize2 .result)
+at-read c = at-turn (turn c) (first c .u16-usize .ensures .same, c .u16-usize2 .ensures .same)
 
 size : (c : Place tie.After-linked) → length (turn (read c) .before .loop .rows) ≡ 2048
 size c = let here = at-read (read c) in rows-size (here .filled) (here .kept)
@@ -71,7 +74,7 @@ size c = let here = at-read (read c) in rows-size (here .filled) (here .kept)
 -- the cell that is looked at is the bond's
 cell-told :
     (c : Place tie.After-linked) →
-    let a = read c .before .before .u16-usize .result in
+    let a = first (read c) .u16-usize .result in
     let b = read c .u16-usize2 .result in
     cell (turn (read c) .before .loop .rows) (a - 1) (b - 1) ≡ c .linked .result
 cell-told c = sym (c .linked .ensures)

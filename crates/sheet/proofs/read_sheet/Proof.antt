@@ -15,29 +15,32 @@ use Rattle.sheet.proofs.read_sheet.Tie as tie
 abbrev start : tie.After-decode → tie.Start
 start c = c .before .before .before .before
 
--- from where n and m are read
-abbrev decoded : tie.After-u16-usize2 → tie.After-decode
-decoded c = c .before .before .before .before .before
+-- from where n is read, and then m
+abbrev decoded : tie.After-u16-usize → tie.After-decode
+decoded c = c .before .before .before .before
+
+abbrev first : tie.After-u16-usize2 → tie.After-u16-usize
+first c = c .before
 
 -- ---- what is known there
 
 known :
     (c : tie.After-u16-usize2) →
-    let args = start (decoded c) .args in
-    let values = decoded c .decode .result .values in
-    Known (args .s .now) values (c .before .u16-usize .result) (c .u16-usize2 .result)
+    let decoded = decoded (first c) in
+    Known (start decoded .args .s .now) (decoded .decode .result .values) (first c .u16-usize .result)
+    (c .u16-usize2 .result)
 known c =
     let else1 : tie.Else1 = search in
     let else2 : tie.Else2 = search in
     let else3 : tie.Else3 = search in
-    let lines = decoded c .decode .ensures in
+    let lines = decoded (first c) .decode .ensures in
     let ok = not-false _ (else3 .if3 .left) in
     record {
       long = else1 .if1 .left;
       whole = else2 .if2 .left;
       lines = sym (lines .ok) ∙ ok;
       decodes = lines .values ok;
-      first = c .before .u16-usize .ensures .same;
+      first = first c .u16-usize .ensures .same;
       second = c .u16-usize2 .ensures .same;
     }
 
