@@ -54,13 +54,15 @@ returns-3 c =
 returns-4 : tie.Need-returns-4 Inv-loop μ-loop
 returns-4 c =
     let head : Place tie.At-loop = search in
-    sym (digits-full (digit (search)) (c .before .if3 .left) (c .if4 .taken)) ∙ head .loop .inv
+    let some : Place tie.Else3 = search in
+    sym (digits-full (digit (search)) (some .if3 .left) (c .if4 .taken)) ∙ head .loop .inv
 
 loop-again : tie.Need-loop-again Inv-loop μ-loop
 loop-again c =
     let head : Place tie.At-loop = search in
+    let some : Place tie.Else3 = search in
     let room : Place tie.Else4 = search in
-    let more = digits-more (digit (search)) (room .before .if3 .left) (room .if4 .left) in
+    let more = digits-more (digit (search)) (some .if3 .left) (room .if4 .left) in
     rw (c .u8-u64 .ensures .same) (sym more ∙ head .loop .inv)
 
 returns-5 : tie.Need-returns-5 Inv-loop μ-loop

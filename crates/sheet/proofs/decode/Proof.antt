@@ -30,7 +30,8 @@ loop-again : tie.Need-loop-again Inv-loop μ-loop
 loop-again c =
     let turn : Place tie.In-loop = search in
     let read : Place tie.After-line = search in
-    let ok = not-false _ (c .before .if1 .left) in
+    let kept : Place tie.Else1 = search in
+    let ok = not-false _ (kept .if1 .left) in
     decoding-more (turn .before .loop .inv) (turn .loop-test .taken) (read .line .ensures) ok (c .slot .ensures)
 
 returns-2 : tie.Need-returns-2 Inv-loop μ-loop

@@ -96,7 +96,8 @@ linked-requires c κs = omega (arith, atom-range (at-read (search)))
 returns : tie.Need-returns Inv-loop μ-loop
 returns c =
     let start : Place tie.Start = search in
-    let twice = twice-found (at-read (search)) (cell-told (search) ∙ c .before .if1 .taken) in
+    let old : Place tie.Then1 = search in
+    let twice = twice-found (at-read (search)) (cell-told (search) ∙ old .if1 .taken) in
     c .refused .ensures ∙ sym (bonds-twice _ _ _ (start .pre .atoms) (start .pre .apart) twice)
 
 slice-aggregate-link : tie.Need-slice-aggregate-link Inv-loop μ-loop
@@ -121,10 +122,11 @@ link-requires-2 c κs =
 
 loop-again : tie.Need-loop-again Inv-loop μ-loop
 loop-again c =
-    let link : Place tie.After-link = search in
-    let else1 : Place tie.Else1 = search in
-    let clear = cell-told (search) ∙ else1 .if1 .left in
-    filled-more (at-read (search)) clear (link .link .ensures) (c .before .link2 .ensures)
+    let new : Place tie.Else1 = search in
+    let one : Place tie.After-link = search in
+    let two : Place tie.After-link2 = search in
+    let clear = cell-told (search) ∙ new .if1 .left in
+    filled-more (at-read (search)) clear (one .link .ensures) (two .link2 .ensures)
 
 returns-2 : tie.Need-returns-2 Inv-loop μ-loop
 returns-2 c =
