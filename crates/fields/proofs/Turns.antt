@@ -31,14 +31,14 @@ pub record DigitAt (s : List ℕ) (i : ℕ) : Type 0 where
 
 module _ (s : List ℕ) (i : ℕ) where
   -- the byte at i, its worth as a digit, and the bytes after it
-  abbrev byte : ℕ
-  byte = getD s i 0
+  abbrev byteAt : ℕ
+  byteAt = getD s i 0
 
-  abbrev worth : ℕ
-  worth = byte - 48
+  abbrev worthAt : ℕ
+  worthAt = byteAt - 48
 
-  abbrev rest : List ℕ
-  rest = drop (i + 1) s
+  abbrev restAt : List ℕ
+  restAt = drop (i + 1) s
 
   pub digits-end : (v : ℕ) → length s ≤ i → digits v (drop i s) ≡ Value v
   unfolding digits
@@ -52,60 +52,62 @@ module _ (s : List ℕ) (i : ℕ) where
   module _ (inside : i < length s) where
     digits-turn :
         (v : ℕ) →
-        let more = v * 10 + worth in
-        digits v (drop i s) ≡ cond (isDigit byte && ltb 0 v && leb more limit) (digits more rest) Bad
+        let more = v * 10 + worthAt in
+        digits v (drop i s) ≡ cond (isDigit byteAt && ltb 0 v && leb more limit) (digits more restAt) Bad
     unfolding digits
     digits-turn v = rw (drop-cons s i 0 inside, add-one)
 
     field-turn :
-        readField (drop i s) ≡ cond (eqb byte 32) (readField rest) (cond (isDigit byte) (digits worth rest) Bad)
+        readField (drop i s)
+        ≡ cond (eqb byteAt 32) (readField restAt) (cond (isDigit byteAt) (digits worthAt restAt) Bad)
     unfolding readField
     field-turn = rw (drop-cons s i 0 inside, add-one)
 
-    pub digits-low : (v : ℕ) → byte < 48 → digits v (drop i s) ≡ Bad
-    digits-low v low = digits-turn v ∙ simp (lt-leb 48 byte low)
+    pub digits-low : (v : ℕ) → byteAt < 48 → digits v (drop i s) ≡ Bad
+    digits-low v low = digits-turn v ∙ simp (lt-leb 48 byteAt low)
 
-    pub digits-high : (v : ℕ) → 57 < byte → digits v (drop i s) ≡ Bad
+    pub digits-high : (v : ℕ) → 57 < byteAt → digits v (drop i s) ≡ Bad
     digits-high v high =
-        let above : 48 ≤ byte = omega arith in
-        digits-turn v ∙ simp (le-leb 48 byte above, lt-leb byte 57 high)
+        let above : 48 ≤ byteAt = omega arith in
+        digits-turn v ∙ simp (le-leb 48 byteAt above, lt-leb byteAt 57 high)
 
-    pub field-blank : byte ≡ 32 → readField (drop i s) ≡ readField rest
-    field-blank blank = field-turn ∙ simp (eq-eqb byte 32 blank)
+    pub field-blank : byteAt ≡ 32 → readField (drop i s) ≡ readField restAt
+    field-blank blank = field-turn ∙ simp (eq-eqb byteAt 32 blank)
 
-    pub field-low : (byte ≡ 32 → ⊥) → byte < 48 → readField (drop i s) ≡ Bad
-    field-low other low = field-turn ∙ simp (ne-eqb byte 32 other, lt-leb 48 byte low)
+    pub field-low : (byteAt ≡ 32 → ⊥) → byteAt < 48 → readField (drop i s) ≡ Bad
+    field-low other low = field-turn ∙ simp (ne-eqb byteAt 32 other, lt-leb 48 byteAt low)
 
-    pub field-high : (byte ≡ 32 → ⊥) → 57 < byte → readField (drop i s) ≡ Bad
+    pub field-high : (byteAt ≡ 32 → ⊥) → 57 < byteAt → readField (drop i s) ≡ Bad
     field-high other high =
-        let above : 48 ≤ byte = omega arith in
-        field-turn ∙ simp (ne-eqb byte 32 other, le-leb 48 byte above, lt-leb byte 57 high)
+        let above : 48 ≤ byteAt = omega arith in
+        field-turn ∙ simp (ne-eqb byteAt 32 other, le-leb 48 byteAt above, lt-leb byteAt 57 high)
 
 -- the turn of a digit
 module _ {s : List ℕ} {i : ℕ} (digit : DigitAt s i) where
   digit-turn :
       (v : ℕ) →
-      let more = v * 10 + worth s i in
-      digits v (drop i s) ≡ cond (ltb 0 v && leb more limit) (digits more (rest s i)) Bad
+      let more = v * 10 + worthAt s i in
+      digits v (drop i s) ≡ cond (ltb 0 v && leb more limit) (digits more (restAt s i)) Bad
   digit-turn v =
-      digits-turn s i (digit .inside) v ∙ simp (le-leb 48 (byte s i) (digit .low), le-leb (byte s i) 57 (digit .high))
+      digits-turn s i (digit .inside) v
+      ∙ simp (le-leb 48 (byteAt s i) (digit .low), le-leb (byteAt s i) 57 (digit .high))
 
-  pub field-digit : (byte s i ≡ 32 → ⊥) → readField (drop i s) ≡ digits (worth s i) (rest s i)
+  pub field-digit : (byteAt s i ≡ 32 → ⊥) → readField (drop i s) ≡ digits (worthAt s i) (restAt s i)
   field-digit other =
       field-turn s i (digit .inside)
-      ∙ simp (ne-eqb (byte s i) 32 other, le-leb 48 (byte s i) (digit .low), le-leb (byte s i) 57 (digit .high))
+      ∙ simp (ne-eqb (byteAt s i) 32 other, le-leb 48 (byteAt s i) (digit .low), le-leb (byteAt s i) 57 (digit .high))
 
   module _ {v : ℕ} where
     pub digits-zero : v ≡ 0 → digits v (drop i s) ≡ Bad
     digits-zero z = digit-turn v ∙ simp (le-ltb 0 v (omega arith))
 
     pub digits-full : (v ≡ 0 → ⊥) → 999999999999999999 < v → digits v (drop i s) ≡ Bad
-    digits-full some full = digit-turn v ∙ simp (lt-ltb 0 v (omega arith), no-room-for-digit v (byte s i) full)
+    digits-full some full = digit-turn v ∙ simp (lt-ltb 0 v (omega arith), no-room-for-digit v (byteAt s i) full)
 
     pub digits-more :
-        (v ≡ 0 → ⊥) → v ≤ 999999999999999999 → digits v (drop i s) ≡ digits (v * 10 + worth s i) (rest s i)
+        (v ≡ 0 → ⊥) → v ≤ 999999999999999999 → digits v (drop i s) ≡ digits (v * 10 + worthAt s i) (restAt s i)
     digits-more some room =
-        let fits = room-for-digit v (byte s i) (digit .low) (digit .high) room in
+        let fits = room-for-digit v (byteAt s i) (digit .low) (digit .high) room in
         digit-turn v ∙ simp (lt-ltb 0 v (omega arith), fits)
 
 -- ---- the writer

@@ -26,8 +26,8 @@ bit-first x = ap (λ y. eqb (y % 2) 1) (ap (λ p. x / p) (pow-zero 2) ∙ div-on
 abbrev odd : ℕ → ℕ
 odd x = x / 2 * 2 + 1
 
-abbrev later : ℕ → ℕ → ℕ
-later x k = withBit (x / 2) k * 2 + x % 2
+abbrev onHalf : ℕ → ℕ → ℕ
+onHalf x k = withBit (x / 2) k * 2 + x % 2
 
 with-first : (x : ℕ) → withBit x 0 ≡ odd x
 unfolding withBit
@@ -38,7 +38,7 @@ with-first x = rw (bit-first x) (go (x % 2) refl)
     go (suc zero) e = rw (eq-eqb (x % 2) 1 e) (omega arith)
     go (suc (suc r)) e = absurd (omega arith)
 
-with-later : (x k : ℕ) → withBit x (suc k) ≡ later x k
+with-later : (x k : ℕ) → withBit x (suc k) ≡ onHalf x k
 unfolding withBit
 with-later x k = rw (bit-half x k) (go (bit (x / 2) k))
   where
@@ -53,11 +53,11 @@ odd-low x = omega arith
 odd-half : (x : ℕ) → odd x / 2 ≡ x / 2
 odd-half x = omega arith
 
-later-low : (x k : ℕ) → later x k % 2 ≡ x % 2
-later-low x k = omega arith
+on-half-low : (x k : ℕ) → onHalf x k % 2 ≡ x % 2
+on-half-low x k = omega arith
 
-later-half : (x k : ℕ) → later x k / 2 ≡ withBit (x / 2) k
-later-half x k = omega arith
+on-half-half : (x k : ℕ) → onHalf x k / 2 ≡ withBit (x / 2) k
+on-half-half x k = omega arith
 
 -- The bits of a number with bit k set: those that it had, and k
 pub with-bit : (k x j : ℕ) → bit (withBit x k) j ≡ bit x j || eqb k j
@@ -66,9 +66,9 @@ with-bit zero x zero =
 with-bit zero x (suc j) =
     rw (with-first x, bit-half (odd x) j, odd-half x, eqb·zero-suc j, or-false (bit x (suc j))) (sym (bit-half x j))
 with-bit (suc k) x zero =
-    rw (with-later x k, bit-first (later x k), later-low x k, eqb·suc-zero k, or-false (bit x 0)) (sym (bit-first x))
+    rw (with-later x k, bit-first (onHalf x k), on-half-low x k, eqb·suc-zero k, or-false (bit x 0)) (sym (bit-first x))
 with-bit (suc k) x (suc j) =
-    rw (with-later x k, bit-half (later x k) j, later-half x k, eqb·suc-suc k j, bit-half x j) (with-bit k (x / 2) j)
+    rw (with-later x k, bit-half (onHalf x k) j, on-half-half x k, eqb·suc-suc k j, bit-half x j) (with-bit k (x / 2) j)
 
 -- One bit more
 pub with-ones : (k x : ℕ) → bit x k ≡ false → ones (withBit x k) ≡ suc (ones x)
@@ -85,7 +85,7 @@ with-ones zero x e =
         go (suc (suc r)) e = absurd (omega arith)
 with-ones (suc k) x e =
     let more = with-ones k (x / 2) (sym (bit-half x k) ∙ e) in
-    rw (with-later x k, ones-step (later x k), later-low x k, later-half x k, more, ones-step x) (omega arith)
+    rw (with-later x k, ones-step (onHalf x k), on-half-low x k, on-half-half x k, more, ones-step x) (omega arith)
 
 -- It keeps to its number of bits
 pub with-below : (w k x : ℕ) → k < w → x < 2 ^ w → withBit x k < 2 ^ w

@@ -34,55 +34,57 @@ lines-length (x ∷ xs) =
 -- ---- the first line of a text
 
 module _ (x : Bond) (xs : List Bond) where
-  abbrev left : List ℕ
-  left = fieldText 4 (x .0)
+  abbrev leftText : List ℕ
+  leftText = fieldText 4 (x .0)
 
-  abbrev right : List ℕ
-  right = fieldText 4 (x .1)
+  abbrev rightText : List ℕ
+  rightText = fieldText 4 (x .1)
 
-  abbrev rest : List ℕ
-  rest = linesText xs
+  abbrev restText : List ℕ
+  restText = linesText xs
 
-  left-length : length left ≡ 4
+  left-length : length leftText ≡ 4
   left-length = field-length 4 (x .0)
 
-  right-length : length right ≡ 4
+  right-length : length rightText ≡ 4
   right-length = field-length 4 (x .1)
 
   first-left : x .0 < 10000 → fieldAt 4 (linesText (x ∷ xs)) 0 ≡ Value (x .0)
   unfolding linesText
   first-left small =
-      rw (take-at left (right ++ (10 ∷ rest)) 4 left-length)
+      rw (take-at leftText (rightText ++ (10 ∷ restText)) 4 left-length)
       (written-reads-back 4 (x .0) small (omega arith) (omega arith))
 
   first-right : x .1 < 10000 → fieldAt 4 (linesText (x ∷ xs)) 4 ≡ Value (x .1)
   unfolding linesText
   first-right small =
-      rw (drop-at left (right ++ (10 ∷ rest)) 4 left-length, take-at right (10 ∷ rest) 4 right-length)
+      let skip = drop-at leftText (rightText ++ (10 ∷ restText)) 4 left-length in
+      let field = take-at rightText (10 ∷ restText) 4 right-length in
+      rw (skip, field)
       (written-reads-back 4 (x .1) small (omega arith) (omega arith))
 
   first-end : getD (linesText (x ∷ xs)) 8 0 ≡ 10
   unfolding linesText
   first-end =
-      let outer = getD-append-add left (right ++ (10 ∷ rest)) 4 0 in
-      let inner = getD-append-add right (10 ∷ rest) 0 0 in
+      let outer = getD-append-add leftText (rightText ++ (10 ∷ restText)) 4 0 in
+      let inner = getD-append-add rightText (10 ∷ restText) 0 0 in
       rw left-length at outer ∙ rw right-length at inner
 
   -- its nine bytes, and the rest of the text
   abbrev nine : List ℕ
-  nine = left ++ (right ++ (10 ∷ []))
+  nine = leftText ++ (rightText ++ (10 ∷ []))
 
   nine-length : length nine ≡ 9
   nine-length = simp (length-append, left-length, right-length)
 
-  nine-first : linesText (x ∷ xs) ≡ nine ++ rest
+  nine-first : linesText (x ∷ xs) ≡ nine ++ restText
   unfolding linesText
   nine-first =
-      let inner = append-assoc right (10 ∷ []) rest in
-      sym (append-assoc left (right ++ (10 ∷ [])) rest ∙ ap (λ l. left ++ l) inner)
+      let inner = append-assoc rightText (10 ∷ []) restText in
+      sym (append-assoc leftText (rightText ++ (10 ∷ [])) restText ∙ ap (λ l. leftText ++ l) inner)
 
   skip-line : (k : ℕ) → drop (9 + k) (linesText (x ∷ xs)) ≡ drop k (linesText xs)
-  skip-line k = rw (nine-first, ← nine-length) (drop-append-add nine rest k)
+  skip-line k = rw (nine-first, ← nine-length) (drop-append-add nine restText k)
 
 -- ---- any line of a text
 

@@ -237,12 +237,12 @@ pairs-listed rows (suc k) = go (pairs-listed rows k) (either (above rows k))
 
 module _ {n : ℕ} {rows : List ℕ} {bonds : List Bond} (few : n ≤ 128) (bytes : Rows rows) (sound : Sound rows n)
     (f : Pairs rows 16384 bonds) where
-  abbrev count : ℕ
-  count = length bonds
+  abbrev total : ℕ
+  total = length bonds
 
   -- the cell of bond q, and its image
   mirror :
-      (q : ℕ) (h : q < count) →
+      (q : ℕ) (h : q < total) →
       let p = f .place-of q h .place in
       Mirror rows n (p / 128) (p % 128)
   unfolding Sound
@@ -253,7 +253,7 @@ module _ {n : ℕ} {rows : List ℕ} {bonds : List Bond} (few : n ≤ 128) (byte
 
   -- bond q joins two different atoms
   joined :
-      (q : ℕ) → q < count →
+      (q : ℕ) → q < total →
       let bond = bondAt bonds q in
       (1 ≤ bond .0) × (bond .0 < bond .1) × (bond .1 ≤ n)
   joined q h =
@@ -261,11 +261,11 @@ module _ {n : ℕ} {rows : List ℕ} {bonds : List Bond} (few : n ≤ 128) (byte
       let upper = above-parts rows (at .place) (at .upper) in
       rw (at .pair) (omega arith, omega arith, omega (arith, mirror q h .column-within))
 
-  bonds-atoms : atomsKept n (bondAt bonds) count ≡ true
+  bonds-atoms : atomsKept n (bondAt bonds) total ≡ true
   unfolding within
-  bonds-atoms = atoms-kept-is n (bondAt bonds) count ∙ allBelow-of count (within n (bondAt bonds)) here
+  bonds-atoms = atoms-kept-is n (bondAt bonds) total ∙ allBelow-of total (within n (bondAt bonds)) here
     where
-      here : (q : ℕ) → q < count → within n (bondAt bonds) q ≡ true
+      here : (q : ℕ) → q < total → within n (bondAt bonds) q ≡ true
       here q h =
           let ends = joined q h in
           rw (
@@ -275,18 +275,18 @@ module _ {n : ℕ} {rows : List ℕ} {bonds : List Bond} (few : n ≤ 128) (byte
             le-leb (bondAt bonds q .1) n (ends .2),
           )
 
-  bonds-apart : noneToItself (bondAt bonds) count ≡ true
+  bonds-apart : noneToItself (bondAt bonds) total ≡ true
   unfolding differs
-  bonds-apart = none-to-itself-is (bondAt bonds) count ∙ allBelow-of count (differs (bondAt bonds)) here
+  bonds-apart = none-to-itself-is (bondAt bonds) total ∙ allBelow-of total (differs (bondAt bonds)) here
     where
-      here : (q : ℕ) → q < count → differs (bondAt bonds) q ≡ true
+      here : (q : ℕ) → q < total → differs (bondAt bonds) q ≡ true
       here q h = let ends = joined q h in rw (ne-eqb (bondAt bonds q .0) (bondAt bonds q .1) (λ e. omega arith))
 
-  table : Table (bondAt bonds) count (rowsOf (bondAt bonds) count)
-  table = tables count (kept-of few bonds-atoms bonds-apart)
+  table : Table (bondAt bonds) total (rowsOf (bondAt bonds) total)
+  table = tables total (kept-of few bonds-atoms bonds-apart)
 
   -- a bit above the diagonal is a bond
-  upper : (i j : ℕ) → i < j → j < 128 → cell rows i j ≡ true → (q : ℕ) × (q < count) × (bondAt bonds q ≡ (suc i, suc j))
+  upper : (i j : ℕ) → i < j → j < 128 → cell rows i j ≡ true → (q : ℕ) × (q < total) × (bondAt bonds q ≡ (suc i, suc j))
   upper i j h hj e =
       let bond = f .bond-of (128 * i + j) (omega arith) (above-of rows i j hj h e) in
       let row : (128 * i + j) / 128 ≡ i = omega arith in
@@ -294,7 +294,7 @@ module _ {n : ℕ} {rows : List ℕ} {bonds : List Bond} (few : n ≤ 128) (byte
       (bond .number, bond .inside, bond .pair ∙ rw (row, column))
 
   -- a set bit is a bond, in one order of its atoms or the other
-  cells-there : (i j : ℕ) → i < 128 → j < 128 → cell rows i j ≡ true → Joins (bondAt bonds) count (suc i) (suc j)
+  cells-there : (i j : ℕ) → i < 128 → j < 128 → cell rows i j ≡ true → Joins (bondAt bonds) total (suc i) (suc j)
   unfolding Joins samePair Sound
   cells-there i j hi hj e = go (decLt i j) (sound i j hi hj e)
     where
@@ -304,7 +304,7 @@ module _ {n : ℕ} {rows : List ℕ} {bonds : List Bond} (few : n ≤ 128) (byte
       same-j : eqb (suc j) (suc j) ≡ true
       same-j = eq-eqb (suc j) (suc j) refl
 
-      go : Dec (i < j) → Mirror rows n i j → (q : ℕ) × (q < count) × (samePair (bondAt bonds q) (suc i, suc j) ≡ true)
+      go : Dec (i < j) → Mirror rows n i j → (q : ℕ) × (q < total) × (samePair (bondAt bonds q) (suc i, suc j) ≡ true)
       go (yes h) m =
           let bond = upper i j h hj e in
           (bond .0, bond .1, rw (bond .2, same-i, same-j))
@@ -314,7 +314,7 @@ module _ {n : ℕ} {rows : List ℕ} {bonds : List Bond} (few : n ≤ 128) (byte
           let same = or-true (eqb (suc j) (suc i) && eqb (suc i) (suc j)) in
           (bond .0, bond .1, rw (bond .2, same-i, same-j) same)
 
-  cells-back : (i j : ℕ) → i < 128 → j < 128 → Joins (bondAt bonds) count (suc i) (suc j) → cell rows i j ≡ true
+  cells-back : (i j : ℕ) → i < 128 → j < 128 → Joins (bondAt bonds) total (suc i) (suc j) → cell rows i j ≡ true
   unfolding Joins
   cells-back i j hi hj (q, h, e) =
       let at = f .place-of q h in
@@ -332,17 +332,17 @@ module _ {n : ℕ} {rows : List ℕ} {bonds : List Bond} (few : n ≤ 128) (byte
             rw (row, column) at (mirror q h .image)
       ]
 
-  rows-are : rowsOf (bondAt bonds) count ≡ rows
-  rows-are = same-rows (rowsOf (bondAt bonds) count) rows (table .bytes) bytes same-cell
+  rows-are : rowsOf (bondAt bonds) total ≡ rows
+  rows-are = same-rows (rowsOf (bondAt bonds) total) rows (table .bytes) bytes same-cell
     where
-      same-cell : (i j : ℕ) → i < 128 → j < 128 → cell (rowsOf (bondAt bonds) count) i j ≡ cell rows i j
+      same-cell : (i j : ℕ) → i < 128 → j < 128 → cell (rowsOf (bondAt bonds) total) i j ≡ cell rows i j
       same-cell i j hi hj =
-          same-test (cell (rowsOf (bondAt bonds) count) i j) (cell rows i j)
+          same-test (cell (rowsOf (bondAt bonds) total) i j) (cell rows i j)
           (λ t. cells-back i j hi hj (table .cells i j hi hj .0 t))
           (λ t. table .cells i j hi hj .1 (cells-there i j hi hj t))
 
   -- two ones for each of them
-  ones-are : onesOf rows ≡ 2 * count
+  ones-are : onesOf rows ≡ 2 * total
   ones-are = ap onesOf (sym rows-are) ∙ table .ones-count (f .once)
 
 -- Every record that rule 9 allows, its rows 2,048 bytes as the struct has them, is read from a sheet

@@ -14,7 +14,7 @@ use Rattle.sheet.proofs.Same.{bonds-same}
 use Rattle.sheet.proofs.Answers.{Lined, sheet-atoms, sheet-bonds, sheet-size, sheet-read}
 
 -- What is known once n and m are read: rules 1 and 2 are kept, and the values are the sheet's
-pub record Known (s values : List ℕ) (n m : ℕ) : Type 0 where
+pub record StoredSheet (s values : List ℕ) (n m : ℕ) : Type 0 where
   pub long : 9 ≤ length s
   pub whole : length s % 9 ≡ 0
   pub lines : allBelow (length s / 9) (lineKept s) ≡ true
@@ -22,7 +22,7 @@ pub record Known (s values : List ℕ) (n m : ℕ) : Type 0 where
   pub first : n ≡ getD values 0 0
   pub second : m ≡ getD values 1 0
 
-module _ {s values : List ℕ} {n m : ℕ} (known : Known s values n m) where
+module _ {s values : List ℕ} {n m : ℕ} (known : StoredSheet s values n m) where
   lined : Lined s
   lined = record { long = known .long; whole = known .whole; lines = known .lines }
 
@@ -38,22 +38,22 @@ module _ {s values : List ℕ} {n m : ℕ} (known : Known s values n m) where
       let long = known .long in
       known .second ∙ ap (λ x. x .1) (known .decodes .at 0 (omega arith) (omega arith))
 
-  pub known-atoms : 128 < n → readSheet s ≡ refusedSheet refusal.TooManyAtoms
-  known-atoms many = sheet-atoms lined (rw atoms-are at many)
+  pub stored-atoms : 128 < n → readSheet s ≡ refusedSheet refusal.TooManyAtoms
+  stored-atoms many = sheet-atoms lined (rw atoms-are at many)
 
   module _ (few : n ≤ 128) where
-    pub known-bonds : 1024 < m → readSheet s ≡ refusedSheet refusal.TooManyBonds
-    known-bonds many = sheet-bonds lined (rw atoms-are at few) (rw bonds-are at many)
+    pub stored-bonds : 1024 < m → readSheet s ≡ refusedSheet refusal.TooManyBonds
+    stored-bonds many = sheet-bonds lined (rw atoms-are at few) (rw bonds-are at many)
 
     module _ (light : m ≤ 1024) where
-      pub known-size : (length s ≡ 9 * (m + 1) → ⊥) → readSheet s ≡ refusedSheet refusal.SheetSize
-      known-size other = sheet-size lined (rw atoms-are at few) (rw bonds-are at light) (λ e. other (size-of e))
+      pub stored-size : (length s ≡ 9 * (m + 1) → ⊥) → readSheet s ≡ refusedSheet refusal.SheetSize
+      stored-size other = sheet-size lined (rw atoms-are at few) (rw bonds-are at light) (λ e. other (size-of e))
         where
           size-of : length s ≡ 9 * suc (bondsOf s) → length s ≡ 9 * (m + 1)
           size-of e = let same = bonds-are in omega arith
 
-      pub known-read : length s ≡ 9 * (m + 1) → readBonds n (storedBond values) m ≡ readSheet s
-      known-read size =
+      pub stored-read : length s ≡ 9 * (m + 1) → readBonds n (storedBond values) m ≡ readSheet s
+      stored-read size =
           let same = bonds-are in
           let size-told : length s ≡ 9 * suc (bondsOf s) = omega arith in
           bonds-same n (storedBond values) (bondOf s) m (λ k h. known .decodes .at (suc k) (omega arith) (omega arith))

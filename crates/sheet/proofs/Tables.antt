@@ -121,12 +121,12 @@ zeros-table bond size e =
 
 -- ---- one bond more
 
--- the row of a bond's first atom, and the column of its second
-abbrev pub row : Bond → ℕ
-row x = x .0 - 1
+-- the two atoms of a bond, counted from 0 as rows and columns are
+abbrev pub leftOf : Bond → ℕ
+leftOf x = x .0 - 1
 
-abbrev pub column : Bond → ℕ
-column x = x .1 - 1
+abbrev pub rightOf : Bond → ℕ
+rightOf x = x .1 - 1
 
 before-suc : (x i : ℕ) → 1 ≤ x → eqb (x - 1) i ≡ eqb x (suc i)
 before-suc x i h =
@@ -141,22 +141,22 @@ module _ {n : ℕ} {bond : ℕ → Bond} {k : ℕ} {rows : List ℕ} (kept : Kep
   low-right : 1 ≤ bond k .1
   low-right = kept .right k (omega arith) .0
 
-  row-fits : row (bond k) < 128
-  row-fits = let l = kept .left k (omega arith) in let f = kept .few in omega arith
+  left-fits : leftOf (bond k) < 128
+  left-fits = let l = kept .left k (omega arith) in let f = kept .few in omega arith
 
-  column-fits : column (bond k) < 128
-  column-fits = let r = kept .right k (omega arith) in let f = kept .few in omega arith
+  right-fits : rightOf (bond k) < 128
+  right-fits = let r = kept .right k (omega arith) in let f = kept .few in omega arith
 
   -- the cell of the bond, set or clear
   abbrev here : Bool
-  here = cell rows (row (bond k)) (column (bond k))
+  here = cell rows (leftOf (bond k)) (rightOf (bond k))
 
   -- the rows with this cell set; the mirrored cell comes next
   abbrev one : List ℕ
-  one = withCell rows (row (bond k)) (column (bond k))
+  one = withCell rows (leftOf (bond k)) (rightOf (bond k))
 
   one-rows : Rows one
-  one-rows = with-rows (table .bytes) row-fits column-fits
+  one-rows = with-rows (table .bytes) left-fits right-fits
 
   -- the cells: those that were set, and those of the new bond
   cell-more :
@@ -164,8 +164,8 @@ module _ {n : ℕ} {bond : ℕ → Bond} {k : ℕ} {rows : List ℕ} (kept : Kep
       cell (withBond rows (bond k)) i j ≡ cell rows i j || samePair (bond k) (suc i, suc j)
   unfolding withBond samePair
   cell-more {i} {j} hi hj =
-      let first = with-cell (table .bytes) row-fits column-fits hi hj in
-      let second = with-cell one-rows column-fits row-fits hi hj in
+      let first = with-cell (table .bytes) left-fits right-fits hi hj in
+      let second = with-cell one-rows right-fits left-fits hi hj in
       let there = eqb (bond k .0) (suc i) && eqb (bond k .1) (suc j) in
       let mirrored = eqb (bond k .0) (suc j) && eqb (bond k .1) (suc i) in
       second ∙ rw (
@@ -209,16 +209,16 @@ module _ {n : ℕ} {bond : ℕ → Bond} {k : ℕ} {rows : List ℕ} (kept : Kep
   unfolding Joins
   bond-new = same-test (isNew bond k) (not here) there back
     where
-      up-left : suc (row (bond k)) ≡ bond k .0
+      up-left : suc (leftOf (bond k)) ≡ bond k .0
       up-left = let low = low-left in omega arith
 
-      up-right : suc (column (bond k)) ≡ bond k .1
+      up-right : suc (rightOf (bond k)) ≡ bond k .1
       up-right = let low = low-right in omega arith
 
       there : isNew bond k ≡ true → not here ≡ true
-      there new = not-of here (false-of here (λ t. met (table .cells _ _ row-fits column-fits .0 t)))
+      there new = not-of here (false-of here (λ t. met (table .cells _ _ left-fits right-fits .0 t)))
         where
-          met : Joins bond k (suc (row (bond k))) (suc (column (bond k))) → ⊥
+          met : Joins bond k (suc (leftOf (bond k))) (suc (rightOf (bond k))) → ⊥
           met (q, h, e) =
               let same : samePair (bond q) (bond k .0, bond k .1) ≡ true = rw (up-left, up-right) at e in
               let other = allBelow-at k (λ j. not (samePair (bond j) (bond k))) new q h in
@@ -232,43 +232,43 @@ module _ {n : ℕ} {bond : ℕ → Bond} {k : ℕ} {rows : List ℕ} (kept : Kep
           other j h = false-of (samePair (bond j) (bond k)) (λ same. clash here (set same) (not-true here clear))
             where
               set : samePair (bond j) (bond k) ≡ true → here ≡ true
-              set same = table .cells _ _ row-fits column-fits .1 (j, h, rw (up-left, up-right) same)
+              set same = table .cells _ _ left-fits right-fits .1 (j, h, rw (up-left, up-right) same)
 
   -- two ones more
-  mirror-clear : here ≡ false → cell one (column (bond k)) (row (bond k)) ≡ false
+  mirror-clear : here ≡ false → cell one (rightOf (bond k)) (leftOf (bond k)) ≡ false
   mirror-clear clear =
-      with-cell (table .bytes) row-fits column-fits column-fits row-fits
-      ∙ rw (image, ne-eqb (row (bond k)) (column (bond k)) differ)
+      with-cell (table .bytes) left-fits right-fits right-fits left-fits
+      ∙ rw (image, ne-eqb (leftOf (bond k)) (rightOf (bond k)) differ)
     where
-      differ : row (bond k) ≡ column (bond k) → ⊥
+      differ : leftOf (bond k) ≡ rightOf (bond k) → ⊥
       differ same =
           let l = low-left in
           let r = low-right in
           kept .apart k (omega arith) (omega arith)
 
       -- the mirrored cell joins the same atoms
-      back : cell rows (column (bond k)) (row (bond k)) ≡ true → here ≡ true
+      back : cell rows (rightOf (bond k)) (leftOf (bond k)) ≡ true → here ≡ true
       back t =
-          table .cells _ _ row-fits column-fits .1
-          (joins-swaps bond k _ _ (table .cells _ _ column-fits row-fits .0 t))
+          table .cells _ _ left-fits right-fits .1
+          (joins-swaps bond k _ _ (table .cells _ _ right-fits left-fits .0 t))
 
-      image : cell rows (column (bond k)) (row (bond k)) ≡ false
-      image = false-of (cell rows (column (bond k)) (row (bond k))) (λ t. clash here (back t) clear)
+      image : cell rows (rightOf (bond k)) (leftOf (bond k)) ≡ false
+      image = false-of (cell rows (rightOf (bond k)) (leftOf (bond k))) (λ t. clash here (back t) clear)
 
   ones-more : noneTwice bond (suc k) ≡ true → onesOf (withBond rows (bond k)) ≡ 2 * suc k
   unfolding noneTwice withBond
   ones-more e =
       let parts = and-parts (noneTwice bond k) (isNew bond k) e in
       let clear = not-true here (sym bond-new ∙ parts .1) in
-      let first = with-cell-ones (table .bytes) row-fits column-fits clear in
-      let second = with-cell-ones one-rows column-fits row-fits (mirror-clear clear) in
+      let first = with-cell-ones (table .bytes) left-fits right-fits clear in
+      let second = with-cell-ones one-rows right-fits left-fits (mirror-clear clear) in
       let before = table .ones-count (parts .0) in
       omega (arith, first, second, before)
 
   table-more : Table bond (suc k) (withBond rows (bond k))
   unfolding withBond
   table-more =
-      record { bytes = with-rows one-rows column-fits row-fits; cells = cells-more; ones-count = ones-more }
+      record { bytes = with-rows one-rows right-fits left-fits; cells = cells-more; ones-count = ones-more }
 
 -- The rows of bonds that keep rules 6 and 7
 pub tables : {n : ℕ} {bond : ℕ → Bond} (m : ℕ) → Kept n bond m → Table bond m (rowsOf bond m)
@@ -279,5 +279,5 @@ tables (suc m) kept = table-more kept (tables m (kept-fewer (omega arith) kept))
 -- a new bond, by the cell that the code looks at
 pub new-bond :
     {n : ℕ} {bond : ℕ → Bond} (k : ℕ) → Kept n bond (suc k) →
-    isNew bond k ≡ not (cell (rowsOf bond k) (row (bond k)) (column (bond k)))
+    isNew bond k ≡ not (cell (rowsOf bond k) (leftOf (bond k)) (rightOf (bond k)))
 new-bond k kept = bond-new kept (tables k (kept-fewer (omega arith) kept))

@@ -46,6 +46,6 @@ pub record Fillable (n : ℕ) (bond : ℕ → Bond) (m : ℕ) : Type 0 where
 
 -- row i and column j, both counted from 0, are a cell of the rows
 pub record CellIn (rows : List ℕ) (i j : ℕ) : Type 0 where
-  pub row : i < 128
-  pub column : j < 128
+  pub row-fits : i < 128
+  pub column-fits : j < 128
   pub size : length rows ≡ 2048

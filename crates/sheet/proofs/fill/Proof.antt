@@ -106,7 +106,7 @@ slice-aggregate-link c = sym (size (search))
 link-requires : tie.Need-link-requires Inv-loop μ-loop
 link-requires c κs =
     let range = atom-range (at-read (search)) in
-    record { row = omega arith; column = omega arith; size = size (search) }
+    record { row-fits = omega arith; column-fits = omega arith; size = size (search) }
 
 -- the rows are as long after the first link
 size-kept : (c : Place tie.After-link) → length (c .link .last .0) ≡ 2048
@@ -118,7 +118,7 @@ slice-aggregate-link-2 c = sym (size-kept (search))
 link-requires-2 : tie.Need-link-requires-2 Inv-loop μ-loop
 link-requires-2 c κs =
     let range = atom-range (at-read (search)) in
-    record { row = omega arith; column = omega arith; size = size-kept (search) }
+    record { row-fits = omega arith; column-fits = omega arith; size = size-kept (search) }
 
 loop-again : tie.Need-loop-again Inv-loop μ-loop
 loop-again c =

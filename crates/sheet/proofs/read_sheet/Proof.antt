@@ -4,7 +4,7 @@ use mathlib.Core.Path.{sym, _∙_}
 use borrow.Author.Tests.{not-true, not-false}
 use borrow.Author.Needs.{needs}
 use Rattle.sheet.proofs.Answers.{sheet-short, sheet-ragged, sheet-bytes}
-use Rattle.sheet.proofs.Reading.{Known, known-atoms, known-bonds, known-size, known-read}
+use Rattle.sheet.proofs.Reading.{StoredSheet, stored-atoms, stored-bonds, stored-size, stored-read}
 use Rattle.sheet.proofs.read_sheet.Statement.{statement}
 use Rattle.sheet.proofs.read_sheet.Tie as tie
 
@@ -27,7 +27,7 @@ first c = c .before
 known :
     (c : tie.After-u16-usize2) →
     let decoded = decoded (first c) in
-    Known (start decoded .args .s .now) (decoded .decode .result .values) (first c .u16-usize .result)
+    StoredSheet (start decoded .args .s .now) (decoded .decode .result .values) (first c .u16-usize .result)
     (c .u16-usize2 .result)
 known c =
     let else1 : tie.Else1 = search in
@@ -63,26 +63,26 @@ returns-3 c =
     c .refused3 .ensures ∙ sym (sheet-bytes _ (else1 .if1 .left) (else2 .if2 .left) broken)
 
 returns-4 : tie.Need-returns-4
-returns-4 c = c .refused4 .ensures ∙ sym (known-atoms (known (search)) (c .before .if4 .taken))
+returns-4 c = c .refused4 .ensures ∙ sym (stored-atoms (known (search)) (c .before .if4 .taken))
 
 returns-5 : tie.Need-returns-5
 returns-5 c =
     let else4 : tie.Else4 = search in
-    c .refused5 .ensures ∙ sym (known-bonds (known (search)) (else4 .if4 .left) (c .before .if5 .taken))
+    c .refused5 .ensures ∙ sym (stored-bonds (known (search)) (else4 .if4 .left) (c .before .if5 .taken))
 
 returns-6 : tie.Need-returns-6
 returns-6 c =
     let else4 : tie.Else4 = search in
     let else5 : tie.Else5 = search in
     c .refused6 .ensures
-    ∙ sym (known-size (known (search)) (else4 .if4 .left) (else5 .if5 .left) (c .before .if6 .taken))
+    ∙ sym (stored-size (known (search)) (else4 .if4 .left) (else5 .if5 .left) (c .before .if6 .taken))
 
 returns-7 : tie.Need-returns-7
 returns-7 c =
     let else4 : tie.Else4 = search in
     let else5 : tie.Else5 = search in
     let else6 : tie.Else6 = search in
-    c .read-bonds .ensures ∙ known-read (known (search)) (else4 .if4 .left) (else5 .if5 .left) (else6 .if6 .left)
+    c .read-bonds .ensures ∙ stored-read (known (search)) (else4 .if4 .left) (else5 .if5 .left) (else6 .if6 .left)
 
 pub read-sheet-spec : {M : Type 1} → statement M
 read-sheet-spec =
