@@ -1,6 +1,6 @@
 -- Rows with one cell set: which cells they have, how many ones, and that they are still 2,048 bytes.
 -- Two cells are the same bit of the same byte exactly when their rows and columns are equal.
-use Prim.Native.Nat.{ℕ, zero, suc, _+_, _-_, _*_, _/_, _%_, _^_, _<_}
+use Prim.Native.Nat.{ℕ, zero, suc, _+_, _*_, _/_, _%_, _^_, _<_}
 use native.Mathlib.Decide.{ℕ-discrete}
 use native.Mathlib.Omega.{arith}
 use mathlib.Core.Path.{_≡_, ap, ap₂, sym, _∙_}

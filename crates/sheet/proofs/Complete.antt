@@ -1,7 +1,7 @@
 -- Every n and list of bonds that keep the rules have a sheet, and it
 -- reads to exactly that record: no reader that refuses all would do.
 -- Line i of the text is what its two numbers are written as, and a written field reads back.
-use Prim.Native.Nat.{ℕ, zero, suc, _+_, _-_, _*_, _/_, _%_, _≤_, _<_}
+use Prim.Native.Nat.{ℕ, zero, suc, _+_, _*_, _/_, _≤_, _<_}
 use native.Mathlib.Nat.{add-zero, mul-mod-right, mul-div-right}
 use native.Mathlib.Omega.{arith}
 use mathlib.Core.Path.{_≡_, refl, ap, ap₂, sym, _∙_}
@@ -60,8 +60,7 @@ module _ (x : Bond) (xs : List Bond) where
   first-right small =
       let skip = drop-at leftText (rightText ++ (10 ∷ restText)) 4 left-length in
       let field = take-at rightText (10 ∷ restText) 4 right-length in
-      rw (skip, field)
-      (written-reads-back 4 (x .1) small (omega arith) (omega arith))
+      rw (skip, field) (written-reads-back 4 (x .1) small (omega arith) (omega arith))
 
   first-end : getD (linesText (x ∷ xs)) 8 0 ≡ 10
   unfolding linesText

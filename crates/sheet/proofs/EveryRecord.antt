@@ -13,7 +13,6 @@ use lib.ListN.{length, getD, length-append, List·getD-append}
 use lib.Seq.{ext-getD, getD-append-seam}
 use lib.Dec.{ltb, eqb}
 use borrow.Author.Tests.{lt-ltb, ltb-true, eq-eqb, eqb-true, eqb-false, ne-eqb, le-leb}
-use Rattle.graph.specs.Every.{allBelow}
 use Rattle.graph.proofs.Below.{clash, false-of, either, and-parts, and-both, same-test, not-of, allBelow-of}
 use Rattle.refusal.specs.declared.Answer.the-variants.{Accepted}
 use Rattle.molecule.specs.declared.Molecule.{Molecule}

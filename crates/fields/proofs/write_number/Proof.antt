@@ -1,6 +1,5 @@
 -- A number written right-justified into the whole slice.
 -- Invariant: the columns still to write, followed by those written, are the field's text.
-use mathlib.Core.Path.{_≡_}
 use lib.ListN.{length, length-set}
 use native.Mathlib.Omega.{arith}
 use Rattle.fields.proofs.Turns.{WrittenFrom, text-none, written-last, written-more, written-all}
