@@ -3,6 +3,7 @@ ghost use mathlib.Core.Path.{_≡_};
 ghost use Prim.Native.Nat.{_+_, _≤_};
 ghost use lib.ListN.{length, drop};
 ghost use Rattle.fields.specs.Field.{digits, readField, column, fieldText, fieldAt, valueAt};
+use widen::u8_u64;
 
 // What a field holds.
 pub enum Number {
@@ -30,16 +31,10 @@ fn more_digits(s: &[u8], from: usize, first: u64) -> Number
         if 999_999_999_999_999_999 < v {
             return Number::Bad;
         }
-        v = v * 10 + wide(b - 48);
+        v = v * 10 + u8_u64(b - 48);
         i += 1;
     }
     Number::Value(v)
-}
-
-fn wide(b: u8) -> u64
-    ensures { λ r. ⌜ r ≡ b ⌝ }
-{
-    b as u64
 }
 
 // Reads a whole slice as one number field.
@@ -56,7 +51,7 @@ pub fn read_number(s: &[u8]) -> Number
             if 57 < b {
                 return Number::Bad;
             }
-            return more_digits(s, i + 1, wide(b - 48));
+            return more_digits(s, i + 1, u8_u64(b - 48));
         }
         i += 1;
     }
@@ -73,7 +68,8 @@ fn column_byte(v: u64) -> u8
     48 + (v % 10) as u8
 }
 
-// Writes a number into the whole slice, right-justified; of a number with more digits than columns the lowest digits are kept.
+// Writes a number into the whole slice, right-justified.
+// Of a number with more digits than columns the lowest digits are kept.
 pub fn write_number(out: &mut [u8], value: u64)
     ensures { λ _. ⌜ now (out .exit) ≡ fieldText (length (now (out .entry))) value ⌝ }
 {

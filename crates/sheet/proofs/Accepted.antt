@@ -5,7 +5,7 @@ use native.Mathlib.Omega.{arith}
 use mathlib.Core.Path.{_≡_, refl, ap, sym, _∙_}
 use mathlib.Core.Bool.{Bool, true, false, _&&_, cond}
 use mathlib.Core.List.{List}
-use mathlib.Core.Logic.{_⊎_, inl, inr, ⊎-elim, _↔_}
+use mathlib.Core.Logic.{_⊎_, inl, inr, _↔_}
 use lib.ListN.{length}
 use lib.Dec.{leb, eqb}
 use borrow.Author.Tests.{leb-true, eqb-true, eq-eqb}
@@ -69,52 +69,62 @@ pub same-pair-cases :
 unfolding samePair
 same-pair-cases x a b e = go (either (eqb (x .0) a && eqb (x .1) b))
   where
+    both : (c d : ℕ) → eqb (x .0) c && eqb (x .1) d ≡ true → (x .0 ≡ c) × (x .1 ≡ d)
+    both c d t =
+        let parts = and-parts (eqb (x .0) c) (eqb (x .1) d) t in
+        (eqb-true (x .0) c (parts .0), eqb-true (x .1) d (parts .1))
+
     go :
         (eqb (x .0) a && eqb (x .1) b ≡ true) ⊎ (eqb (x .0) a && eqb (x .1) b ≡ false) →
         ((x .0 ≡ a) × (x .1 ≡ b)) ⊎ ((x .0 ≡ b) × (x .1 ≡ a))
-    go (inl t) =
-        let p = and-parts (eqb (x .0) a) (eqb (x .1) b) t in inl (eqb-true (x .0) a (p .0), eqb-true (x .1) b (p .1))
-    go (inr f) =
-        let p = and-parts (eqb (x .0) b) (eqb (x .1) a) (rw f at e) in
-        inr (eqb-true (x .0) b (p .0), eqb-true (x .1) a (p .1))
+    go (inl t) = inl (both a b t)
+    go (inr f) = inr (both b a (rw f at e))
+
+-- two different atoms from 1 to n
+record TwoAtoms (n a b : ℕ) : Type 0 where
+  low-left : 1 ≤ a
+  high-left : a ≤ n
+  low-right : 1 ≤ b
+  high-right : b ≤ n
+  differ : a ≡ b → ⊥
 
 module _ (n : ℕ) (bond : ℕ → Bond) (m : ℕ) (kept : Kept n bond m) where
   -- the atoms that a bond joins
-  joined-atoms : (a b : ℕ) → Joins bond m a b → (1 ≤ a) × (a ≤ n) × (1 ≤ b) × (b ≤ n) × (a ≡ b → ⊥)
+  joined-atoms : (a b : ℕ) → Joins bond m a b → TwoAtoms n a b
   unfolding Joins
   joined-atoms a b (q, h, e) =
       let l = kept .left q h in
       let r = kept .right q h in
-      ⊎-elim
-      (λ (w : (bond q .0 ≡ a) × (bond q .1 ≡ b)). (
-        rw (w .0) at (l .0),
-        rw (w .0) at (l .1),
-        rw (w .1) at (r .0),
-        rw (w .1) at (r .1),
-        λ (d : a ≡ b). kept .apart q h (w .0 ∙ d ∙ sym (w .1)),
-      ))
-      (λ (w : (bond q .0 ≡ b) × (bond q .1 ≡ a)). (
-        rw (w .1) at (r .0),
-        rw (w .1) at (r .1),
-        rw (w .0) at (l .0),
-        rw (w .0) at (l .1),
-        λ (d : a ≡ b). kept .apart q h (w .0 ∙ sym d ∙ sym (w .1)),
-      ))
-      (same-pair-cases (bond q) a b e)
+      elim (same-pair-cases (bond q) a b e) [
+        | inl (first, second) ↦ record {
+          low-left = rw first at (l .0);
+          high-left = rw first at (l .1);
+          low-right = rw second at (r .0);
+          high-right = rw second at (r .1);
+          differ = λ same. kept .apart q h (first ∙ same ∙ sym second);
+        }
+        | inr (first, second) ↦ record {
+          low-left = rw second at (r .0);
+          high-left = rw second at (r .1);
+          low-right = rw first at (l .0);
+          high-right = rw first at (l .1);
+          differ = λ same. kept .apart q h (first ∙ sym same ∙ sym second);
+        }
+      ]
 
   table : Table bond m (rowsOf bond m)
-  table = tables n bond m kept
+  table = tables m kept
 
   sound : Sound (rowsOf bond m) n
   unfolding Sound
   sound i j hi hj set =
-      let w = table .cells i j hi hj .0 set in
-      let f = joined-atoms (suc i) (suc j) w in
+      let joins = table .cells i j hi hj .0 set in
+      let atoms = joined-atoms (suc i) (suc j) joins in
       record {
-        row-within = f .1;
-        column-within = f .3;
-        off-diagonal = λ d. f .4 (ap suc d);
-        image = table .cells j i hj hi .1 (joins-swaps bond m (suc i) (suc j) w);
+        row-within = atoms .high-left;
+        column-within = atoms .high-right;
+        off-diagonal = λ d. atoms .differ (ap suc d);
+        image = table .cells j i hj hi .1 (joins-swaps bond m (suc i) (suc j) joins);
       }
 
   -- The pairs that the record has are those that are listed
@@ -123,36 +133,39 @@ module _ (n : ℕ) (bond : ℕ → Bond) (m : ℕ) (kept : Kept n bond m) where
     where
       there : bonded n (rowsOf bond m) a b ≡ true → Joins bond m a b
       there e =
-          let f = bonded-facts n (rowsOf bond m) a b e in
+          let facts = bonded-facts n (rowsOf bond m) a b e in
           let few = kept .few in
           let up-a : suc (a - 1) ≡ a = omega arith in
           let up-b : suc (b - 1) ≡ b = omega arith in
-          rw (up-a, up-b) at (table .cells (a - 1) (b - 1) (omega arith) (omega arith) .0 (f .set))
+          rw (up-a, up-b) at (table .cells (a - 1) (b - 1) (omega arith) (omega arith) .0 (facts .set))
 
       back : Joins bond m a b → bonded n (rowsOf bond m) a b ≡ true
-      back w =
-          let f = joined-atoms a b w in
+      back joins =
+          let atoms = joined-atoms a b joins in
           let few = kept .few in
           let up-a : suc (a - 1) ≡ a = omega arith in
           let up-b : suc (b - 1) ≡ b = omega arith in
-          bonded-cell n (rowsOf bond m) a b (f .0) (f .1) (f .2) (f .3) ∙
-          table .cells (a - 1) (b - 1) (omega arith) (omega arith) .1 (rw (up-a, up-b) w)
+          let set = table .cells (a - 1) (b - 1) (omega arith) (omega arith) .1 (rw (up-a, up-b) joins) in
+          bonded-cell n (rowsOf bond m) a b
+          (atoms .low-left) (atoms .high-left) (atoms .low-right) (atoms .high-right)
+          ∙ set
 
   pub record-well-formed :
       m ≤ 1024 → noneTwice bond m ≡ true → wellFormed (record { atoms = n; bonds = m; rows = rowsOf bond m }) ≡ true
   record-well-formed light twice =
-      rule-in-range (record { atoms = n; bonds = m; rows = rowsOf bond m }) (kept .few) light true
-      (bytes-of-sound (rowsOf bond m) n sound)
+      let bytes = bytes-of-sound (rowsOf bond m) n sound in
+      rule-in-range (record { atoms = n; bonds = m; rows = rowsOf bond m }) (kept .few) light true bytes
       ∙ eq-eqb (onesOf (rowsOf bond m)) (2 * m) (table .ones-count twice)
+
+rules-kept : {s : List ℕ} → Rules s → Kept (atomsOf s) (bondOf s) (bondsOf s)
+rules-kept rules = kept-of (rules .few) (rules .atoms-kept) (rules .none-to-itself)
 
 -- An accepted sheet's record satisfies rule 9
 pub accepted-well-formed : (s : List ℕ) → readSheet s .answer ≡ Accepted → wellFormed (readSheet s .molecule) ≡ true
 accepted-well-formed s e =
-    let r = accepted-rules s e in
-    rw (r .reads)
-    (record-well-formed (atomsOf s) (bondOf s) (bondsOf s)
-    (kept-of (atomsOf s) (bondOf s) (bondsOf s) (r .few) (r .atoms-kept) (r .none-to-itself)) (r .light)
-    (r .none-twice))
+    let rules = accepted-rules s e in
+    let formed = record-well-formed (atomsOf s) (bondOf s) (bondsOf s) (rules-kept rules) in
+    rw (rules .reads) (formed (rules .light) (rules .none-twice))
 
 -- Its atoms, bonds and pairs are the sheet's
 pub record SameAs (s : List ℕ) (mol : Molecule) : Type 0 where
@@ -162,12 +175,6 @@ pub record SameAs (s : List ℕ) (mol : Molecule) : Type 0 where
 
 pub accepted-same : (s : List ℕ) → readSheet s .answer ≡ Accepted → SameAs s (readSheet s .molecule)
 accepted-same s e =
-    let r = accepted-rules s e in
-    rw (r .reads)
-    (record {
-      atoms = refl;
-      bonds = refl;
-      pairs =
-          record-bonds (atomsOf s) (bondOf s) (bondsOf s)
-          (kept-of (atomsOf s) (bondOf s) (bondsOf s) (r .few) (r .atoms-kept) (r .none-to-itself));
-    })
+    let rules = accepted-rules s e in
+    let pairs = record-bonds (atomsOf s) (bondOf s) (bondsOf s) (rules-kept rules) in
+    rw (rules .reads) (record { atoms = refl; bonds = refl; pairs = pairs })

@@ -1,6 +1,6 @@
 -- A byte with one bit set: which bits it has, how many, and that it is still a byte.
 -- By halving: bit k + 1 of a number is bit k of its half.
-use Prim.Native.Nat.{ℕ, zero, suc, _+_, _-_, _*_, _/_, _%_, _^_, _<_}
+use Prim.Native.Nat.{ℕ, zero, suc, _+_, _*_, _/_, _%_, _^_, _<_}
 use native.Mathlib.Nat.{pow-suc, pow-zero, div-one, div-div-eq-div-mul, mul-comm, one-mul}
 use native.Mathlib.Omega.{arith}
 use mathlib.Core.Path.{_≡_, refl, ap, sym, _∙_}
@@ -22,8 +22,14 @@ bit-half x k = ap (λ y. eqb (y % 2) 1) (half-shift x k)
 pub bit-first : (x : ℕ) → bit x 0 ≡ eqb (x % 2) 1
 bit-first x = ap (λ y. eqb (y % 2) 1) (ap (λ p. x / p) (pow-zero 2) ∙ div-one x)
 
--- a number with a bit set, by its half
-with-first : (x : ℕ) → withBit x 0 ≡ x / 2 * 2 + 1
+-- a number with a bit set, by its half: the first bit, and a later one
+abbrev odd : ℕ → ℕ
+odd x = x / 2 * 2 + 1
+
+abbrev onHalf : ℕ → ℕ → ℕ
+onHalf x k = withBit (x / 2) k * 2 + x % 2
+
+with-first : (x : ℕ) → withBit x 0 ≡ odd x
 unfolding withBit
 with-first x = rw (bit-first x) (go (x % 2) refl)
   where
@@ -32,7 +38,7 @@ with-first x = rw (bit-first x) (go (x % 2) refl)
     go (suc zero) e = rw (eq-eqb (x % 2) 1 e) (omega arith)
     go (suc (suc r)) e = absurd (omega arith)
 
-with-later : (x k : ℕ) → withBit x (suc k) ≡ withBit (x / 2) k * 2 + x % 2
+with-later : (x k : ℕ) → withBit x (suc k) ≡ onHalf x k
 unfolding withBit
 with-later x k = rw (bit-half x k) (go (bit (x / 2) k))
   where
@@ -40,43 +46,46 @@ with-later x k = rw (bit-half x k) (go (bit (x / 2) k))
     go true = omega arith
     go false = let p = pow-suc 2 k in omega (arith, p)
 
+-- their lowest bit and their half
+odd-low : (x : ℕ) → odd x % 2 ≡ 1
+odd-low x = omega arith
+
+odd-half : (x : ℕ) → odd x / 2 ≡ x / 2
+odd-half x = omega arith
+
+on-half-low : (x k : ℕ) → onHalf x k % 2 ≡ x % 2
+on-half-low x k = omega arith
+
+on-half-half : (x k : ℕ) → onHalf x k / 2 ≡ withBit (x / 2) k
+on-half-half x k = omega arith
+
 -- The bits of a number with bit k set: those that it had, and k
 pub with-bit : (k x j : ℕ) → bit (withBit x k) j ≡ bit x j || eqb k j
 with-bit zero x zero =
-    rw (with-first x, bit-first (x / 2 * 2 + 1), eq-eqb ((x / 2 * 2 + 1) % 2) 1 (omega arith)) (sym (or-true (bit x 0)))
+    rw (with-first x, bit-first (odd x), eq-eqb (odd x % 2) 1 (odd-low x)) (sym (or-true (bit x 0)))
 with-bit zero x (suc j) =
-    let same : (x / 2 * 2 + 1) / 2 ≡ x / 2 = omega arith in
-    rw (with-first x, bit-half (x / 2 * 2 + 1) j, same, eqb·zero-suc j, or-false (bit x (suc j))) (sym (bit-half x j))
+    rw (with-first x, bit-half (odd x) j, odd-half x, eqb·zero-suc j, or-false (bit x (suc j))) (sym (bit-half x j))
 with-bit (suc k) x zero =
-    let same : (withBit (x / 2) k * 2 + x % 2) % 2 ≡ x % 2 = omega arith in
-    rw (with-later x k, bit-first (withBit (x / 2) k * 2 + x % 2), same, eqb·suc-zero k, or-false (bit x 0))
-    (sym (bit-first x))
+    rw (with-later x k, bit-first (onHalf x k), on-half-low x k, eqb·suc-zero k, or-false (bit x 0)) (sym (bit-first x))
 with-bit (suc k) x (suc j) =
-    let same : (withBit (x / 2) k * 2 + x % 2) / 2 ≡ withBit (x / 2) k = omega arith in
-    rw (with-later x k, bit-half (withBit (x / 2) k * 2 + x % 2) j, same, eqb·suc-suc k j, bit-half x j)
-    (with-bit k (x / 2) j)
+    rw (with-later x k, bit-half (onHalf x k) j, on-half-half x k, eqb·suc-suc k j, bit-half x j) (with-bit k (x / 2) j)
 
 -- One bit more
 pub with-ones : (k x : ℕ) → bit x k ≡ false → ones (withBit x k) ≡ suc (ones x)
 with-ones zero x e =
-    let even : x % 2 ≡ 1 → ⊥ = eqb-false (x % 2) 1 (sym (bit-first x) ∙ e) in
-    let low : (x / 2 * 2 + 1) % 2 ≡ 1 = omega arith in
-    let high : (x / 2 * 2 + 1) / 2 ≡ x / 2 = omega arith in
-    let zero-low : x % 2 ≡ 0 = lower even in
-    rw (with-first x, ones-step (x / 2 * 2 + 1), low, high, ones-step x, zero-low) (omega arith)
+    let clear : x % 2 ≡ 1 → ⊥ = eqb-false (x % 2) 1 (sym (bit-first x) ∙ e) in
+    rw (with-first x, ones-step (odd x), odd-low x, odd-half x, ones-step x, even clear) (omega arith)
   where
-    lower : (x % 2 ≡ 1 → ⊥) → x % 2 ≡ 0
-    lower f = go (x % 2) refl
+    even : (x % 2 ≡ 1 → ⊥) → x % 2 ≡ 0
+    even f = go (x % 2) refl
       where
         go : (r : ℕ) → x % 2 ≡ r → x % 2 ≡ 0
         go zero e = e
         go (suc zero) e = absurd (f e)
         go (suc (suc r)) e = absurd (omega arith)
 with-ones (suc k) x e =
-    let low : (withBit (x / 2) k * 2 + x % 2) % 2 ≡ x % 2 = omega arith in
-    let high : (withBit (x / 2) k * 2 + x % 2) / 2 ≡ withBit (x / 2) k = omega arith in
     let more = with-ones k (x / 2) (sym (bit-half x k) ∙ e) in
-    rw (with-later x k, ones-step (withBit (x / 2) k * 2 + x % 2), low, high, more, ones-step x) (omega arith)
+    rw (with-later x k, ones-step (onHalf x k), on-half-low x k, on-half-half x k, more, ones-step x) (omega arith)
 
 -- It keeps to its number of bits
 pub with-below : (w k x : ℕ) → k < w → x < 2 ^ w → withBit x k < 2 ^ w

@@ -1,7 +1,7 @@
 -- Every n and list of bonds that keep the rules have a sheet, and it
 -- reads to exactly that record: no reader that refuses all would do.
 -- Line i of the text is what its two numbers are written as, and a written field reads back.
-use Prim.Native.Nat.{ℕ, zero, suc, _+_, _-_, _*_, _/_, _%_, _≤_, _<_}
+use Prim.Native.Nat.{ℕ, zero, suc, _+_, _*_, _/_, _≤_, _<_}
 use native.Mathlib.Nat.{add-zero, mul-mod-right, mul-div-right}
 use native.Mathlib.Omega.{arith}
 use mathlib.Core.Path.{_≡_, refl, ap, ap₂, sym, _∙_}
@@ -19,8 +19,9 @@ use Rattle.molecule.proofs.Bonds.{atom-bounds}
 use Rattle.sheet.specs.Bonds.{Bond, atomsKept, noneToItself, noneTwice}
 use Rattle.sheet.specs.Read.{lineKept, lineOf, atomsOf, bondsOf, bondOf, acceptedSheet, readBonds, readSheet}
 use Rattle.sheet.specs.Text.{linesText, sheetText, bondAt}
-use Rattle.sheet.proofs.Lines.{line-good, line-values}
-use Rattle.sheet.proofs.Answers.{bonds-read, sheet-read}
+use Rattle.sheet.specs.Parts.{ReadsLine}
+use Rattle.sheet.proofs.Lines.{entry, line-good}
+use Rattle.sheet.proofs.Answers.{Lined, bonds-read, sheet-read}
 use Rattle.sheet.proofs.Same.{bonds-same}
 use Rattle.sheet.proofs.Stored.{within, atoms-kept-is}
 
@@ -30,45 +31,61 @@ lines-length [] = refl
 lines-length (x ∷ xs) =
     simp (length-append, field-length 4 (x .0), field-length 4 (x .1), lines-length xs) (omega arith)
 
--- the first line of a text
+-- ---- the first line of a text
 
-module _ (x : Bond) (xs : List Bond) (left : x .0 < 10000) (right : x .1 < 10000) where
-  first-left : fieldAt 4 (linesText (x ∷ xs)) 0 ≡ Value (x .0)
+module _ (x : Bond) (xs : List Bond) where
+  abbrev leftText : List ℕ
+  leftText = fieldText 4 (x .0)
+
+  abbrev rightText : List ℕ
+  rightText = fieldText 4 (x .1)
+
+  abbrev restText : List ℕ
+  restText = linesText xs
+
+  left-length : length leftText ≡ 4
+  left-length = field-length 4 (x .0)
+
+  right-length : length rightText ≡ 4
+  right-length = field-length 4 (x .1)
+
+  first-left : x .0 < 10000 → fieldAt 4 (linesText (x ∷ xs)) 0 ≡ Value (x .0)
   unfolding linesText
-  first-left =
-      rw (take-at (fieldText 4 (x .0)) (fieldText 4 (x .1) ++ (10 ∷ linesText xs)) 4 (field-length 4 (x .0)))
-      (written-reads-back 4 (x .0) left (omega arith) (omega arith))
+  first-left small =
+      rw (take-at leftText (rightText ++ (10 ∷ restText)) 4 left-length)
+      (written-reads-back 4 (x .0) small (omega arith) (omega arith))
 
-  first-right : fieldAt 4 (linesText (x ∷ xs)) 4 ≡ Value (x .1)
+  first-right : x .1 < 10000 → fieldAt 4 (linesText (x ∷ xs)) 4 ≡ Value (x .1)
   unfolding linesText
-  first-right =
-      rw (
-        drop-at (fieldText 4 (x .0)) (fieldText 4 (x .1) ++ (10 ∷ linesText xs)) 4 (field-length 4 (x .0)),
-        take-at (fieldText 4 (x .1)) (10 ∷ linesText xs) 4 (field-length 4 (x .1)),
-      )
-      (written-reads-back 4 (x .1) right (omega arith) (omega arith))
+  first-right small =
+      let skip = drop-at leftText (rightText ++ (10 ∷ restText)) 4 left-length in
+      let field = take-at rightText (10 ∷ restText) 4 right-length in
+      rw (skip, field) (written-reads-back 4 (x .1) small (omega arith) (omega arith))
 
--- the rest of the text
-skip-line : (x : Bond) (xs : List Bond) (k : ℕ) → drop (9 + k) (linesText (x ∷ xs)) ≡ drop k (linesText xs)
-unfolding linesText
-skip-line x xs k =
-    let split : fieldText 4 (x .0) ++ (fieldText 4 (x .1) ++ (10 ∷ linesText xs)) ≡
-    (fieldText 4 (x .0) ++ (fieldText 4 (x .1) ++ (10 ∷ []))) ++ linesText xs
-    =
-    sym (append-assoc (fieldText 4 (x .0)) (fieldText 4 (x .1) ++ (10 ∷ [])) (linesText xs) ∙
-    ap (λ l. fieldText 4 (x .0) ++ l) (append-assoc (fieldText 4 (x .1)) (10 ∷ []) (linesText xs))) in
-    let size : length (fieldText 4 (x .0) ++ (fieldText 4 (x .1) ++ (10 ∷ []))) ≡ 9 =
-    simp (length-append, field-length 4 (x .0), field-length 4 (x .1)) in
-    rw (split, ← size) (drop-append-add (fieldText 4 (x .0) ++ (fieldText 4 (x .1) ++ (10 ∷ []))) (linesText xs) k)
+  first-end : getD (linesText (x ∷ xs)) 8 0 ≡ 10
+  unfolding linesText
+  first-end =
+      let outer = getD-append-add leftText (rightText ++ (10 ∷ restText)) 4 0 in
+      let inner = getD-append-add rightText (10 ∷ restText) 0 0 in
+      rw left-length at outer ∙ rw right-length at inner
 
-first-end : (x : Bond) (xs : List Bond) → getD (linesText (x ∷ xs)) 8 0 ≡ 10
-unfolding linesText
-first-end x xs =
-    let outer = getD-append-add (fieldText 4 (x .0)) (fieldText 4 (x .1) ++ (10 ∷ linesText xs)) 4 0 in
-    let inner = getD-append-add (fieldText 4 (x .1)) (10 ∷ linesText xs) 0 0 in
-    rw (field-length 4 (x .0)) at outer ∙ rw (field-length 4 (x .1)) at inner
+  -- its nine bytes, and the rest of the text
+  abbrev nine : List ℕ
+  nine = leftText ++ (rightText ++ (10 ∷ []))
 
--- any line of a text
+  nine-length : length nine ≡ 9
+  nine-length = simp (length-append, left-length, right-length)
+
+  nine-first : linesText (x ∷ xs) ≡ nine ++ restText
+  unfolding linesText
+  nine-first =
+      let inner = append-assoc rightText (10 ∷ []) restText in
+      sym (append-assoc leftText (rightText ++ (10 ∷ [])) restText ∙ ap (λ l. leftText ++ l) inner)
+
+  skip-line : (k : ℕ) → drop (9 + k) (linesText (x ∷ xs)) ≡ drop k (linesText xs)
+  skip-line k = rw (nine-first, ← nine-length) (drop-append-add nine restText k)
+
+-- ---- any line of a text
 
 Small : List Bond → Type 0
 Small xs = (i : ℕ) → i < length xs → (bondAt xs i .0 < 10000) × (bondAt xs i .1 < 10000)
@@ -82,27 +99,29 @@ module _ (x : Bond) (xs : List Bond) (i : ℕ) where
   shift-field : (k : ℕ) → fieldAt 4 (linesText (x ∷ xs)) (9 * suc i + k) ≡ fieldAt 4 (linesText xs) (9 * i + k)
   shift-field k =
       let sum : 9 * suc i + k ≡ 9 + (9 * i + k) = omega arith in
-      ap (λ l. readField (take 4 l)) (ap (λ d. drop d (linesText (x ∷ xs))) sum ∙ skip-line x xs (9 * i + k))
+      let skipped = ap (λ d. drop d (linesText (x ∷ xs))) sum ∙ skip-line x xs (9 * i + k) in
+      ap (λ l. readField (take 4 l)) skipped
 
   shift-byte : getD (linesText (x ∷ xs)) (9 * suc i + 8) 0 ≡ getD (linesText xs) (9 * i + 8) 0
   shift-byte =
       let sum : 9 * suc i + 8 ≡ 9 + (9 * i + 8) = omega arith in
-      ap (λ d. getD (linesText (x ∷ xs)) d 0) sum ∙ sym (getD-drop 9 (linesText (x ∷ xs)) (9 * i + 8) 0) ∙
-      ap (λ l. getD l (9 * i + 8) 0) (skip-line x xs 0)
+      ap (λ d. getD (linesText (x ∷ xs)) d 0) sum
+      ∙ sym (getD-drop 9 (linesText (x ∷ xs)) (9 * i + 8) 0)
+      ∙ ap (λ l. getD l (9 * i + 8) 0) (skip-line x xs 0)
 
 -- the parts of line i
 text-left :
     (xs : List Bond) (i : ℕ) → i < length xs → Small xs → fieldAt 4 (linesText xs) (9 * i + 0) ≡ Value (bondAt xs i .0)
 unfolding Small
 text-left [] i h small = absurd (omega arith)
-text-left (x ∷ xs) zero h small = first-left x xs (small 0 h .0) (small 0 h .1)
+text-left (x ∷ xs) zero h small = first-left x xs (small 0 h .0)
 text-left (x ∷ xs) (suc i) h small = shift-field x xs i 0 ∙ text-left xs i (omega arith) (fewer-small x xs small)
 
 text-right :
     (xs : List Bond) (i : ℕ) → i < length xs → Small xs → fieldAt 4 (linesText xs) (9 * i + 4) ≡ Value (bondAt xs i .1)
 unfolding Small
 text-right [] i h small = absurd (omega arith)
-text-right (x ∷ xs) zero h small = first-right x xs (small 0 h .0) (small 0 h .1)
+text-right (x ∷ xs) zero h small = first-right x xs (small 0 h .1)
 text-right (x ∷ xs) (suc i) h small = shift-field x xs i 4 ∙ text-right xs i (omega arith) (fewer-small x xs small)
 
 text-end : (xs : List Bond) (i : ℕ) → i < length xs → getD (linesText xs) (9 * i + 8) 0 ≡ 10
@@ -112,15 +131,16 @@ text-end (x ∷ xs) (suc i) h = shift-byte x xs i ∙ text-end xs i (omega arith
 
 -- each line is kept, and holds its two numbers
 module _ (xs : List Bond) (small : Small xs) (i : ℕ) (h : i < length xs) where
-  at-left : fieldAt 4 (linesText xs) (9 * i) ≡ Value (bondAt xs i .0)
-  at-left = rw (add-zero (9 * i)) at (text-left xs i h small)
+  text-read : ReadsLine (linesText xs) i (entry (bondAt xs i .0) (bondAt xs i .1))
+  text-read =
+      let left = rw (add-zero (9 * i)) at (text-left xs i h small) in
+      line-good left (text-right xs i h small) (text-end xs i h)
 
   text-kept : lineKept (linesText xs) i ≡ true
-  text-kept =
-      line-good (linesText xs) i (bondAt xs i .0) at-left (bondAt xs i .1) (text-right xs i h small) (text-end xs i h)
+  text-kept = sym (text-read .ok)
 
   text-line : lineOf (linesText xs) i ≡ bondAt xs i
-  text-line = sym (line-values (linesText xs) i (bondAt xs i .0) at-left (bondAt xs i .1) (text-right xs i h small))
+  text-line = sym (text-read .values refl)
 
 -- the numbers of a sheet that keeps the rules are small
 sheet-small :
@@ -129,9 +149,9 @@ sheet-small :
 unfolding Small within
 sheet-small n bonds few light kept zero h = (omega arith, omega arith)
 sheet-small n bonds few light kept (suc k) h =
-    let both = and-parts (isAtom n (bondAt bonds k .0)) (isAtom n (bondAt bonds k .1))
-    (allBelow-at (length bonds) (within n (bondAt bonds)) (sym (atoms-kept-is n (bondAt bonds) (length bonds)) ∙ kept) k
-    (omega arith)) in
+    let all = sym (atoms-kept-is n (bondAt bonds) (length bonds)) ∙ kept in
+    let here = allBelow-at (length bonds) (within n (bondAt bonds)) all k (omega arith) in
+    let both = and-parts (isAtom n (bondAt bonds k .0)) (isAtom n (bondAt bonds k .1)) here in
     let left = atom-bounds n (bondAt bonds k .0) (both .0) in
     let right = atom-bounds n (bondAt bonds k .1) (both .1) in
     (omega arith, omega arith)
@@ -144,8 +164,7 @@ pub every-molecule-has-a-sheet :
     readSheet (sheetText n bonds) ≡ acceptedSheet n (bondAt bonds) (length bonds)
 unfolding sheetText
 every-molecule-has-a-sheet n bonds few light atoms apart twice =
-    sheet-read text long whole lines (rw (← atoms-here) at few) (rw (← bonds-here) at light)
-    (size ∙ sym (ap (λ b. 9 * suc b) bonds-here))
+    sheet-read lined (rw (← atoms-here) at few) (rw (← bonds-here) at light) size-here
     ∙ ap₂ (λ x y. readBonds x (bondOf text) y) atoms-here bonds-here
     ∙ bonds-same n (bondOf text) (bondAt bonds) (length bonds) (λ k h. text-line all small (suc k) (omega arith))
     ∙ bonds-read n (bondAt bonds) (length bonds) atoms apart twice
@@ -162,20 +181,25 @@ every-molecule-has-a-sheet n bonds few light atoms apart twice =
     size : length text ≡ 9 * suc (length bonds)
     size = lines-length all
 
-    long : 9 ≤ length text
-    long = rw size (omega arith)
-
-    whole : length text % 9 ≡ 0
-    whole = rw size (mul-mod-right 9 (suc (length bonds)))
-
     count : length text / 9 ≡ suc (length bonds)
     count = rw size (mul-div-right (suc (length bonds)) (omega arith))
 
     lines : allBelow (length text / 9) (lineKept text) ≡ true
     lines = rw count (allBelow-of (suc (length bonds)) (lineKept text) (λ i h. text-kept all small i h))
 
+    lined : Lined text
+    lined =
+        record {
+          long = rw size (omega arith);
+          whole = rw size (mul-mod-right 9 (suc (length bonds)));
+          lines = lines;
+        }
+
     atoms-here : atomsOf text ≡ n
     atoms-here = ap (λ x. x .0) (text-line all small 0 (omega arith))
 
     bonds-here : bondsOf text ≡ length bonds
     bonds-here = ap (λ x. x .1) (text-line all small 0 (omega arith))
+
+    size-here : length text ≡ 9 * suc (bondsOf text)
+    size-here = size ∙ sym (ap (λ b. 9 * suc b) bonds-here)

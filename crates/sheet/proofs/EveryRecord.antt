@@ -13,7 +13,6 @@ use lib.ListN.{length, getD, length-append, List·getD-append}
 use lib.Seq.{ext-getD, getD-append-seam}
 use lib.Dec.{ltb, eqb}
 use borrow.Author.Tests.{lt-ltb, ltb-true, eq-eqb, eqb-true, eqb-false, ne-eqb, le-leb}
-use Rattle.graph.specs.Every.{allBelow}
 use Rattle.graph.proofs.Below.{clash, false-of, either, and-parts, and-both, same-test, not-of, allBelow-of}
 use Rattle.refusal.specs.declared.Answer.the-variants.{Accepted}
 use Rattle.molecule.specs.declared.Molecule.{Molecule}
@@ -27,7 +26,7 @@ use Rattle.sheet.proofs.Bits.{bit-half, bit-first}
 use Rattle.sheet.proofs.Cells.{Rows}
 use Rattle.sheet.proofs.Stored.{within, differs, atoms-kept-is, none-to-itself-is}
 use Rattle.sheet.proofs.Same.{twice-same}
-use Rattle.sheet.proofs.Tables.{Joins, Table, kept-of, tables}
+use Rattle.sheet.proofs.Tables.{Joins, Table, kept-of, isNew, tables}
 use Rattle.sheet.proofs.Accepted.{same-pair-cases}
 use Rattle.sheet.proofs.Complete.{every-molecule-has-a-sheet}
 
@@ -44,25 +43,28 @@ same-bits : (w x y : ℕ) → x < 2 ^ w → y < 2 ^ w → ((k : ℕ) → k < w �
 same-bits zero x y hx hy e = omega (arith, pow-zero 2)
 same-bits (suc w) x y hx hy e =
     let p = pow-suc 2 w in
-    let halves : x / 2 ≡ y / 2 =
-    same-bits w (x / 2) (y / 2) (omega arith) (omega arith)
-    (λ k h. sym (bit-half x k) ∙ e (suc k) (omega arith) ∙ bit-half y k) in
-    let digits : x % 2 ≡ y % 2 =
-    same-digit (x % 2) (y % 2) (omega arith) (omega arith) (sym (bit-first x) ∙ e 0 (omega arith) ∙ bit-first y) in
-    omega arith
+    let first = sym (bit-first x) ∙ e 0 (omega arith) ∙ bit-first y in
+    let digits = same-digit (x % 2) (y % 2) (omega arith) (omega arith) first in
+    let halves = same-bits w (x / 2) (y / 2) (omega arith) (omega arith) half-bits in
+    omega (arith, digits, halves)
+  where
+    half-bits : (k : ℕ) → k < w → bit (x / 2) k ≡ bit (y / 2) k
+    half-bits k h = sym (bit-half x k) ∙ e (suc k) (omega arith) ∙ bit-half y k
 
 same-rows : (a b : List ℕ) → Rows a → Rows b → ((i j : ℕ) → i < 128 → j < 128 → cell a i j ≡ cell b i j) → a ≡ b
 unfolding cell
 same-rows a b ra rb e =
-    ext-getD 0 a b (ra .size ∙ sym (rb .size))
-    (λ at h. same-bits 8 (getD a at 0) (getD b at 0) (ra .byte at) (rb .byte at)
-    (λ k l. here at k (omega (arith, ra .size)) l))
+    ext-getD 0 a b (ra .size ∙ sym (rb .size)) (λ at h. same-byte at (omega (arith, ra .size)))
   where
     here : (at k : ℕ) → at < 2048 → k < 8 → bit (getD a at 0) k ≡ bit (getD b at 0) k
     here at k place offset =
-        let same-byte : 16 * (at / 16) + (at % 16 * 8 + k) / 8 ≡ at = omega arith in
+        let same-place : 16 * (at / 16) + (at % 16 * 8 + k) / 8 ≡ at = omega arith in
         let same-bit : (at % 16 * 8 + k) % 8 ≡ k = omega arith in
-        rw (same-byte, same-bit) at (e (at / 16) (at % 16 * 8 + k) (omega arith) (omega arith))
+        rw (same-place, same-bit) at (e (at / 16) (at % 16 * 8 + k) (omega arith) (omega arith))
+
+    same-byte : (at : ℕ) → at < 2048 → getD a at 0 ≡ getD b at 0
+    same-byte at place =
+        same-bits 8 (getD a at 0) (getD b at 0) (ra .byte at) (rb .byte at) (λ k l. here at k place l)
 
 -- ---- the bonds of rows
 
@@ -96,33 +98,53 @@ pairs-differ rows p k h e f =
     let a = above-parts rows p e in
     let b = above-parts rows k f in
     false-of (samePair (pairOf p) (pairOf k))
-    (λ t. ⊎-elim
-    (λ (w : (suc (p / 128) ≡ suc (k / 128)) × (suc (p % 128) ≡ suc (k % 128))). omega arith)
-    (λ (w : (suc (p / 128) ≡ suc (k % 128)) × (suc (p % 128) ≡ suc (k / 128))). omega arith)
-    (same-pair-cases (pairOf p) (suc (k / 128)) (suc (k % 128)) t))
+    (λ same. elim (same-pair-cases (pairOf p) (suc (k / 128)) (suc (k % 128)) same) [
+      | inl (left, right) ↦ omega arith
+      | inr (left, right) ↦ omega arith
+    ])
 
 -- the pairs of the first k places
 unfoldable bondsTo : List ℕ → ℕ → List Bond
 bondsTo rows zero = []
 bondsTo rows (suc k) = cond (above rows k) (bondsTo rows k ++ (pairOf k ∷ [])) (bondsTo rows k)
 
+-- a place below k that bond q is the pair of
+record PlaceOf (rows : List ℕ) (k : ℕ) (bonds : List Bond) (q : ℕ) : Type 0 where
+  place : ℕ
+  below : place < k
+  upper : above rows place ≡ true
+  pair : bondAt bonds q ≡ pairOf place
+
+-- a bond that is the pair of place p
+record BondOf (bonds : List Bond) (p : ℕ) : Type 0 where
+  number : ℕ
+  inside : number < length bonds
+  pair : bondAt bonds number ≡ pairOf p
+
 -- bonds are exactly those pairs, each once
 record Pairs (rows : List ℕ) (k : ℕ) (bonds : List Bond) : Type 0 where
-  from : (q : ℕ) → q < length bonds → (p : ℕ) × (p < k) × (above rows p ≡ true) × (bondAt bonds q ≡ pairOf p)
-  to : (p : ℕ) → p < k → above rows p ≡ true → (q : ℕ) × (q < length bonds) × (bondAt bonds q ≡ pairOf p)
+  place-of : (q : ℕ) → q < length bonds → PlaceOf rows k bonds q
+  bond-of : (p : ℕ) → p < k → above rows p ≡ true → BondOf bonds p
   once : noneTwice (bondAt bonds) (length bonds) ≡ true
 
 module _ (rows : List ℕ) (k : ℕ) (bonds : List Bond) (f : Pairs rows k bonds) where
+  -- place k has no bond
   pairs-same : above rows k ≡ false → Pairs rows (suc k) bonds
-  pairs-same e = record {
-    from = λ q h. let w = f .from q h in (w .0, omega arith, w .2, w .3);
-    to =
-        λ p h t. f .to p
-        (⊎-elim (λ (s : p ≡ k). absurd (clash (above rows p) t (ap (above rows) s ∙ e))) (λ (l : p < k). l)
-        (eq-or-lt-of-le (omega arith))) t;
-    once = f .once;
-  }
+  pairs-same none = record { place-of = place-of; bond-of = bond-of; once = f .once }
+    where
+      place-of : (q : ℕ) → q < length bonds → PlaceOf rows (suc k) bonds q
+      place-of q h =
+          let old = f .place-of q h in
+          record { place = old .place; below = omega (arith, old .below); upper = old .upper; pair = old .pair }
 
+      bond-of : (p : ℕ) → p < suc k → above rows p ≡ true → BondOf bonds p
+      bond-of p h t =
+          ⊎-elim
+          (λ (last : p ≡ k). absurd (clash (above rows p) t (ap (above rows) last ∙ none)))
+          (λ (before : p < k). f .bond-of p before t)
+          (eq-or-lt-of-le (omega arith))
+
+  -- it has one
   module _ (e : above rows k ≡ true) where
     abbrev longer : List Bond
     longer = bonds ++ (pairOf k ∷ [])
@@ -136,36 +158,72 @@ module _ (rows : List ℕ) (k : ℕ) (bonds : List Bond) (f : Pairs rows k bonds
     last : bondAt longer (length bonds) ≡ pairOf k
     last = getD-append-seam bonds (pairOf k) [] (0, 0)
 
-    new : allBelow (length bonds) (λ j. not (samePair (bondAt longer j) (bondAt longer (length bonds)))) ≡ true
+    differs-from-last : (j : ℕ) → j < length bonds → samePair (bondAt longer j) (bondAt longer (length bonds)) ≡ false
+    differs-from-last j h =
+        let old = f .place-of j h in
+        ap₂ samePair (earlier j h ∙ old .pair) last
+        ∙ pairs-differ rows (old .place) k (old .below) (old .upper) e
+
+    new : isNew (bondAt longer) (length bonds) ≡ true
     new =
         allBelow-of (length bonds) (λ j. not (samePair (bondAt longer j) (bondAt longer (length bonds))))
-        (λ j h. let w = f .from j h in
-        not-of (samePair (bondAt longer j) (bondAt longer (length bonds)))
-        (ap₂ samePair (earlier j h ∙ w .3) last ∙ pairs-differ rows (w .0) k (w .1) (w .2) e))
+        (λ j h. not-of (samePair (bondAt longer j) (bondAt longer (length bonds))) (differs-from-last j h))
 
     longer-once : noneTwice (bondAt longer) (suc (length bonds)) ≡ true
     unfolding noneTwice
     longer-once =
-        and-both (noneTwice (bondAt longer) (length bonds))
-        (allBelow (length bonds) (λ j. not (samePair (bondAt longer j) (bondAt longer (length bonds)))))
-        (twice-same 0 (bondAt longer) (bondAt bonds) (length bonds) earlier ∙ f .once) new
+        let before = twice-same earlier ∙ f .once in
+        and-both (noneTwice (bondAt longer) (length bonds)) (isNew (bondAt longer) (length bonds)) before new
 
     pairs-longer : Pairs rows (suc k) longer
-    pairs-longer = record {
-      from = λ q h. ⊎-elim
-          (λ (s : q ≡ length bonds). (k, omega arith, e, ap (bondAt longer) s ∙ last))
-          (λ (l : q < length bonds). let w = f .from q l in (w .0, omega arith, w .2, earlier q l ∙ w .3))
-          (eq-or-lt-of-le (omega (arith, longer-length)));
-      to = λ p h t. ⊎-elim
-          (λ (s : p ≡ k). (length bonds, omega (arith, longer-length), last ∙ ap pairOf (sym s)))
-          (λ (l : p < k). let w = f .to p l t in (w .0, omega (arith, longer-length), earlier (w .0) (w .1) ∙ w .2))
-          (eq-or-lt-of-le (omega arith));
-      once = rw longer-length longer-once;
-    }
+    pairs-longer = record { place-of = place-of; bond-of = bond-of; once = rw longer-length longer-once }
+      where
+        old-place : (q : ℕ) → q < length bonds → PlaceOf rows (suc k) longer q
+        old-place q h =
+            let old = f .place-of q h in
+            record {
+              place = old .place;
+              below = omega (arith, old .below);
+              upper = old .upper;
+              pair = earlier q h ∙ old .pair;
+            }
+
+        place-of : (q : ℕ) → q < length longer → PlaceOf rows (suc k) longer q
+        place-of q h =
+            ⊎-elim
+            (λ (s : q ≡ length bonds). record {
+              place = k;
+              below = omega arith;
+              upper = e;
+              pair = ap (bondAt longer) s ∙ last;
+            })
+            (λ (l : q < length bonds). old-place q l)
+            (eq-or-lt-of-le (omega (arith, longer-length)))
+
+        old-bond : (p : ℕ) → p < k → above rows p ≡ true → BondOf longer p
+        old-bond p h t =
+            let old = f .bond-of p h t in
+            record {
+              number = old .number;
+              inside = omega (arith, longer-length, old .inside);
+              pair = earlier (old .number) (old .inside) ∙ old .pair;
+            }
+
+        bond-of : (p : ℕ) → p < suc k → above rows p ≡ true → BondOf longer p
+        bond-of p h t =
+            ⊎-elim
+            (λ (s : p ≡ k). record {
+              number = length bonds;
+              inside = omega (arith, longer-length);
+              pair = last ∙ ap pairOf (sym s);
+            })
+            (λ (l : p < k). old-bond p l t)
+            (eq-or-lt-of-le (omega arith))
 
 pairs-listed : (rows : List ℕ) (k : ℕ) → Pairs rows k (bondsTo rows k)
 unfolding bondsTo noneTwice
-pairs-listed rows zero = record { from = λ q h. absurd (omega arith); to = λ p h t. absurd (omega arith); once = refl }
+pairs-listed rows zero =
+    record { place-of = λ q h. absurd (omega arith); bond-of = λ p h t. absurd (omega arith); once = refl }
 pairs-listed rows (suc k) = go (pairs-listed rows k) (either (above rows k))
   where
     go :
@@ -176,96 +234,114 @@ pairs-listed rows (suc k) = go (pairs-listed rows k) (either (above rows k))
 
 -- ---- they keep the rules, and their rows are the record's
 
-module _ (n : ℕ) (few : n ≤ 128) (rows : List ℕ) (bytes : Rows rows) (sound : Sound rows n) (bonds : List Bond)
+module _ {n : ℕ} {rows : List ℕ} {bonds : List Bond} (few : n ≤ 128) (bytes : Rows rows) (sound : Sound rows n)
     (f : Pairs rows 16384 bonds) where
+  abbrev total : ℕ
+  total = length bonds
+
+  -- the cell of bond q, and its image
+  mirror :
+      (q : ℕ) (h : q < total) →
+      let p = f .place-of q h .place in
+      Mirror rows n (p / 128) (p % 128)
+  unfolding Sound
+  mirror q h =
+      let at = f .place-of q h in
+      let upper = above-parts rows (at .place) (at .upper) in
+      sound (at .place / 128) (at .place % 128) (omega (arith, at .below)) (omega arith) (upper .1)
+
   -- bond q joins two different atoms
   joined :
-      (q : ℕ) → q < length bonds → (1 ≤ bondAt bonds q .0) × (bondAt bonds q .0 < bondAt bonds q .1) ×
-      (bondAt bonds q .1 ≤ n)
-  unfolding Sound
+      (q : ℕ) → q < total →
+      let bond = bondAt bonds q in
+      (1 ≤ bond .0) × (bond .0 < bond .1) × (bond .1 ≤ n)
   joined q h =
-      let w = f .from q h in
-      let a = above-parts rows (w .0) (w .2) in
-      let m = sound (w .0 / 128) (w .0 % 128) (omega (arith, w .1)) (omega arith) (a .1) in
-      rw (w .3) (omega arith, omega arith, omega (arith, m .column-within))
+      let at = f .place-of q h in
+      let upper = above-parts rows (at .place) (at .upper) in
+      rw (at .pair) (omega arith, omega arith, omega (arith, mirror q h .column-within))
 
-  bonds-atoms : atomsKept n (bondAt bonds) (length bonds) ≡ true
+  bonds-atoms : atomsKept n (bondAt bonds) total ≡ true
   unfolding within
-  bonds-atoms =
-      atoms-kept-is n (bondAt bonds) (length bonds)
-      ∙ allBelow-of (length bonds) (within n (bondAt bonds))
-      (λ q h. let j = joined q h in
-      rw (
-        le-leb 1 (bondAt bonds q .0) (j .0),
-        le-leb (bondAt bonds q .0) n (omega arith),
-        le-leb 1 (bondAt bonds q .1) (omega arith),
-        le-leb (bondAt bonds q .1) n (j .2),
-      ))
+  bonds-atoms = atoms-kept-is n (bondAt bonds) total ∙ allBelow-of total (within n (bondAt bonds)) here
+    where
+      here : (q : ℕ) → q < total → within n (bondAt bonds) q ≡ true
+      here q h =
+          let ends = joined q h in
+          rw (
+            le-leb 1 (bondAt bonds q .0) (ends .0),
+            le-leb (bondAt bonds q .0) n (omega arith),
+            le-leb 1 (bondAt bonds q .1) (omega arith),
+            le-leb (bondAt bonds q .1) n (ends .2),
+          )
 
-  bonds-apart : noneToItself (bondAt bonds) (length bonds) ≡ true
+  bonds-apart : noneToItself (bondAt bonds) total ≡ true
   unfolding differs
-  bonds-apart =
-      none-to-itself-is (bondAt bonds) (length bonds)
-      ∙ allBelow-of (length bonds) (differs (bondAt bonds))
-      (λ q h. let j = joined q h in rw (ne-eqb (bondAt bonds q .0) (bondAt bonds q .1) (λ e. omega arith)))
+  bonds-apart = none-to-itself-is (bondAt bonds) total ∙ allBelow-of total (differs (bondAt bonds)) here
+    where
+      here : (q : ℕ) → q < total → differs (bondAt bonds) q ≡ true
+      here q h = let ends = joined q h in rw (ne-eqb (bondAt bonds q .0) (bondAt bonds q .1) (λ e. omega arith))
 
-  table : Table (bondAt bonds) (length bonds) (rowsOf (bondAt bonds) (length bonds))
-  table = tables n (bondAt bonds) (length bonds) (kept-of n (bondAt bonds) (length bonds) few bonds-atoms bonds-apart)
+  table : Table (bondAt bonds) total (rowsOf (bondAt bonds) total)
+  table = tables total (kept-of few bonds-atoms bonds-apart)
 
   -- a bit above the diagonal is a bond
-  upper :
-      (i j : ℕ) → i < j → j < 128 → cell rows i j ≡ true → (q : ℕ) × (q < length bonds) ×
-      (bondAt bonds q ≡ (suc i, suc j))
+  upper : (i j : ℕ) → i < j → j < 128 → cell rows i j ≡ true → (q : ℕ) × (q < total) × (bondAt bonds q ≡ (suc i, suc j))
   upper i j h hj e =
-      let w = f .to (128 * i + j) (omega arith) (above-of rows i j hj h e) in
+      let bond = f .bond-of (128 * i + j) (omega arith) (above-of rows i j hj h e) in
       let row : (128 * i + j) / 128 ≡ i = omega arith in
       let column : (128 * i + j) % 128 ≡ j = omega arith in
-      (w .0, w .1, w .2 ∙ rw (row, column))
+      (bond .number, bond .inside, bond .pair ∙ rw (row, column))
 
-  cells-there :
-      (i j : ℕ) → i < 128 → j < 128 → cell rows i j ≡ true → Joins (bondAt bonds) (length bonds) (suc i) (suc j)
+  -- a set bit is a bond, in one order of its atoms or the other
+  cells-there : (i j : ℕ) → i < 128 → j < 128 → cell rows i j ≡ true → Joins (bondAt bonds) total (suc i) (suc j)
   unfolding Joins samePair Sound
   cells-there i j hi hj e = go (decLt i j) (sound i j hi hj e)
     where
-      go :
-          Dec (i < j) → Mirror rows n i j → (q : ℕ) × (q < length bonds) ×
-          (samePair (bondAt bonds q) (suc i, suc j) ≡ true)
+      same-i : eqb (suc i) (suc i) ≡ true
+      same-i = eq-eqb (suc i) (suc i) refl
+
+      same-j : eqb (suc j) (suc j) ≡ true
+      same-j = eq-eqb (suc j) (suc j) refl
+
+      go : Dec (i < j) → Mirror rows n i j → (q : ℕ) × (q < total) × (samePair (bondAt bonds q) (suc i, suc j) ≡ true)
       go (yes h) m =
-          let w = upper i j h hj e in
-          (w .0, w .1, rw (w .2, eq-eqb (suc i) (suc i) refl, eq-eqb (suc j) (suc j) refl))
+          let bond = upper i j h hj e in
+          (bond .0, bond .1, rw (bond .2, same-i, same-j))
       go (no h) m =
           let off = m .off-diagonal in
-          let w = upper j i (omega arith) hi (m .image) in (
-            w .0,
-            w .1,
-            rw (w .2, eq-eqb (suc i) (suc i) refl, eq-eqb (suc j) (suc j) refl)
-                (or-true (eqb (suc j) (suc i) && eqb (suc i) (suc j))),
-          )
+          let bond = upper j i (omega arith) hi (m .image) in
+          let same = or-true (eqb (suc j) (suc i) && eqb (suc i) (suc j)) in
+          (bond .0, bond .1, rw (bond .2, same-i, same-j) same)
 
-  cells-back :
-      (i j : ℕ) → i < 128 → j < 128 → Joins (bondAt bonds) (length bonds) (suc i) (suc j) → cell rows i j ≡ true
-  unfolding Joins Sound
+  cells-back : (i j : ℕ) → i < 128 → j < 128 → Joins (bondAt bonds) total (suc i) (suc j) → cell rows i j ≡ true
+  unfolding Joins
   cells-back i j hi hj (q, h, e) =
-      let w = f .from q h in
-      let a = above-parts rows (w .0) (w .2) in
-      let m = sound (w .0 / 128) (w .0 % 128) (omega (arith, w .1)) (omega arith) (a .1) in
-      ⊎-elim
-      (λ (v : (suc (w .0 / 128) ≡ suc i) × (suc (w .0 % 128) ≡ suc j)).
-      let row : w .0 / 128 ≡ i = omega arith in let column : w .0 % 128 ≡ j = omega arith in rw (row, column) at (a .1))
-      (λ (v : (suc (w .0 / 128) ≡ suc j) × (suc (w .0 % 128) ≡ suc i)).
-      let row : w .0 / 128 ≡ j = omega arith in let column : w .0 % 128 ≡ i = omega arith in
-      rw (row, column) at (m .image))
-      (same-pair-cases (pairOf (w .0)) (suc i) (suc j) (rw (w .3) at e))
+      let at = f .place-of q h in
+      let p = at .place in
+      let upper = above-parts rows p (at .upper) in
+      let same : samePair (pairOf p) (suc i, suc j) ≡ true = rw (at .pair) at e in
+      elim (same-pair-cases (pairOf p) (suc i) (suc j) same) [
+        | inl (left, right) ↦
+            let row : p / 128 ≡ i = omega arith in
+            let column : p % 128 ≡ j = omega arith in
+            rw (row, column) at (upper .1)
+        | inr (left, right) ↦
+            let row : p / 128 ≡ j = omega arith in
+            let column : p % 128 ≡ i = omega arith in
+            rw (row, column) at (mirror q h .image)
+      ]
 
-  rows-are : rowsOf (bondAt bonds) (length bonds) ≡ rows
-  rows-are =
-      same-rows (rowsOf (bondAt bonds) (length bonds)) rows (table .bytes) bytes
-      (λ i j hi hj. same-test (cell (rowsOf (bondAt bonds) (length bonds)) i j) (cell rows i j)
-      (λ t. cells-back i j hi hj (table .cells i j hi hj .0 t))
-      (λ t. table .cells i j hi hj .1 (cells-there i j hi hj t)))
+  rows-are : rowsOf (bondAt bonds) total ≡ rows
+  rows-are = same-rows (rowsOf (bondAt bonds) total) rows (table .bytes) bytes same-cell
+    where
+      same-cell : (i j : ℕ) → i < 128 → j < 128 → cell (rowsOf (bondAt bonds) total) i j ≡ cell rows i j
+      same-cell i j hi hj =
+          same-test (cell (rowsOf (bondAt bonds) total) i j) (cell rows i j)
+          (λ t. cells-back i j hi hj (table .cells i j hi hj .0 t))
+          (λ t. table .cells i j hi hj .1 (cells-there i j hi hj t))
 
   -- two ones for each of them
-  ones-are : onesOf rows ≡ 2 * length bonds
+  ones-are : onesOf rows ≡ 2 * total
   ones-are = ap onesOf (sym rows-are) ∙ table .ones-count (f .once)
 
 -- Every record that rule 9 allows, its rows 2,048 bytes as the struct has them, is read from a sheet
@@ -275,22 +351,22 @@ pub every-record-has-a-sheet :
 every-record-has-a-sheet mol formed size byte =
     let rule = rule9 mol formed in
     let sound = sound-of-rules (mol .rows) (mol .atoms) (rule .rows-sound) in
-    go (bondsTo (mol .rows) 16384) (pairs-listed (mol .rows) 16384) (rule .atoms-high) (rule .bonds-high) sound
-    (eqb-true (onesOf (mol .rows)) (2 * mol .bonds) (rule .ones-count))
+    let ones-count = eqb-true (onesOf (mol .rows)) (2 * mol .bonds) (rule .ones-count) in
+    let listed = pairs-listed (mol .rows) 16384 in
+    go (bondsTo (mol .rows) 16384) listed (rule .atoms-high) (rule .bonds-high) sound ones-count
   where
+    bytes : Rows (mol .rows)
+    bytes = record { size = size; byte = byte }
+
     go :
         (bonds : List Bond) → Pairs (mol .rows) 16384 bonds → mol .atoms ≤ 128 → mol .bonds ≤ 1024 →
         Sound (mol .rows) (mol .atoms) → onesOf (mol .rows) ≡ 2 * mol .bonds →
         (s : List ℕ) × (readSheet s ≡ record { answer = Accepted; molecule = mol })
-    go bonds f few light sound count =
-        let bytes : Rows (mol .rows) = record { size = size; byte = byte } in
-        let as-many : length bonds ≡ mol .bonds =
-        omega (arith, ones-are (mol .atoms) few (mol .rows) bytes sound bonds f) in
-        let same : rowsOf (bondAt bonds) (length bonds) ≡ mol .rows =
-        rows-are (mol .atoms) few (mol .rows) bytes sound bonds f in (
-          sheetText (mol .atoms) bonds,
-          every-molecule-has-a-sheet (mol .atoms) bonds few (omega arith)
-              (bonds-atoms (mol .atoms) few (mol .rows) bytes sound bonds f)
-              (bonds-apart (mol .atoms) few (mol .rows) bytes sound bonds f) (f .once)
-              ∙ rw (same, as-many),
-        )
+    go bonds f few light sound ones-count =
+        let ones = ones-are few bytes sound f in
+        let as-many : length bonds ≡ mol .bonds = omega (arith, ones) in
+        let same : rowsOf (bondAt bonds) (length bonds) ≡ mol .rows = rows-are few bytes sound f in
+        let atoms = bonds-atoms few bytes sound f in
+        let apart = bonds-apart few bytes sound f in
+        let sheet = every-molecule-has-a-sheet (mol .atoms) bonds few (omega arith) atoms apart (f .once) in
+        (sheetText (mol .atoms) bonds, sheet ∙ rw (same, as-many))

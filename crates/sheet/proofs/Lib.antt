@@ -4,7 +4,9 @@ pub mod Bits
 pub mod Cells
 pub mod Complete
 pub mod EveryRecord
+pub mod Filling
 pub mod Lines
+pub mod Reading
 pub mod Same
 pub mod Stored
 pub mod Tables

@@ -1,48 +1,63 @@
--- One line of a sheet, by what its fields and its end are, and the list of values after one line more.
+-- One line of a sheet, by what its fields and its end are, and the loop that stores their numbers.
 -- The definitions go by tests, so each case follows by rewriting them.
-use Prim.Native.Nat.{ℕ, min, _+_, _-_, _*_, _^_, _≤_, _<_}
+use Prim.Native.Nat.{ℕ, min, _+_, _*_, _^_, _≤_, _<_}
 use native.Mathlib.Nat.{pow-le-pow-right, eq-or-lt-of-le}
 use native.Mathlib.Omega.{arith}
-use mathlib.Core.Path.{_≡_, ap, ap₂, sym, _∙_}
-use mathlib.Core.Bool.{true, false}
+use mathlib.Core.Path.{_≡_, refl, ap, ap₂, sym, _∙_}
+use mathlib.Core.Bool.{true, false, true≢false}
 use mathlib.Core.List.{List}
-use mathlib.Core.Logic.{⊎-elim, _⊎_}
-use lib.ListN.{length, getD, set, take, drop, length-set, length-take}
+use mathlib.Core.Logic.{⊎-elim}
+use lib.ListN.{length, getD, set, take, drop, replicate, length-set, length-take}
 use lib.Seq.{getD-set-same, getD-set-other}
 use borrow.Author.Tests.{eq-eqb, ne-eqb}
+use Rattle.graph.specs.Every.{allBelow}
+use Rattle.graph.proofs.Loops.{all-fails, all-more}
 use Rattle.fields.specs.declared.Number.the-variants.{Value, Bad}
 use Rattle.fields.specs.Field.{fieldAt}
 use Rattle.fields.proofs.Laws.{read-fits}
+use Rattle.sheet.specs.declared.Entry.{Entry}
 use Rattle.sheet.specs.Bonds.{Bond}
 use Rattle.sheet.specs.Read.{lineKept, lineOf}
-use Rattle.sheet.specs.Parts.{stored, Decodes}
+use Rattle.sheet.specs.Parts.{stored, Decodes, ReadsLine, ReadsLines}
 
-module _ (s : List ℕ) (i : ℕ) where
-  pub line-left-bad : fieldAt 4 s (9 * i) ≡ Bad → lineKept s i ≡ false
+-- ---- one line
+
+-- what the code returns for a line that is not kept, and for one that is
+abbrev pub noEntry : Entry
+noEntry = record { ok = false; left = 0; right = 0 }
+
+abbrev pub entry : ℕ → ℕ → Entry
+entry a b = record { ok = true; left = a; right = b }
+
+reads-none : {s : List ℕ} {i : ℕ} → lineKept s i ≡ false → ReadsLine s i noEntry
+reads-none bad = record { ok = sym bad; values = λ e. absurd (true≢false (sym e)) }
+
+module _ {s : List ℕ} {i : ℕ} where
+  pub line-left-bad : fieldAt 4 s (9 * i) ≡ Bad → ReadsLine s i noEntry
   unfolding lineKept
-  line-left-bad e = rw e
+  line-left-bad e = reads-none (rw e)
 
-  module _ (a : ℕ) (left : fieldAt 4 s (9 * i) ≡ Value a) where
-    pub line-right-bad : fieldAt 4 s (9 * i + 4) ≡ Bad → lineKept s i ≡ false
+  module _ {a : ℕ} (left : fieldAt 4 s (9 * i) ≡ Value a) where
+    pub line-right-bad : fieldAt 4 s (9 * i + 4) ≡ Bad → ReadsLine s i noEntry
     unfolding lineKept
-    line-right-bad e = rw (left, e)
+    line-right-bad e = reads-none (rw (left, e))
 
-    module _ (b : ℕ) (right : fieldAt 4 s (9 * i + 4) ≡ Value b) where
-      pub line-end-bad : (getD s (9 * i + 8) 0 ≡ 10 → ⊥) → lineKept s i ≡ false
+    module _ {b : ℕ} (right : fieldAt 4 s (9 * i + 4) ≡ Value b) where
+      pub line-end-bad : (getD s (9 * i + 8) 0 ≡ 10 → ⊥) → ReadsLine s i noEntry
       unfolding lineKept
-      line-end-bad e = rw (left, right, ne-eqb (getD s (9 * i + 8) 0) 10 e)
+      line-end-bad e = reads-none (rw (left, right, ne-eqb (getD s (9 * i + 8) 0) 10 e))
 
-      pub line-good : getD s (9 * i + 8) 0 ≡ 10 → lineKept s i ≡ true
-      unfolding lineKept
-      line-good e = rw (left, right, eq-eqb (getD s (9 * i + 8) 0) 10 e)
-
-      pub line-values : (a, b) ≡ lineOf s i
-      unfolding lineOf
-      line-values = rw (left, right)
+      pub line-good : getD s (9 * i + 8) 0 ≡ 10 → ReadsLine s i (entry a b)
+      unfolding lineKept lineOf
+      line-good e =
+          record {
+            ok = rw (left, right, eq-eqb (getD s (9 * i + 8) 0) 10 e);
+            values = λ k. rw (left, right);
+          }
 
 -- the value of a field of 4 columns has at most 4 digits
-pub field-small : (s : List ℕ) (at v : ℕ) → fieldAt 4 s at ≡ Value v → v < 2 ^ 16
-field-small s at v e =
+pub field-small : (s : List ℕ) (at : ℕ) {v : ℕ} → fieldAt 4 s at ≡ Value v → v < 2 ^ 16
+field-small s at {v} e =
     let fits = read-fits (take 4 (drop at s)) v e .0 in
     let short : length (take 4 (drop at s)) ≤ 4 = rw (length-take 4 (drop at s)) (omega arith) in
     small (length (take 4 (drop at s))) short fits
@@ -50,49 +65,86 @@ field-small s at v e =
     small : (k : ℕ) → k ≤ 4 → v < 10 ^ k → v < 2 ^ 16
     small k h f = let most : 10 ^ k ≤ 10 ^ 4 = pow-le-pow-right (omega arith) h in omega arith
 
--- the list of values after one line more, at place k of it
-module _ (values : List ℕ) (line : ℕ → Bond) (i a b k : ℕ) (size : length values ≡ 2052) (place : k ≡ min i 1025) where
-  abbrev after : List ℕ
-  after = set (set values (2 * k) a) (2 * k + 1) b
+-- ---- the list of values, with the numbers a and b of line i put at place k of it
 
-  stored-here : stored after k ≡ (a, b)
+module _ (values : List ℕ) (line : ℕ → Bond) (i a b k : ℕ) (size : length values ≡ 2052) (place : k ≡ min i 1025) where
+  abbrev one : List ℕ
+  one = set values (2 * k) a
+
+  abbrev both : List ℕ
+  both = set one (2 * k + 1) b
+
+  stored-here : stored both k ≡ (a, b)
   unfolding stored
   stored-here =
-      let room : 2 * k + 1 < length (set values (2 * k) a) = rw length-set (omega arith) in
-      let left : getD after (2 * k) 0 ≡ a =
-      getD-set-other (set values (2 * k) a) (2 * k + 1) (2 * k) b 0 (omega arith) ∙
-      getD-set-same values (2 * k) a 0 (omega arith) in
-      let right : getD after (2 * k + 1) 0 ≡ b = getD-set-same (set values (2 * k) a) (2 * k + 1) b 0 room in
+      let room : 2 * k + 1 < length one = rw length-set (omega arith) in
+      let other = getD-set-other one (2 * k + 1) (2 * k) b 0 (omega arith) in
+      let left = other ∙ getD-set-same values (2 * k) a 0 (omega arith) in
+      let right = getD-set-same one (2 * k + 1) b 0 room in
       ap₂ (λ x y. (x, y)) left right
 
-  stored-other : (j : ℕ) → (j ≡ k → ⊥) → stored after j ≡ stored values j
+  stored-other : (j : ℕ) → (j ≡ k → ⊥) → stored both j ≡ stored values j
   unfolding stored
   stored-other j n =
-      let left : getD after (2 * j) 0 ≡ getD values (2 * j) 0 =
-      getD-set-other (set values (2 * k) a) (2 * k + 1) (2 * j) b 0 (omega arith) ∙
-      getD-set-other values (2 * k) (2 * j) a 0 (λ e. n (omega arith)) in
-      let right : getD after (2 * j + 1) 0 ≡ getD values (2 * j + 1) 0 =
-      getD-set-other (set values (2 * k) a) (2 * k + 1) (2 * j + 1) b 0 (λ e. n (omega arith)) ∙
-      getD-set-other values (2 * k) (2 * j + 1) a 0 (omega arith) in
-      ap₂ (λ x y. (x, y)) left right
+      let left-two = getD-set-other one (2 * k + 1) (2 * j) b 0 (omega arith) in
+      let left-one = getD-set-other values (2 * k) (2 * j) a 0 (λ e. n (omega arith)) in
+      let right-two = getD-set-other one (2 * k + 1) (2 * j + 1) b 0 (λ e. n (omega arith)) in
+      let right-one = getD-set-other values (2 * k) (2 * j + 1) a 0 (omega arith) in
+      ap₂ (λ x y. (x, y)) (left-two ∙ left-one) (right-two ∙ right-one)
 
-  pub decodes-more : Decodes values line i → (a, b) ≡ line i → Decodes after line (i + 1)
+  decodes-more : Decodes values line i → (a, b) ≡ line i → Decodes both line (i + 1)
   decodes-more d new = record { at = here }
     where
-      here : (j : ℕ) → j < i + 1 → j < 1025 → stored after j ≡ line j
+      here : (j : ℕ) → j < i + 1 → j < 1025 → stored both j ≡ line j
       here j h small =
-          ⊎-elim (λ (e : j ≡ i). last e) (λ (l : j < i). stored-other j (omega arith) ∙ d .at j l small)
+          ⊎-elim
+          (λ (e : j ≡ i). last e)
+          (λ (l : j < i). stored-other j (omega arith) ∙ d .at j l small)
           (eq-or-lt-of-le (omega arith))
         where
-          last : j ≡ i → stored after j ≡ line j
+          last : j ≡ i → stored both j ≡ line j
           last e =
               let same : j ≡ k = omega arith in
-              ap (stored after) same ∙ stored-here ∙ new ∙ ap line (sym e)
+              ap (stored both) same ∙ stored-here ∙ new ∙ ap line (sym e)
 
-pub decodes-none : (values : List ℕ) (line : ℕ → Bond) → Decodes values line 0
-decodes-none values line = record { at = λ i h. absurd (omega arith) }
+-- ---- the loop over the lines: those before i are kept, and their numbers are stored
 
-pub decodes-done :
-    (values : List ℕ) (line : ℕ → Bond) (i lines : ℕ) → i ≤ lines → lines ≤ i → Decodes values line i →
-    Decodes values line lines
-decodes-done values line i lines l u d = let same : i ≡ lines = omega arith in rw same at d
+pub record Decoding (s : List ℕ) (lines : ℕ) (values : List ℕ) (i : ℕ) : Type 0 where
+  pub most : i ≤ lines
+  pub kept : allBelow i (lineKept s) ≡ true
+  pub size : length values ≡ 2052
+  pub decodes : Decodes values (lineOf s) i
+
+pub decoding-none : {s : List ℕ} {lines : ℕ} → Decoding s lines (replicate 2052 0) 0
+decoding-none =
+    record { most = omega arith; kept = refl; size = refl; decodes = record { at = λ i h. absurd (omega arith) } }
+
+module _ {s : List ℕ} {lines : ℕ} {values : List ℕ} {i : ℕ} (now : Decoding s lines values i) where
+  module _ {l : Entry} (more : i < lines) (reads : ReadsLine s i l) where
+    -- a line that is not kept
+    pub decoding-bad : l .ok ≡ false → ReadsLines s lines (record { ok = false; values = values })
+    decoding-bad bad =
+        record {
+          ok = sym (all-fails lines (lineKept s) i more (sym (reads .ok) ∙ bad));
+          values = λ e. absurd (true≢false (sym e));
+        }
+
+    -- one line more
+    pub decoding-more :
+        {k : ℕ} → l .ok ≡ true → k ≡ min i 1025 →
+        Decoding s lines (set (set values (2 * k) (l .left)) (2 * k + 1) (l .right)) (i + 1)
+    decoding-more {k} ok place =
+        record {
+          most = omega arith;
+          kept = all-more i (lineKept s) (now .kept) (sym (reads .ok) ∙ ok);
+          size = simp length-set (now .size);
+          decodes =
+              decodes-more values (lineOf s) i (l .left) (l .right) k (now .size) place (now .decodes)
+              (reads .values ok);
+        }
+
+  -- all of them
+  pub decoding-all : lines ≤ i → ReadsLines s lines (record { ok = true; values = values })
+  decoding-all last =
+      let same : i ≡ lines = omega (arith, now .most) in
+      record { ok = sym (rw same at (now .kept)); values = λ e. rw same at (now .decodes) }

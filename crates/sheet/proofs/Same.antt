@@ -1,41 +1,42 @@
 -- Lists of bonds that agree read to the same record, with the same refusals.
 -- Every rule looks at the first m bonds alone.
-use Prim.Native.Nat.{ℕ, zero, suc, _+_, _*_, _/_, _≤_, _<_}
+use Prim.Native.Nat.{ℕ, zero, suc, _<_}
 use native.Mathlib.Omega.{arith}
-use mathlib.Core.Path.{_≡_, refl, ap, ap₂, sym, _∙_}
+use mathlib.Core.Path.{_≡_, refl, ap₂, sym, _∙_}
 use mathlib.Core.Bool.{Bool, _&&_, not}
-use mathlib.Core.List.{List}
-use lib.ListN.{length, getD}
 use Rattle.graph.specs.Every.{allBelow}
 use Rattle.sheet.specs.Bonds.{Bond, atomsKept, noneToItself, samePair, noneTwice, withBond, rowsOf}
-use Rattle.sheet.specs.Read.{lineOf, atomsOf, bondsOf, bondOf, readBonds}
-use Rattle.sheet.specs.Parts.{stored, storedBond, Decodes}
+use Rattle.sheet.specs.Read.{readBonds}
+use Rattle.sheet.proofs.Tables.{isNew}
 use Rattle.sheet.proofs.Stored.{within, differs, atoms-kept-is, none-to-itself-is}
 
 all-same : (k : ℕ) (p q : ℕ → Bool) → ((i : ℕ) → i < k → p i ≡ q i) → allBelow k p ≡ allBelow k q
 all-same zero p q f = refl
 all-same (suc k) p q f = ap₂ (λ a b. a && b) (all-same k p q (λ i h. f i (omega arith))) (f k (omega arith))
 
-module _ (n : ℕ) (bond bond′ : ℕ → Bond) (m : ℕ) (same : (k : ℕ) → k < m → bond k ≡ bond′ k) where
-  atoms-same : atomsKept n bond m ≡ atomsKept n bond′ m
+module _ {bond bond′ : ℕ → Bond} {m : ℕ} (same : (k : ℕ) → k < m → bond k ≡ bond′ k) where
+  atoms-same : (n : ℕ) → atomsKept n bond m ≡ atomsKept n bond′ m
   unfolding within
-  atoms-same =
-      atoms-kept-is n bond m ∙ all-same m (within n bond) (within n bond′) (λ k h. rw (same k h)) ∙
-      sym (atoms-kept-is n bond′ m)
+  atoms-same n =
+      atoms-kept-is n bond m
+      ∙ all-same m (within n bond) (within n bond′) (λ k h. rw (same k h))
+      ∙ sym (atoms-kept-is n bond′ m)
 
   itself-same : noneToItself bond m ≡ noneToItself bond′ m
   unfolding differs
   itself-same =
-      none-to-itself-is bond m ∙ all-same m (differs bond) (differs bond′) (λ k h. rw (same k h)) ∙
-      sym (none-to-itself-is bond′ m)
+      none-to-itself-is bond m
+      ∙ all-same m (differs bond) (differs bond′) (λ k h. rw (same k h))
+      ∙ sym (none-to-itself-is bond′ m)
 
   pub twice-same : noneTwice bond m ≡ noneTwice bond′ m
   unfolding noneTwice
-  twice-same =
-      all-same m (λ k. allBelow k (λ j. not (samePair (bond j) (bond k))))
-      (λ k. allBelow k (λ j. not (samePair (bond′ j) (bond′ k))))
-      (λ k h. all-same k (λ j. not (samePair (bond j) (bond k))) (λ j. not (samePair (bond′ j) (bond′ k)))
-      (λ j l. ap₂ (λ x y. not (samePair x y)) (same j (omega arith)) (same k h)))
+  twice-same = all-same m (isNew bond) (isNew bond′) new-same
+    where
+      new-same : (k : ℕ) → k < m → isNew bond k ≡ isNew bond′ k
+      new-same k h =
+          all-same k (λ j. not (samePair (bond j) (bond k))) (λ j. not (samePair (bond′ j) (bond′ k)))
+          (λ j l. ap₂ (λ x y. not (samePair x y)) (same j (omega arith)) (same k h))
 
 rows-same : (bond bond′ : ℕ → Bond) (m : ℕ) → ((k : ℕ) → k < m → bond k ≡ bond′ k) → rowsOf bond m ≡ rowsOf bond′ m
 unfolding rowsOf
@@ -48,29 +49,4 @@ pub bonds-same :
     readBonds n bond m ≡ readBonds n bond′ m
 unfolding readBonds
 bonds-same n bond bond′ m same =
-    rw (
-      atoms-same n bond bond′ m same,
-      itself-same n bond bond′ m same,
-      twice-same n bond bond′ m same,
-      rows-same bond bond′ m same,
-    )
-
--- what the decoder stored of a sheet
-module _ (s values : List ℕ) (decodes : Decodes values (lineOf s) (length s / 9)) where
-  module _ (long : 9 ≤ length s) where
-    pub stored-atoms : getD values 0 0 ≡ atomsOf s
-    unfolding stored
-    stored-atoms = ap (λ x. x .0) (decodes .at 0 (omega arith) (omega arith))
-
-    pub stored-bonds : getD values 1 0 ≡ bondsOf s
-    unfolding stored
-    stored-bonds = ap (λ x. x .1) (decodes .at 0 (omega arith) (omega arith))
-
-  pub stored-read :
-      (n m : ℕ) → m ≤ 1024 → length s ≡ 9 * suc m → readBonds n (storedBond values) m ≡ readBonds n (bondOf s) m
-  stored-read n m few size =
-      bonds-same n (storedBond values) (bondOf s) m (λ k h. decodes .at (suc k) (omega arith) (omega arith))
-
--- the length that the second number of line 1 asks for, as the code computes it
-pub size-same : (m m′ : ℕ) → m ≡ m′ → 9 * suc m′ ≡ 9 * (m + 1)
-size-same m m′ e = omega arith
+    rw (atoms-same same n, itself-same same, twice-same same, rows-same bond bond′ m same)

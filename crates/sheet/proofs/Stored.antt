@@ -1,14 +1,16 @@
 -- Rules 6 and 7 bond by bond, over the values that the decoder stored.
 -- The tests of one bond have names, so that the loops' laws can be cited.
-use Prim.Native.Nat.{ℕ, _+_, _*_}
+use Prim.Native.Nat.{ℕ, _+_, _*_, _≤_, _<_}
 use native.Mathlib.Numerals.{add-one}
-use mathlib.Core.Path.{_≡_, refl}
+use native.Mathlib.Omega.{arith}
+use mathlib.Core.Path.{_≡_, refl, _∙_}
 use mathlib.Core.Bool.{Bool, true, false, _&&_, not}
 use mathlib.Core.List.{List}
 use lib.ListN.{getD}
 use lib.Dec.{eqb}
 use borrow.Author.Tests.{eq-eqb, ne-eqb}
 use Rattle.graph.specs.Every.{allBelow}
+use Rattle.graph.proofs.Loops.{all-fails, all-more, all-done}
 use Rattle.molecule.specs.Record.{isAtom}
 use Rattle.sheet.specs.Bonds.{Bond, atomsKept, noneToItself}
 use Rattle.sheet.specs.Parts.{stored, storedBond}
@@ -39,22 +41,72 @@ module _ (values : List ℕ) (k : ℕ) where
   unfolding stored
   bond-read = rw (add-one k)
 
-  pub within-left : (n : ℕ) → isAtom n left ≡ false → within n (storedBond values) k ≡ false
-  unfolding within
-  within-left n e = rw (bond-read, e)
+-- ---- rule 6: the atoms of the bonds passed are from 1 to n
 
-  pub within-right : (n : ℕ) → isAtom n left ≡ true → isAtom n right ≡ false → within n (storedBond values) k ≡ false
-  unfolding within
-  within-right n l e = rw (bond-read, l, e)
+pub record AtomsPassed (n : ℕ) (values : List ℕ) (m k : ℕ) : Type 0 where
+  pub most : k ≤ m
+  pub all : allBelow k (within n (storedBond values)) ≡ true
 
-  pub within-both : (n : ℕ) → isAtom n left ≡ true → isAtom n right ≡ true → within n (storedBond values) k ≡ true
-  unfolding within
-  within-both n l e = rw (bond-read, l, e)
+pub atoms-none : {n : ℕ} {values : List ℕ} {m : ℕ} → AtomsPassed n values m 0
+atoms-none = record { most = omega arith; all = refl }
 
-  pub differs-no : left ≡ right → differs (storedBond values) k ≡ false
-  unfolding differs
-  differs-no e = rw (bond-read, eq-eqb left right e)
+module _ {n : ℕ} {values : List ℕ} {m k : ℕ} (passed : AtomsPassed n values m k) where
+  pub atoms-all : m ≤ k → atomsKept n (storedBond values) m ≡ true
+  atoms-all last =
+      atoms-kept-is n (storedBond values) m
+      ∙ all-done k m (within n (storedBond values)) (passed .most) last (passed .all)
 
-  pub differs-yes : (left ≡ right → ⊥) → differs (storedBond values) k ≡ true
-  unfolding differs
-  differs-yes e = rw (bond-read, ne-eqb left right e)
+  module _ (more : k < m) where
+    atoms-broken : within n (storedBond values) k ≡ false → atomsKept n (storedBond values) m ≡ false
+    atoms-broken broken =
+        atoms-kept-is n (storedBond values) m ∙ all-fails m (within n (storedBond values)) k more broken
+
+    pub atoms-left : isAtom n (left values k) ≡ false → atomsKept n (storedBond values) m ≡ false
+    unfolding within
+    atoms-left l = atoms-broken (rw (bond-read values k, l))
+
+    pub atoms-right :
+        isAtom n (left values k) ≡ true → isAtom n (right values k) ≡ false →
+        atomsKept n (storedBond values) m ≡ false
+    unfolding within
+    atoms-right l r = atoms-broken (rw (bond-read values k, l, r))
+
+    pub atoms-more :
+        isAtom n (left values k) ≡ true → isAtom n (right values k) ≡ true → AtomsPassed n values m (k + 1)
+    unfolding within
+    atoms-more l r = record {
+      most = omega arith;
+      all = all-more k (within n (storedBond values)) (passed .all) (rw (bond-read values k, l, r));
+    }
+
+-- ---- rule 7: no bond passed joins an atom to itself
+
+pub record ApartPassed (values : List ℕ) (m k : ℕ) : Type 0 where
+  pub most : k ≤ m
+  pub all : allBelow k (differs (storedBond values)) ≡ true
+
+pub apart-none : {values : List ℕ} {m : ℕ} → ApartPassed values m 0
+apart-none = record { most = omega arith; all = refl }
+
+module _ {values : List ℕ} {m k : ℕ} (passed : ApartPassed values m k) where
+  pub apart-all : m ≤ k → noneToItself (storedBond values) m ≡ true
+  apart-all last =
+      none-to-itself-is (storedBond values) m
+      ∙ all-done k m (differs (storedBond values)) (passed .most) last (passed .all)
+
+  module _ (more : k < m) where
+    pub apart-same : left values k ≡ right values k → noneToItself (storedBond values) m ≡ false
+    unfolding differs
+    apart-same e =
+        let broken = eq-eqb (left values k) (right values k) e in
+        none-to-itself-is (storedBond values) m
+        ∙ all-fails m (differs (storedBond values)) k more (rw (bond-read values k, broken))
+
+    pub apart-more : (left values k ≡ right values k → ⊥) → ApartPassed values m (k + 1)
+    unfolding differs
+    apart-more e =
+        let kept = ne-eqb (left values k) (right values k) e in
+        record {
+          most = omega arith;
+          all = all-more k (differs (storedBond values)) (passed .all) (rw (bond-read values k, kept));
+        }

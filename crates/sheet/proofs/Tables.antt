@@ -4,7 +4,7 @@ use Prim.Native.Nat.{ℕ, zero, suc, _+_, _-_, _*_, _/_, _%_, _^_, _≤_, _<_}
 use native.Mathlib.Nat.{zero-div, eq-or-lt-of-le}
 use native.Mathlib.Omega.{arith}
 use mathlib.Core.Path.{_≡_, refl, ap, sym, _∙_}
-use mathlib.Core.Bool.{true, false, _&&_, _||_, not, or-true, or-comm, and-comm, or-assoc}
+use mathlib.Core.Bool.{Bool, true, false, _&&_, _||_, not, or-true, or-comm, and-comm, or-assoc}
 use mathlib.Core.List.{List}
 use mathlib.Core.Logic.{_⊎_, inl, inr, ⊎-elim, _↔_}
 use lib.ListN.{getD, replicate, length-replicate}
@@ -27,30 +27,34 @@ pub record Kept (n : ℕ) (bond : ℕ → Bond) (m : ℕ) : Type 0 where
   pub apart : (k : ℕ) → k < m → bond k .0 ≡ bond k .1 → ⊥
 
 pub kept-of :
-    (n : ℕ) (bond : ℕ → Bond) (m : ℕ) → n ≤ 128 → atomsKept n bond m ≡ true → noneToItself bond m ≡ true → Kept n bond m
+    {n : ℕ} {bond : ℕ → Bond} {m : ℕ} → n ≤ 128 → atomsKept n bond m ≡ true → noneToItself bond m ≡ true → Kept n bond m
 unfolding within differs
-kept-of n bond m few atoms differ =
+kept-of {n} {bond} {m} few atoms differ =
     record {
       few = few;
       left = λ k h. atom-bounds n (bond k .0) (and-left (isAtom n (bond k .0)) (isAtom n (bond k .1)) (in-range k h));
       right = λ k h. atom-bounds n (bond k .1) (and-right (isAtom n (bond k .0)) (isAtom n (bond k .1)) (in-range k h));
-      apart =
-          λ k h. eqb-false (bond k .0) (bond k .1)
-          (not-true (eqb (bond k .0) (bond k .1))
-          (allBelow-at m (differs bond) (sym (none-to-itself-is bond m) ∙ differ) k h));
+      apart = λ k h. eqb-false (bond k .0) (bond k .1) (not-true (eqb (bond k .0) (bond k .1)) (differ-at k h));
     }
   where
     in-range : (k : ℕ) → k < m → within n bond k ≡ true
     in-range = allBelow-at m (within n bond) (sym (atoms-kept-is n bond m) ∙ atoms)
 
-pub kept-fewer : (n : ℕ) (bond : ℕ → Bond) (k m : ℕ) → k ≤ m → Kept n bond m → Kept n bond k
-kept-fewer n bond k m h kept =
+    differ-at : (k : ℕ) → k < m → differs bond k ≡ true
+    differ-at = allBelow-at m (differs bond) (sym (none-to-itself-is bond m) ∙ differ)
+
+pub kept-fewer : {n : ℕ} {bond : ℕ → Bond} {k m : ℕ} → k ≤ m → Kept n bond m → Kept n bond k
+kept-fewer h kept =
     record {
       few = kept .few;
       left = λ q l. kept .left q (omega arith);
       right = λ q l. kept .right q (omega arith);
       apart = λ q l. kept .apart q (omega arith);
     }
+
+-- bond k joins other atoms than each bond before it
+abbrev pub isNew : (ℕ → Bond) → ℕ → Bool
+isNew bond k = allBelow k (λ j. not (samePair (bond j) (bond k)))
 
 -- some of the first k bonds joins a and b
 unfoldable pub Joins : (ℕ → Bond) → ℕ → ℕ → ℕ → Type 0
@@ -64,7 +68,11 @@ pub joins-swaps : (bond : ℕ → Bond) (k a b : ℕ) → Joins bond k a b → J
 unfolding Joins
 joins-swaps bond k a b (q, h, e) = (q, h, sym (same-pair-swaps (bond q) a b) ∙ e)
 
--- no bonds
+joins-more : (bond : ℕ → Bond) (k a b : ℕ) → Joins bond k a b → Joins bond (suc k) a b
+unfolding Joins
+joins-more bond k a b (q, h, e) = (q, omega arith, e)
+
+-- ---- no bonds
 
 zero-byte : (k at : ℕ) → getD {A = ℕ} (replicate k 0) at 0 ≡ 0
 zero-byte zero at = refl
@@ -94,7 +102,7 @@ zeros-table bond size e =
       cells =
           λ i j hi hj. (
             λ (t : cell (replicate size 0) i j ≡ true). absurd (clash (cell (replicate size 0) i j) t (clear i j)),
-            λ (w : Joins bond 0 (suc i) (suc j)). absurd (none (w .1)),
+            λ (joins : Joins bond 0 (suc i) (suc j)). absurd (none (joins .1)),
           );
       ones-count = λ d. zero-ones size;
     }
@@ -107,55 +115,71 @@ zeros-table bond size e =
 
     clear : (i j : ℕ) → cell (replicate size 0) i j ≡ false
     clear i j =
-        ne-eqb (getD (replicate size 0) (16 * i + j / 8) 0 / 2 ^ (j % 8) % 2) 1
-        (λ e. absurd (never (rw (zero-byte size (16 * i + j / 8), zero-div (2 ^ (j % 8))) at e)))
+        let there = 16 * i + j / 8 in
+        ne-eqb (getD (replicate size 0) there 0 / 2 ^ (j % 8) % 2) 1
+        (λ e. absurd (never (rw (zero-byte size there, zero-div (2 ^ (j % 8))) at e)))
 
--- one bond more
-module _ (n : ℕ) (bond : ℕ → Bond) (k : ℕ) (kept : Kept n bond (suc k)) (rows : List ℕ)
+-- ---- one bond more
+
+-- the two atoms of a bond, counted from 0 as rows and columns are
+abbrev pub leftOf : Bond → ℕ
+leftOf x = x .0 - 1
+
+abbrev pub rightOf : Bond → ℕ
+rightOf x = x .1 - 1
+
+before-suc : (x i : ℕ) → 1 ≤ x → eqb (x - 1) i ≡ eqb x (suc i)
+before-suc x i h =
+    let back : x ≡ suc (x - 1) = omega arith in
+    sym (ap (λ y. eqb y (suc i)) back ∙ eqb·suc-suc (x - 1) i)
+
+module _ {n : ℕ} {bond : ℕ → Bond} {k : ℕ} {rows : List ℕ} (kept : Kept n bond (suc k))
     (table : Table bond k rows) where
-  a : ℕ
-  a = bond k .0
+  low-left : 1 ≤ bond k .0
+  low-left = kept .left k (omega arith) .0
 
-  b : ℕ
-  b = bond k .1
+  low-right : 1 ≤ bond k .1
+  low-right = kept .right k (omega arith) .0
 
-  row-a : bond k .0 - 1 < 128
-  row-a = let l = kept .left k (omega arith) in let f = kept .few in omega arith
+  left-fits : leftOf (bond k) < 128
+  left-fits = let l = kept .left k (omega arith) in let f = kept .few in omega arith
 
-  row-b : bond k .1 - 1 < 128
-  row-b = let r = kept .right k (omega arith) in let f = kept .few in omega arith
+  right-fits : rightOf (bond k) < 128
+  right-fits = let r = kept .right k (omega arith) in let f = kept .few in omega arith
 
-  after-one : Rows (withCell rows (bond k .0 - 1) (bond k .1 - 1))
-  after-one = with-rows rows (table .bytes) (bond k .0 - 1) (bond k .1 - 1) row-a row-b
+  -- the cell of the bond, set or clear
+  abbrev here : Bool
+  here = cell rows (leftOf (bond k)) (rightOf (bond k))
 
-  before-suc : (x i : ℕ) → 1 ≤ x → eqb (x - 1) i ≡ eqb x (suc i)
-  before-suc x i h =
-      let back : x ≡ suc (x - 1) = omega arith in sym (ap (λ y. eqb y (suc i)) back ∙ eqb·suc-suc (x - 1) i)
+  -- the rows with this cell set; the mirrored cell comes next
+  abbrev one : List ℕ
+  one = withCell rows (leftOf (bond k)) (rightOf (bond k))
+
+  one-rows : Rows one
+  one-rows = with-rows (table .bytes) left-fits right-fits
 
   -- the cells: those that were set, and those of the new bond
-  pub cell-more :
-      (i j : ℕ) → i < 128 → j < 128 → cell (withBond rows (bond k)) i j ≡ cell rows i j ||
-      samePair (bond k) (suc i, suc j)
+  cell-more :
+      {i j : ℕ} → i < 128 → j < 128 →
+      cell (withBond rows (bond k)) i j ≡ cell rows i j || samePair (bond k) (suc i, suc j)
   unfolding withBond samePair
-  cell-more i j hi hj =
-      let first = with-cell rows (table .bytes) (bond k .0 - 1) (bond k .1 - 1) row-a row-b i j hi hj in
-      let second =
-      with-cell (withCell rows (bond k .0 - 1) (bond k .1 - 1)) after-one (bond k .1 - 1)
-      (bond k .0 - 1) row-b row-a i j hi hj in
-      let low-a = kept .left k (omega arith) .0 in
-      let low-b = kept .right k (omega arith) .0 in
+  cell-more {i} {j} hi hj =
+      let first = with-cell (table .bytes) left-fits right-fits hi hj in
+      let second = with-cell one-rows right-fits left-fits hi hj in
+      let there = eqb (bond k .0) (suc i) && eqb (bond k .1) (suc j) in
+      let mirrored = eqb (bond k .0) (suc j) && eqb (bond k .1) (suc i) in
       second ∙ rw (
         first,
-        before-suc (bond k .0) i low-a,
-        before-suc (bond k .1) j low-b,
-        before-suc (bond k .1) i low-b,
-        before-suc (bond k .0) j low-a,
+        before-suc (bond k .0) i low-left,
+        before-suc (bond k .1) j low-right,
+        before-suc (bond k .1) i low-right,
+        before-suc (bond k .0) j low-left,
         and-comm (eqb (bond k .1) (suc i)) (eqb (bond k .0) (suc j)),
-      ) (or-assoc (cell rows i j) (eqb (bond k .0) (suc i) && eqb (bond k .1) (suc j))
-      (eqb (bond k .0) (suc j) && eqb (bond k .1) (suc i)))
+      ) (or-assoc (cell rows i j) there mirrored)
 
   cells-more :
-      (i j : ℕ) → i < 128 → j < 128 → (cell (withBond rows (bond k)) i j ≡ true) ↔ Joins bond (suc k) (suc i) (suc j)
+      (i j : ℕ) → i < 128 → j < 128 →
+      (cell (withBond rows (bond k)) i j ≡ true) ↔ Joins bond (suc k) (suc i) (suc j)
   unfolding Joins
   cells-more i j hi hj = (there, back)
     where
@@ -163,107 +187,97 @@ module _ (n : ℕ) (bond : ℕ → Bond) (k : ℕ) (kept : Kept n bond (suc k)) 
       there e = go (either (cell rows i j)) (either (samePair (bond k) (suc i, suc j)))
         where
           go :
-              (cell rows i j ≡ true) ⊎ (cell rows i j ≡ false) → (samePair (bond k) (suc i, suc j) ≡ true) ⊎
-              (samePair (bond k) (suc i, suc j) ≡ false) → Joins bond (suc k) (suc i) (suc j)
-          go (inl t) y = let w = table .cells i j hi hj .0 t in (w .0, omega arith, w .2)
-          go (inr f) (inl t) = (k, omega arith, t)
-          go (inr f) (inr g) = absurd (clash (cell (withBond rows (bond k)) i j) e (cell-more i j hi hj ∙ rw (f, g)))
+              (cell rows i j ≡ true) ⊎ (cell rows i j ≡ false) →
+              (samePair (bond k) (suc i, suc j) ≡ true) ⊎ (samePair (bond k) (suc i, suc j) ≡ false) →
+              Joins bond (suc k) (suc i) (suc j)
+          go (inl old) y = joins-more bond k (suc i) (suc j) (table .cells i j hi hj .0 old)
+          go (inr f) (inl new) = (k, omega arith, new)
+          go (inr f) (inr g) = absurd (clash (cell (withBond rows (bond k)) i j) e (cell-more hi hj ∙ rw (f, g)))
 
       back : Joins bond (suc k) (suc i) (suc j) → cell (withBond rows (bond k)) i j ≡ true
       back (q, h, e) =
-          cell-more i j hi hj ∙ ⊎-elim (λ (p : q ≡ k). last p) (λ (l : q < k). rw (table .cells i j hi hj .1 (q, l, e)))
+          cell-more hi hj ∙ ⊎-elim
+          (λ (new : q ≡ k). last new)
+          (λ (old : q < k). rw (table .cells i j hi hj .1 (q, old, e)))
           (eq-or-lt-of-le (omega arith))
         where
           last : q ≡ k → cell rows i j || samePair (bond k) (suc i, suc j) ≡ true
           last p = rw (← p, e) (or-true (cell rows i j))
 
   -- no earlier bond joins the same atoms exactly when the cell is clear
-  pub bond-new : allBelow k (λ j. not (samePair (bond j) (bond k))) ≡ not (cell rows (bond k .0 - 1) (bond k .1 - 1))
+  bond-new : isNew bond k ≡ not here
   unfolding Joins
-  bond-new =
-      same-test (allBelow k (λ j. not (samePair (bond j) (bond k))))
-      (not (cell rows (bond k .0 - 1) (bond k .1 - 1))) there back
+  bond-new = same-test (isNew bond k) (not here) there back
     where
-      up-a : suc (bond k .0 - 1) ≡ bond k .0
-      up-a = let l = kept .left k (omega arith) in omega arith
+      up-left : suc (leftOf (bond k)) ≡ bond k .0
+      up-left = let low = low-left in omega arith
 
-      up-b : suc (bond k .1 - 1) ≡ bond k .1
-      up-b = let r = kept .right k (omega arith) in omega arith
+      up-right : suc (rightOf (bond k)) ≡ bond k .1
+      up-right = let low = low-right in omega arith
 
-      there :
-          allBelow k (λ j. not (samePair (bond j) (bond k))) ≡ true → not (cell rows (bond k .0 - 1) (bond k .1 - 1)) ≡
-          true
-      there e =
-          not-of (cell rows (bond k .0 - 1) (bond k .1 - 1))
-          (false-of (cell rows (bond k .0 - 1) (bond k .1 - 1))
-          (λ t. met (table .cells (bond k .0 - 1) (bond k .1 - 1) row-a row-b .0 t)))
+      there : isNew bond k ≡ true → not here ≡ true
+      there new = not-of here (false-of here (λ t. met (table .cells _ _ left-fits right-fits .0 t)))
         where
-          met : Joins bond k (suc (bond k .0 - 1)) (suc (bond k .1 - 1)) → ⊥
-          met w =
-              let same : samePair (bond (w .0)) (bond k .0, bond k .1) ≡ true = rw (up-a, up-b) at (w .2) in
-              clash (samePair (bond (w .0)) (bond k)) same
-              (not-true (samePair (bond (w .0)) (bond k))
-              (allBelow-at k (λ j. not (samePair (bond j) (bond k))) e (w .0) (w .1)))
+          met : Joins bond k (suc (leftOf (bond k))) (suc (rightOf (bond k))) → ⊥
+          met (q, h, e) =
+              let same : samePair (bond q) (bond k .0, bond k .1) ≡ true = rw (up-left, up-right) at e in
+              let other = allBelow-at k (λ j. not (samePair (bond j) (bond k))) new q h in
+              clash (samePair (bond q) (bond k)) same (not-true (samePair (bond q) (bond k)) other)
 
-      back :
-          not (cell rows (bond k .0 - 1) (bond k .1 - 1)) ≡ true → allBelow k (λ j. not (samePair (bond j) (bond k))) ≡
-          true
-      back e =
-          allBelow-of k (λ j. not (samePair (bond j) (bond k)))
-          (λ j h. not-of (samePair (bond j) (bond k))
-          (false-of (samePair (bond j) (bond k))
-          (λ t. clash (cell rows (bond k .0 - 1) (bond k .1 - 1))
-          (table .cells (bond k .0 - 1) (bond k .1 - 1) row-a row-b .1 (j, h, rw (up-a, up-b) t))
-          (not-true (cell rows (bond k .0 - 1) (bond k .1 - 1)) e))))
+      back : not here ≡ true → isNew bond k ≡ true
+      back clear =
+          allBelow-of k (λ j. not (samePair (bond j) (bond k))) (λ j h. not-of (samePair (bond j) (bond k)) (other j h))
+        where
+          other : (j : ℕ) → j < k → samePair (bond j) (bond k) ≡ false
+          other j h = false-of (samePair (bond j) (bond k)) (λ same. clash here (set same) (not-true here clear))
+            where
+              set : samePair (bond j) (bond k) ≡ true → here ≡ true
+              set same = table .cells _ _ left-fits right-fits .1 (j, h, rw (up-left, up-right) same)
 
   -- two ones more
+  mirror-clear : here ≡ false → cell one (rightOf (bond k)) (leftOf (bond k)) ≡ false
+  mirror-clear clear =
+      with-cell (table .bytes) left-fits right-fits right-fits left-fits
+      ∙ rw (image, ne-eqb (leftOf (bond k)) (rightOf (bond k)) differ)
+    where
+      differ : leftOf (bond k) ≡ rightOf (bond k) → ⊥
+      differ same =
+          let l = low-left in
+          let r = low-right in
+          kept .apart k (omega arith) (omega arith)
+
+      -- the mirrored cell joins the same atoms
+      back : cell rows (rightOf (bond k)) (leftOf (bond k)) ≡ true → here ≡ true
+      back t =
+          table .cells _ _ left-fits right-fits .1
+          (joins-swaps bond k _ _ (table .cells _ _ right-fits left-fits .0 t))
+
+      image : cell rows (rightOf (bond k)) (leftOf (bond k)) ≡ false
+      image = false-of (cell rows (rightOf (bond k)) (leftOf (bond k))) (λ t. clash here (back t) clear)
+
   ones-more : noneTwice bond (suc k) ≡ true → onesOf (withBond rows (bond k)) ≡ 2 * suc k
   unfolding noneTwice withBond
   ones-more e =
-      let parts = and-parts (noneTwice bond k) (allBelow k (λ j. not (samePair (bond j) (bond k)))) e in
-      let clear = not-true (cell rows (bond k .0 - 1) (bond k .1 - 1)) (sym bond-new ∙ parts .1) in
-      let one = with-cell-ones rows (table .bytes) (bond k .0 - 1) (bond k .1 - 1) row-a row-b clear in
-      let two = with-cell-ones (withCell rows (bond k .0 - 1) (bond k .1 - 1)) after-one (bond k .1 - 1)
-      (bond k .0 - 1) row-b row-a (mirror-clear clear) in
+      let parts = and-parts (noneTwice bond k) (isNew bond k) e in
+      let clear = not-true here (sym bond-new ∙ parts .1) in
+      let first = with-cell-ones (table .bytes) left-fits right-fits clear in
+      let second = with-cell-ones one-rows right-fits left-fits (mirror-clear clear) in
       let before = table .ones-count (parts .0) in
-      omega (arith, one, two, before)
-    where
-      mirror-clear :
-          cell rows (bond k .0 - 1) (bond k .1 - 1) ≡ false →
-          cell (withCell rows (bond k .0 - 1) (bond k .1 - 1)) (bond k .1 - 1) (bond k .0 - 1) ≡ false
-      mirror-clear clear =
-          let l = kept .left k (omega arith) in
-          let r = kept .right k (omega arith) in
-          let differ : bond k .0 - 1 ≡ bond k .1 - 1 → ⊥ = λ same. kept .apart k (omega arith) (omega arith) in
-          let image = false-of (cell rows (bond k .1 - 1) (bond k .0 - 1))
-          (λ t. clash (cell rows (bond k .0 - 1) (bond k .1 - 1))
-          (table .cells (bond k .0 - 1) (bond k .1 - 1) row-a row-b .1
-          (joins-swaps bond k (suc (bond k .1 - 1)) (suc (bond k .0 - 1))
-          (table .cells (bond k .1 - 1) (bond k .0 - 1) row-b row-a .0 t))) clear) in
-          with-cell rows (table .bytes) (bond k .0 - 1) (bond k .1 - 1) row-a row-b (bond k .1 - 1)
-          (bond k .0 - 1) row-b row-a ∙ rw (image, ne-eqb (bond k .0 - 1) (bond k .1 - 1) differ)
+      omega (arith, first, second, before)
 
   table-more : Table bond (suc k) (withBond rows (bond k))
   unfolding withBond
   table-more =
-      record {
-        bytes =
-            with-rows (withCell rows (bond k .0 - 1) (bond k .1 - 1)) after-one (bond k .1 - 1)
-            (bond k .0 - 1) row-b row-a;
-        cells = cells-more;
-        ones-count = ones-more;
-      }
+      record { bytes = with-rows one-rows right-fits left-fits; cells = cells-more; ones-count = ones-more }
 
 -- The rows of bonds that keep rules 6 and 7
-pub tables : (n : ℕ) (bond : ℕ → Bond) (m : ℕ) → Kept n bond m → Table bond m (rowsOf bond m)
+pub tables : {n : ℕ} {bond : ℕ → Bond} (m : ℕ) → Kept n bond m → Table bond m (rowsOf bond m)
 unfolding rowsOf
-tables n bond zero kept = zeros-table bond 2048 refl
-tables n bond (suc m) kept =
-    table-more n bond m kept (rowsOf bond m) (tables n bond m (kept-fewer n bond m (suc m) (omega arith) kept))
+tables {bond = bond} zero kept = zeros-table bond 2048 refl
+tables (suc m) kept = table-more kept (tables m (kept-fewer (omega arith) kept))
 
 -- a new bond, by the cell that the code looks at
 pub new-bond :
-    (n : ℕ) (bond : ℕ → Bond) (k : ℕ) → Kept n bond (suc k) → allBelow k (λ j. not (samePair (bond j) (bond k))) ≡
-    not (cell (rowsOf bond k) (bond k .0 - 1) (bond k .1 - 1))
-new-bond n bond k kept =
-    bond-new n bond k kept (rowsOf bond k) (tables n bond k (kept-fewer n bond k (suc k) (omega arith) kept))
+    {n : ℕ} {bond : ℕ → Bond} (k : ℕ) → Kept n bond (suc k) →
+    isNew bond k ≡ not (cell (rowsOf bond k) (leftOf (bond k)) (rightOf (bond k)))
+new-bond k kept = bond-new kept (tables k (kept-fewer (omega arith) kept))

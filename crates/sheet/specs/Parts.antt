@@ -1,13 +1,13 @@
 -- What the parts of the reader hold. Nothing to believe: the reader's contract is `readSheet`.
-use Prim.Native.Nat.{ℕ, suc, _+_, _*_, _<_}
+use Prim.Native.Nat.{ℕ, suc, _+_, _*_, _≤_, _<_}
 use mathlib.Core.Path.{_≡_}
 use mathlib.Core.Bool.{true}
 use mathlib.Core.List.{List}
-use lib.ListN.{getD}
+use lib.ListN.{length, getD}
 use Rattle.graph.specs.Every.{allBelow}
 use Rattle.sheet.specs.declared.Entry.{Entry}
 use Rattle.sheet.specs.declared.Decoded.{Decoded}
-use Rattle.sheet.specs.Bonds.{Bond}
+use Rattle.sheet.specs.Bonds.{Bond, atomsKept, noneToItself}
 use Rattle.sheet.specs.Read.{lineKept, lineOf}
 
 -- the two numbers of line i in the list of values that the decoder fills
@@ -31,3 +31,21 @@ pub record ReadsLine (s : List ℕ) (i : ℕ) (r : Entry) : Type 0 where
 pub record ReadsLines (s : List ℕ) (lines : ℕ) (r : Decoded) : Type 0 where
   pub ok : r .ok ≡ allBelow lines (lineKept s)
   pub values : r .ok ≡ true → Decodes (r .values) (lineOf s) lines
+
+-- so many atoms and bonds fit a molecule record
+pub record FitsRecord (n m : ℕ) : Type 0 where
+  pub few : n ≤ 128
+  pub short : m ≤ 1024
+
+-- bonds that keep rules 6 and 7, few enough for a molecule record
+pub record Fillable (n : ℕ) (bond : ℕ → Bond) (m : ℕ) : Type 0 where
+  pub few : n ≤ 128
+  pub short : m ≤ 1024
+  pub atoms : atomsKept n bond m ≡ true
+  pub apart : noneToItself bond m ≡ true
+
+-- row i and column j, both counted from 0, are a cell of the rows
+pub record CellIn (rows : List ℕ) (i j : ℕ) : Type 0 where
+  pub row-fits : i < 128
+  pub column-fits : j < 128
+  pub size : length rows ≡ 2048

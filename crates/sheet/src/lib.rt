@@ -1,15 +1,15 @@
 // The bond sheet reader of document 01: bytes to a molecule record, or one refusal.
 ghost use mathlib.Core.Path.{_≡_};
-ghost use mathlib.Core.Bool.{true};
-ghost use Prim.Native.Nat.{min, _+_, _*_, _≤_, _<_};
+ghost use Prim.Native.Nat.{min, _+_, _*_, _≤_};
 ghost use lib.ListN.{length};
 ghost use Rattle.sheet.specs.Bonds.{atomsKept, noneToItself, withCell};
 ghost use Rattle.sheet.specs.Read.{refusedSheet, readBonds, readSheet};
-ghost use Rattle.sheet.specs.Parts.{storedBond, ReadsLine, ReadsLines};
+ghost use Rattle.sheet.specs.Parts.{storedBond, ReadsLine, ReadsLines, FitsRecord, Fillable, CellIn};
 use fields::Number;
 use molecule::Molecule;
 use refusal::Answer;
 use refusal::Refusal;
+use widen::u16_usize;
 
 pub struct SheetAnswer {
     pub answer: Answer,
@@ -101,12 +101,6 @@ fn decode(s: &[u8], lines: usize) -> Decoded
     }
 }
 
-fn wide(v: u16) -> usize
-    ensures { λ r. ⌜ r ≡ v ⌝ }
-{
-    v as usize
-}
-
 // Rule 6: whether every bond's atoms are from 1 to n.
 fn atoms_kept(values: &[u16; 2052], n: usize, m: usize) -> bool
     requires { ⌜ m ≤ 1024 ⌝ }
@@ -114,10 +108,10 @@ fn atoms_kept(values: &[u16; 2052], n: usize, m: usize) -> bool
 {
     let mut k: usize = 0;
     while k < m {
-        if !molecule::is_atom(n, wide(values[2 * (k + 1)])) {
+        if !molecule::is_atom(n, u16_usize(values[2 * (k + 1)])) {
             return false;
         }
-        if !molecule::is_atom(n, wide(values[2 * (k + 1) + 1])) {
+        if !molecule::is_atom(n, u16_usize(values[2 * (k + 1) + 1])) {
             return false;
         }
         k += 1;
@@ -142,7 +136,7 @@ fn none_to_itself(values: &[u16; 2052], m: usize) -> bool
 
 // Sets the bit of row i and column j, both counted from 0.
 fn link(rows: &mut [u8], i: usize, j: usize)
-    requires { ⌜ (i < 128) × (j < 128) × (length (now rows) ≡ 2048) ⌝ }
+    requires { ⌜ CellIn (now rows) i j ⌝ }
     ensures { λ _. ⌜ now (rows .exit) ≡ withCell (now (rows .entry)) i j ⌝ }
 {
     let at = 16 * i + j / 8;
@@ -167,14 +161,14 @@ fn refused(r: Refusal) -> SheetAnswer
 
 // Rule 8, and the rows of bonds that keep rules 6 and 7.
 fn fill(values: &[u16; 2052], n: usize, m: usize) -> SheetAnswer
-    requires { ⌜ (n ≤ 128) × (m ≤ 1024) × (atomsKept n (storedBond (now values)) m ≡ true) × (noneToItself (storedBond (now values)) m ≡ true) ⌝ }
+    requires { ⌜ Fillable n (storedBond (now values)) m ⌝ }
     ensures { λ r. ⌜ r ≡ readBonds n (storedBond (now (values .entry))) m ⌝ }
 {
     let mut rows = [0u8; 2048];
     let mut k: usize = 0;
     while k < m {
-        let i = wide(values[2 * (k + 1)]) - 1;
-        let j = wide(values[2 * (k + 1) + 1]) - 1;
+        let i = u16_usize(values[2 * (k + 1)]) - 1;
+        let j = u16_usize(values[2 * (k + 1) + 1]) - 1;
         if molecule::linked(&rows, i, j) {
             return refused(Refusal::RepeatedBond);
         }
@@ -195,7 +189,7 @@ fn fill(values: &[u16; 2052], n: usize, m: usize) -> SheetAnswer
 
 // Rules 6, 7 and 8.
 fn read_bonds(values: &[u16; 2052], n: usize, m: usize) -> SheetAnswer
-    requires { ⌜ (n ≤ 128) × (m ≤ 1024) ⌝ }
+    requires { ⌜ FitsRecord n m ⌝ }
     ensures { λ r. ⌜ r ≡ readBonds n (storedBond (now (values .entry))) m ⌝ }
 {
     if !atoms_kept(values, n, m) {
@@ -222,8 +216,8 @@ pub fn read_sheet(s: &[u8]) -> SheetAnswer
         return refused(Refusal::SheetBytes);
     }
     let values = decoded.values;
-    let n = wide(values[0]);
-    let m = wide(values[1]);
+    let n = u16_usize(values[0]);
+    let m = u16_usize(values[1]);
     if 128 < n {
         return refused(Refusal::TooManyAtoms);
     }

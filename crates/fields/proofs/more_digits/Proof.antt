@@ -5,7 +5,7 @@ use mathlib.Core.Path.{_≡_, refl, sym, _∙_}
 use lib.ListN.{length, drop}
 use native.Mathlib.Omega.{arith}
 use Rattle.fields.specs.Field.{digits}
-use Rattle.fields.proofs.Turns.{digits-end, digits-low, digits-high, digits-zero, digits-full, digits-more}
+use Rattle.fields.proofs.Turns.{DigitAt, digits-end, digits-low, digits-high, digits-zero, digits-full, digits-more}
 use Rattle.fields.proofs.more_digits.Statement.{statement}
 use Rattle.fields.proofs.more_digits.Tie as tie
 
@@ -15,23 +15,55 @@ Inv-loop s from first v₀ i₀ v i = digits v (drop i s) ≡ digits first (drop
 abbrev μ-loop : tie.MeasureT-loop
 μ-loop s from first v₀ i₀ v i = length s - i
 
+-- ---- the places of a turn, and what is known there
+-- (in a proof, the argument `(search)` is a place: it is found in c by its type)
+
+abbrev Place : (tie.InvT-loop → tie.MeasureT-loop → Type 0) → Type 0
+Place place = place Inv-loop μ-loop
+
+-- from where the byte is in the range of digits
+abbrev turn : Place tie.Else2 → Place tie.In-loop
+turn c = c .before .before .before
+
+digit :
+    (c : Place tie.Else2) →
+    let head = turn c .before in
+    DigitAt (head .before .before .args .s .now) (head .loop .i)
+digit c = record { inside = turn c .loop-test .taken; low = c .before .if1 .left; high = c .if2 .left }
+
+-- ---- the needs
+
 loop-holds : tie.Need-loop-holds Inv-loop μ-loop
 loop-holds c = refl
 
 returns : tie.Need-returns Inv-loop μ-loop
-returns c = sym (digits-low _ _ (c .before .before .loop-test .taken) _ (c .if1 .taken)) ∙ c .before .before .before .loop .inv
+returns c =
+    let here : Place tie.In-loop = search in
+    sym (digits-low _ _ (here .loop-test .taken) _ (c .if1 .taken)) ∙ here .before .loop .inv
 
 returns-2 : tie.Need-returns-2 Inv-loop μ-loop
-returns-2 c = sym (digits-high _ _ (c .before .before .before .loop-test .taken) _ (c .if2 .taken)) ∙ c .before .before .before .before .loop .inv
+returns-2 c =
+    let here : Place tie.In-loop = search in
+    sym (digits-high _ _ (here .loop-test .taken) _ (c .if2 .taken)) ∙ here .before .loop .inv
 
 returns-3 : tie.Need-returns-3 Inv-loop μ-loop
-returns-3 c = sym (digits-zero _ _ (c .before .before .before .before .loop-test .taken) (c .before .before .if1 .left) (c .before .if2 .left) _ (c .if3 .taken)) ∙ c .before .before .before .before .before .loop .inv
+returns-3 c =
+    let head : Place tie.At-loop = search in
+    sym (digits-zero (digit (search)) (c .if3 .taken)) ∙ head .loop .inv
 
 returns-4 : tie.Need-returns-4 Inv-loop μ-loop
-returns-4 c = sym (digits-full _ _ (c .before .before .before .before .before .loop-test .taken) (c .before .before .before .if1 .left) (c .before .before .if2 .left) _ (c .before .if3 .left) (c .if4 .taken)) ∙ c .before .before .before .before .before .before .loop .inv
+returns-4 c =
+    let head : Place tie.At-loop = search in
+    let some : Place tie.Else3 = search in
+    sym (digits-full (digit (search)) (some .if3 .left) (c .if4 .taken)) ∙ head .loop .inv
 
 loop-again : tie.Need-loop-again Inv-loop μ-loop
-loop-again c = rw (c .wide .ensures) (sym (digits-more _ _ (c .before .before .before .before .before .before .loop-test .taken) (c .before .before .before .before .if1 .left) (c .before .before .before .if2 .left) _ (c .before .before .if3 .left) (c .before .if4 .left)) ∙ c .before .before .before .before .before .before .before .loop .inv)
+loop-again c =
+    let head : Place tie.At-loop = search in
+    let some : Place tie.Else3 = search in
+    let room : Place tie.Else4 = search in
+    let more = digits-more (digit (search)) (some .if3 .left) (room .if4 .left) in
+    rw (c .u8-u64 .ensures .same) (sym more ∙ head .loop .inv)
 
 returns-5 : tie.Need-returns-5 Inv-loop μ-loop
 returns-5 c = sym (digits-end _ _ _ (c .loop-test .left)) ∙ c .before .loop .inv
@@ -40,5 +72,5 @@ pub more-digits-spec : {M : Type 1} → statement M
 more-digits-spec =
     tie.close
     (tie.spec
-    Inv-loop μ-loop loop-holds (λ c. omega arith) returns returns-2 returns-3 returns-4 (λ c. omega arith) (λ c κs. tt) (λ c. omega arith)
-    (λ c. omega arith) (λ c. omega arith) loop-again returns-5)
+    Inv-loop μ-loop loop-holds (λ c. omega arith) returns returns-2 returns-3 returns-4 (λ c. omega arith)
+    (λ c κs. tt) (λ c. omega arith) (λ c. omega arith) (λ c. omega arith) loop-again returns-5)

@@ -1,11 +1,17 @@
--- A field at a place: the part that is lent has the bytes of the definition.
+-- A field at a place.
+-- The part that is lent has the bytes of the definition.
 use native.Mathlib.Nat.{add-sub-cancel-left}
 use borrow.Author.Needs.{needs}
 use Rattle.fields.proofs.number_at.Statement.{statement}
 use Rattle.fields.proofs.number_at.Tie as tie
 
 returns : tie.Need-returns
-returns c = rw (add-sub-cancel-left (c .before .before .before .args .at) (c .before .before .before .args .columns)) at (c .read-number .ensures)
+returns c =
+    let start : tie.Start = search in
+    rw (add-sub-cancel-left (start .args .at) (start .args .columns)) at (c .read-number .ensures)
 
 pub number-at-spec : {M : Type 1} → statement M
-number-at-spec = tie.close (tie.spec (λ c. search needs) (λ c. search needs) (λ c. search needs) (λ c. search needs) (λ c κs. search needs) returns)
+number-at-spec =
+    tie.close
+    (tie.spec
+    (λ c. search needs) (λ c. search needs) (λ c. search needs) (λ c. search needs) (λ c κs. search needs) returns)

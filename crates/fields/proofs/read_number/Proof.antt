@@ -5,7 +5,7 @@ use mathlib.Core.Path.{_≡_, refl, sym, _∙_}
 use lib.ListN.{length, drop}
 use native.Mathlib.Omega.{arith}
 use Rattle.fields.specs.Field.{readField}
-use Rattle.fields.proofs.Turns.{field-end, field-low, field-high, field-digit, field-blank}
+use Rattle.fields.proofs.Turns.{DigitAt, field-end, field-low, field-high, field-digit, field-blank}
 use Rattle.fields.proofs.read_number.Statement.{statement}
 use Rattle.fields.proofs.read_number.Tie as tie
 
@@ -15,20 +15,45 @@ Inv-loop s i₀ i = readField (drop i s) ≡ readField s
 abbrev μ-loop : tie.MeasureT-loop
 μ-loop s i₀ i = length s - i
 
+abbrev Place : (tie.InvT-loop → tie.MeasureT-loop → Type 0) → Type 0
+Place place = place Inv-loop μ-loop
+
+-- a digit stands at the place of the turn
+digit :
+    (c : Place tie.Else3) →
+    let head = c .before .before .before .before .before in
+    DigitAt (head .before .before .args .s .now) (head .loop .i)
+digit c =
+    let here : Place tie.In-loop = search in
+    record { inside = here .loop-test .taken; low = c .before .if2 .left; high = c .if3 .left }
+
 loop-holds : tie.Need-loop-holds Inv-loop μ-loop
 loop-holds c = refl
 
 returns : tie.Need-returns Inv-loop μ-loop
-returns c = sym (field-low _ _ (c .before .before .before .loop-test .taken) (c .before .if1 .taken) (c .if2 .taken)) ∙ c .before .before .before .before .loop .inv
+returns c =
+    let here : Place tie.In-loop = search in
+    let other : Place tie.Then1 = search in
+    sym (field-low _ _ (here .loop-test .taken) (other .if1 .taken) (c .if2 .taken)) ∙ here .before .loop .inv
 
 returns-2 : tie.Need-returns-2 Inv-loop μ-loop
-returns-2 c = sym (field-high _ _ (c .before .before .before .before .loop-test .taken) (c .before .before .if1 .taken) (c .if3 .taken)) ∙ c .before .before .before .before .before .loop .inv
+returns-2 c =
+    let here : Place tie.In-loop = search in
+    let other : Place tie.Then1 = search in
+    sym (field-high _ _ (here .loop-test .taken) (other .if1 .taken) (c .if3 .taken)) ∙ here .before .loop .inv
 
 returns-3 : tie.Need-returns-3 Inv-loop μ-loop
-returns-3 c = c .more-digits .ensures ∙ rw (c .before .wide .ensures) (sym (field-digit _ _ (c .before .before .before .before .before .before .loop-test .taken) (c .before .before .before .if2 .left) (c .before .before .if3 .left) (c .before .before .before .before .if1 .taken)) ∙ c .before .before .before .before .before .before .before .loop .inv)
+returns-3 c =
+    let here : Place tie.In-loop = search in
+    let other : Place tie.Then1 = search in
+    let first : Place tie.After-u8-u64 = search in
+    let from-here = sym (field-digit (digit (search)) (other .if1 .taken)) ∙ here .before .loop .inv in
+    c .more-digits .ensures ∙ rw (first .u8-u64 .ensures .same) from-here
 
 loop-again : tie.Need-loop-again Inv-loop μ-loop
-loop-again c = sym (field-blank _ _ (c .before .before .loop-test .taken) (c .if1 .left)) ∙ c .before .before .before .loop .inv
+loop-again c =
+    let here : Place tie.In-loop = search in
+    sym (field-blank _ _ (here .loop-test .taken) (c .if1 .left)) ∙ here .before .loop .inv
 
 returns-4 : tie.Need-returns-4 Inv-loop μ-loop
 returns-4 c = sym (field-end _ _ (c .loop-test .left)) ∙ c .before .loop .inv
@@ -37,5 +62,5 @@ pub read-number-spec : {M : Type 1} → statement M
 read-number-spec =
     tie.close
     (tie.spec
-    Inv-loop μ-loop loop-holds (λ c. omega arith) returns returns-2 (λ c. omega arith) (λ c κs. tt) (λ c κs. tt) returns-3 (λ c. omega arith)
-    (λ c. omega arith) loop-again returns-4)
+    Inv-loop μ-loop loop-holds (λ c. omega arith) returns returns-2 (λ c. omega arith) (λ c κs. tt) (λ c κs. tt)
+    returns-3 (λ c. omega arith) (λ c. omega arith) loop-again returns-4)

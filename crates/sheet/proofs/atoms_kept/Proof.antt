@@ -1,43 +1,89 @@
 -- Rule 6 over the stored bonds.
 -- Invariant: the bonds passed have both atoms in range.
-use Prim.Native.Nat.{_-_, _≤_}
-use mathlib.Core.Path.{_≡_, refl, sym, _∙_}
+use Prim.Native.Nat.{_-_}
+use mathlib.Core.Path.{_≡_, sym, _∙_}
 use mathlib.Core.Bool.{true}
 use native.Mathlib.Omega.{arith}
-use borrow.Author.Needs.{needs}
 use borrow.Author.Tests.{not-true, not-false}
-use Rattle.graph.specs.Every.{allBelow}
-use Rattle.graph.proofs.Loops.{all-fails, all-more, all-done}
-use Rattle.sheet.specs.Parts.{storedBond}
-use Rattle.sheet.proofs.Stored.{within, within-left, within-right, within-both, atoms-kept-is}
+use Rattle.molecule.specs.Record.{isAtom}
+use Rattle.sheet.proofs.Stored.{left, right}
+use Rattle.sheet.proofs.Stored.{AtomsPassed, atoms-none, atoms-left, atoms-right, atoms-more, atoms-all}
 use Rattle.sheet.proofs.atoms_kept.Statement.{statement}
 use Rattle.sheet.proofs.atoms_kept.Tie as tie
 
 abbrev Inv-loop : tie.InvT-loop
-Inv-loop values n m k₀ k = (k ≤ m) × (allBelow k (within n (storedBond values)) ≡ true)
+Inv-loop values n m k₀ k = AtomsPassed n values m k
 
 abbrev μ-loop : tie.MeasureT-loop
 μ-loop values n m k₀ k = m - k
 
+-- ---- the places of a turn: each name goes back from a later place to an earlier one
+-- (in a proof, the argument `(search)` is a place: it is found in c by its type)
+
+abbrev Place : (tie.InvT-loop → tie.MeasureT-loop → Type 0) → Type 0
+Place place = place Inv-loop μ-loop
+
+-- from where the first atom is tested
+abbrev turn : Place tie.After-is-atom → Place tie.In-loop
+turn c = c .before .before .before
+
+-- from where the second atom is tested
+abbrev first : Place tie.After-is-atom2 → Place tie.After-is-atom
+first c = c .before .before .before .before
+
+-- ---- what is known there: the tests are those of the stored bond
+
+left-told :
+    (c : Place tie.After-is-atom) →
+    let head = turn c .before in
+    let args = head .before .args in
+    isAtom (args .n) (left (args .values .now) (head .loop .k)) ≡ c .is-atom .result
+left-told c = rw (c .before .u16-usize .ensures .same) at (sym (c .is-atom .ensures))
+
+right-told :
+    (c : Place tie.After-is-atom2) →
+    let head = turn (first c) .before in
+    let args = head .before .args in
+    isAtom (args .n) (right (args .values .now) (head .loop .k)) ≡ c .is-atom2 .result
+right-told c = rw (c .before .u16-usize2 .ensures .same) at (sym (c .is-atom2 .ensures))
+
+left-kept :
+    (c : Place tie.Else1) →
+    let head = turn (c .before) .before in
+    let args = head .before .args in
+    isAtom (args .n) (left (args .values .now) (head .loop .k)) ≡ true
+left-kept c = left-told (search) ∙ not-false _ (c .if1 .left)
+
+-- ---- the needs
+
 loop-holds : tie.Need-loop-holds Inv-loop μ-loop
-loop-holds c = (search needs, refl)
+loop-holds c = atoms-none
 
 returns : tie.Need-returns Inv-loop μ-loop
-returns c = sym (atoms-kept-is _ _ _ ∙ all-fails _ (within _ _) _ (c .before .before .before .before .loop-test .taken) (within-left (c .before .before .before .before .before .before .args .values .now) (c .before .before .before .before .before .loop .k) (c .before .before .before .before .before .before .args .n) (rw (c .before .before .wide .ensures) at (sym (c .before .is-atom .ensures)) ∙ not-true _ (c .if1 .taken))))
+returns c =
+    let here : Place tie.In-loop = search in
+    let out = left-told (search) ∙ not-true _ (c .if1 .taken) in
+    sym (atoms-left (here .before .loop .inv) (here .loop-test .taken) out)
 
 returns-2 : tie.Need-returns-2 Inv-loop μ-loop
-returns-2 c = sym (atoms-kept-is _ _ _ ∙ all-fails _ (within _ _) _ (c .before .before .before .before .before .before .before .before .loop-test .taken) (within-right (c .before .before .before .before .before .before .before .before .before .before .args .values .now) (c .before .before .before .before .before .before .before .before .before .loop .k) (c .before .before .before .before .before .before .before .before .before .before .args .n) (rw (c .before .before .before .before .before .before .wide .ensures) at (sym (c .before .before .before .before .before .is-atom .ensures)) ∙ not-false _ (c .before .before .before .before .if1 .left)) (rw (c .before .before .wide2 .ensures) at (sym (c .before .is-atom2 .ensures)) ∙ not-true _ (c .if2 .taken))))
+returns-2 c =
+    let here : Place tie.In-loop = search in
+    let out = right-told (search) ∙ not-true _ (c .if2 .taken) in
+    sym (atoms-right (here .before .loop .inv) (here .loop-test .taken) (left-kept (search)) out)
 
 loop-again : tie.Need-loop-again Inv-loop μ-loop
-loop-again c = (omega arith, all-more _ (within _ _) (c .before .before .before .before .before .before .before .before .before .loop .inv .1) (within-both (c .before .before .before .before .before .before .before .before .before .before .args .values .now) (c .before .before .before .before .before .before .before .before .before .loop .k) (c .before .before .before .before .before .before .before .before .before .before .args .n) (rw (c .before .before .before .before .before .before .wide .ensures) at (sym (c .before .before .before .before .before .is-atom .ensures)) ∙ not-false _ (c .before .before .before .before .if1 .left)) (rw (c .before .before .wide2 .ensures) at (sym (c .before .is-atom2 .ensures)) ∙ not-false _ (c .if2 .left))))
+loop-again c =
+    let here : Place tie.In-loop = search in
+    let kept = right-told (search) ∙ not-false _ (c .if2 .left) in
+    atoms-more (here .before .loop .inv) (here .loop-test .taken) (left-kept (search)) kept
 
 returns-3 : tie.Need-returns-3 Inv-loop μ-loop
-returns-3 c = sym (atoms-kept-is _ _ _ ∙ all-done _ _ (within _ _) (c .before .loop .inv .0) (c .loop-test .left) (c .before .loop .inv .1))
+returns-3 c = sym (atoms-all (c .before .loop .inv) (c .loop-test .left))
 
 pub atoms-kept-spec : {M : Type 1} → statement M
 atoms-kept-spec =
     tie.close
     (tie.spec
-    Inv-loop μ-loop loop-holds (λ c. omega arith) (λ c. omega arith) (λ c. omega arith) (λ c. omega arith) (λ c κs. tt) (λ c κs. tt) returns
-    (λ c. omega arith) (λ c. omega arith) (λ c. omega arith) (λ c. omega arith) (λ c. omega arith) (λ c κs. tt) (λ c κs. tt) returns-2 (λ c. omega arith)
-    (λ c. omega arith) loop-again returns-3)
+    Inv-loop μ-loop loop-holds (λ c. omega arith) (λ c. omega arith) (λ c. omega arith) (λ c. omega arith)
+    (λ c κs. tt) (λ c κs. tt) returns (λ c. omega arith) (λ c. omega arith) (λ c. omega arith) (λ c. omega arith)
+    (λ c. omega arith) (λ c κs. tt) (λ c κs. tt) returns-2 (λ c. omega arith) (λ c. omega arith) loop-again returns-3)

@@ -1,83 +1,94 @@
 -- The whole reader, rules 1 to 8 in their order.
 -- Each return by the rule that was broken first; the stored numbers are the sheet's.
-use Prim.Native.Nat.{ℕ, suc, _*_, _/_, _%_, _≤_}
-use mathlib.Core.Path.{_≡_, refl, ap₂, sym, _∙_}
-use mathlib.Core.Bool.{true}
-use mathlib.Core.List.{List}
-use lib.ListN.{length}
-use Rattle.graph.specs.Every.{allBelow}
+use mathlib.Core.Path.{sym, _∙_}
 use borrow.Author.Tests.{not-true, not-false}
-use Rattle.sheet.specs.Read.{lineKept, lineOf, atomsOf, bondsOf, bondOf, readBonds}
-use Rattle.sheet.specs.Parts.{Decodes}
-use Rattle.sheet.proofs.Same.{stored-atoms, stored-bonds, stored-read, size-same}
-use Rattle.sheet.proofs.Answers.{sheet-short, sheet-ragged, sheet-bytes, sheet-atoms, sheet-bonds, sheet-size, sheet-read}
 use borrow.Author.Needs.{needs}
+use Rattle.sheet.proofs.Answers.{sheet-short, sheet-ragged, sheet-bytes}
+use Rattle.sheet.proofs.Reading.{StoredSheet, stored-atoms, stored-bonds, stored-size, stored-read}
 use Rattle.sheet.proofs.read_sheet.Statement.{statement}
 use Rattle.sheet.proofs.read_sheet.Tie as tie
+
+-- ---- the places: each name goes back from a later place to an earlier one
+-- (in a proof, the argument `(search)` is a place: it is found in c by its type)
+
+-- from where the lines are decoded
+abbrev start : tie.After-decode → tie.Start
+start c = c .before .before .before .before
+
+-- from where n is read, and then m
+abbrev decoded : tie.After-u16-usize → tie.After-decode
+decoded c = c .before .before .before .before
+
+abbrev first : tie.After-u16-usize2 → tie.After-u16-usize
+first c = c .before
+
+-- ---- what is known there
+
+known :
+    (c : tie.After-u16-usize2) →
+    let decoded = decoded (first c) in
+    StoredSheet (start decoded .args .s .now) (decoded .decode .result .values) (first c .u16-usize .result)
+    (c .u16-usize2 .result)
+known c =
+    let else1 : tie.Else1 = search in
+    let else2 : tie.Else2 = search in
+    let else3 : tie.Else3 = search in
+    let lines = decoded (first c) .decode .ensures in
+    let ok = not-false _ (else3 .if3 .left) in
+    record {
+      long = else1 .if1 .left;
+      whole = else2 .if2 .left;
+      lines = sym (lines .ok) ∙ ok;
+      decodes = lines .values ok;
+      first = first c .u16-usize .ensures .same;
+      second = c .u16-usize2 .ensures .same;
+    }
+
+-- ---- the needs: the rule that each return met
 
 returns : tie.Need-returns
 returns c = c .refused .ensures ∙ sym (sheet-short _ (c .before .if1 .taken))
 
 returns-2 : tie.Need-returns-2
-returns-2 c = c .refused2 .ensures ∙ sym (sheet-ragged (c .before .before .before .before .args .s .now) (c .before .before .if1 .left) (c .before .if2 .taken))
+returns-2 c =
+    let else1 : tie.Else1 = search in
+    c .refused2 .ensures ∙ sym (sheet-ragged _ (else1 .if1 .left) (c .before .if2 .taken))
 
 returns-3 : tie.Need-returns-3
-returns-3 c = c .refused3 .ensures ∙ sym (sheet-bytes (c .before .before .before .before .before .before .before .args .s .now) (c .before .before .before .before .before .if1 .left) (c .before .before .before .before .if2 .left) (sym (c .before .before .before .decode .ensures .ok) ∙ not-true _ (c .before .if3 .taken)))
-
--- What is known once n and m are read: rules 1 and 2 are kept, and the numbers are the sheet's
-record Known (s values : List ℕ) (n m : ℕ) : Type 0 where
-  pub long : 9 ≤ length s
-  pub whole : length s % 9 ≡ 0
-  pub lines : allBelow (length s / 9) (lineKept s) ≡ true
-  pub decodes : Decodes values (lineOf s) (length s / 9)
-  pub atoms : n ≡ atomsOf s
-  pub bonds : m ≡ bondsOf s
-
-known : (c : tie.After-wide2) → Known (c .before .before .before .before .before .before .before .before .before .args .s .now) (c .before .before .before .before .before .decode .result .values) (c .before .wide .result) (c .wide2 .result)
-known c =
-    let s = c .before .before .before .before .before .before .before .before .before .args .s .now in
-    let long = c .before .before .before .before .before .before .before .if1 .left in
-    let ok = not-false _ (c .before .before .before .if3 .left) in
-    let decodes = c .before .before .before .before .before .decode .ensures .values ok in
-    record {
-      long = long;
-      whole = c .before .before .before .before .before .before .if2 .left;
-      lines = sym (c .before .before .before .before .before .decode .ensures .ok) ∙ ok;
-      decodes = decodes;
-      atoms = c .before .wide .ensures ∙ stored-atoms s _ decodes long;
-      bonds = c .wide2 .ensures ∙ stored-bonds s _ decodes long;
-    }
+returns-3 c =
+    let else1 : tie.Else1 = search in
+    let else2 : tie.Else2 = search in
+    let decode : tie.After-decode = search in
+    let broken = sym (decode .decode .ensures .ok) ∙ not-true _ (c .before .if3 .taken) in
+    c .refused3 .ensures ∙ sym (sheet-bytes _ (else1 .if1 .left) (else2 .if2 .left) broken)
 
 returns-4 : tie.Need-returns-4
-returns-4 c =
-    let k = known (c .before .before) in
-    c .refused4 .ensures ∙ sym (sheet-atoms (c .before .before .before .before .before .before .before .before .before .before .before .args .s .now) (k .long) (k .whole) (k .lines) (rw (k .atoms) at (c .before .if4 .taken)))
+returns-4 c = c .refused4 .ensures ∙ sym (stored-atoms (known (search)) (c .before .if4 .taken))
 
 returns-5 : tie.Need-returns-5
 returns-5 c =
-    let k = known (c .before .before .before) in
-    c .refused5 .ensures ∙ sym (sheet-bonds (c .before .before .before .before .before .before .before .before .before .before .before .before .args .s .now) (k .long) (k .whole) (k .lines) (rw (k .atoms) at (c .before .before .if4 .left)) (rw (k .bonds) at (c .before .if5 .taken)))
+    let else4 : tie.Else4 = search in
+    c .refused5 .ensures ∙ sym (stored-bonds (known (search)) (else4 .if4 .left) (c .before .if5 .taken))
 
 returns-6 : tie.Need-returns-6
 returns-6 c =
-    let k = known (c .before .before .before .before) in
+    let else4 : tie.Else4 = search in
+    let else5 : tie.Else5 = search in
     c .refused6 .ensures
-    ∙ sym (sheet-size (c .before .before .before .before .before .before .before .before .before .before .before .before .before .args .s .now) (k .long) (k .whole) (k .lines) (rw (k .atoms) at (c .before .before .before .if4 .left)) (rw (k .bonds) at (c .before .before .if5 .left)) (λ e. c .before .if6 .taken (e ∙ size-same _ _ (k .bonds))))
+    ∙ sym (stored-size (known (search)) (else4 .if4 .left) (else5 .if5 .left) (c .before .if6 .taken))
 
 returns-7 : tie.Need-returns-7
 returns-7 c =
-    let s = c .before .before .before .before .before .before .before .before .before .before .before .before .before .before .args .s .now in
-    let k = known (c .before .before .before .before .before) in
-    let size : length s ≡ 9 * suc (c .before .before .before .before .before .wide2 .result) = c .before .before .if6 .left ∙ sym (size-same _ _ refl) in
-    c .read-bonds .ensures
-    ∙ stored-read s _ (k .decodes) _ _ (c .before .before .before .if5 .left) size
-    ∙ ap₂ (λ x y. readBonds x (bondOf s) y) (k .atoms) (k .bonds)
-    ∙ sym (sheet-read s (k .long) (k .whole) (k .lines) (rw (k .atoms) at (c .before .before .before .before .if4 .left)) (rw (k .bonds) at (c .before .before .before .if5 .left)) (rw (k .bonds) at size))
+    let else4 : tie.Else4 = search in
+    let else5 : tie.Else5 = search in
+    let else6 : tie.Else6 = search in
+    c .read-bonds .ensures ∙ stored-read (known (search)) (else4 .if4 .left) (else5 .if5 .left) (else6 .if6 .left)
 
 pub read-sheet-spec : {M : Type 1} → statement M
 read-sheet-spec =
     tie.close
     (tie.spec
-    (λ c κs. search needs) returns (λ c κs. search needs) returns-2 (λ c κs. search needs) (λ c κs. search needs) returns-3 (λ c. search needs)
-    (λ c κs. search needs) (λ c. search needs) (λ c κs. search needs) (λ c κs. search needs) returns-4 (λ c κs. search needs) returns-5
-    (λ c. search needs) (λ c. search needs) (λ c κs. search needs) returns-6 (λ c κs. search needs) returns-7)
+    (λ c κs. search needs) returns (λ c κs. search needs) returns-2 (λ c κs. search needs) (λ c κs. search needs)
+    returns-3 (λ c. search needs) (λ c κs. search needs) (λ c. search needs) (λ c κs. search needs)
+    (λ c κs. search needs) returns-4 (λ c κs. search needs) returns-5 (λ c. search needs) (λ c. search needs)
+    (λ c κs. search needs) returns-6 (λ c κs. search needs) returns-7)
