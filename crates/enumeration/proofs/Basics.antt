@@ -86,20 +86,14 @@ unfolding keep
 keep-mem t [] m = absurd (List·Memᴰ·not-nil m)
 keep-mem t (x ∷ xs) {w} m = go (t x) refl (λ (m′ : List·Memᴰ w (keep t xs)). keep-mem t xs m′) m
   where
-    deeper : (List·Memᴰ w xs × (t w ≡ true)) → List·Memᴰ w (x ∷ xs) × (t w ≡ true)
-    deeper (m, e) = (List·Memᴰ·tail m, e)
-
-    first :
-        t x ≡ true → (List·Memᴰ w (keep t xs) → List·Memᴰ w xs × (t w ≡ true)) →
-        (w ≡ x) ⊎ List·Memᴰ w (keep t xs) → List·Memᴰ w (x ∷ xs) × (t w ≡ true)
-    first e ih (inl q) = (List·Memᴰ·head q, ap t q ∙ e)
-    first e ih (inr m′) = deeper (ih m′)
-
     go :
         (b : Bool) → t x ≡ b → (List·Memᴰ w (keep t xs) → List·Memᴰ w xs × (t w ≡ true)) →
         List·Memᴰ w (cond b (x ∷ keep t xs) (keep t xs)) → List·Memᴰ w (x ∷ xs) × (t w ≡ true)
-    go true e ih m′ = first e ih (List·Memᴰ·cases-cons m′)
-    go false e ih m′ = deeper (ih m′)
+    go true e ih m′ = elim (List·Memᴰ·cases-cons m′) [
+      | inl q ↦ (List·Memᴰ·head q, ap t q ∙ e)
+      | inr kept ↦ let (of-xs, passes) = ih kept in (List·Memᴰ·tail of-xs, passes)
+    ]
+    go false e ih m′ = let (of-xs, passes) = ih m′ in (List·Memᴰ·tail of-xs, passes)
 
 -- a word of the list that passes is kept
 pub mem-keep :
@@ -157,14 +151,10 @@ keep-swap s t (x ∷ xs) = go (s x) refl (t x) refl (keep-swap s t xs)
 pub any-mem : (t : List ℕ → Bool) (xs : List (List ℕ)) → any t xs ≡ true → (w : List ℕ) × List·Memᴰ w xs × (t w ≡ true)
 unfolding any
 any-mem t [] e = absurd (apart (sym e))
-any-mem t (x ∷ xs) e = go (any-mem t xs) (or-either (t x) (any t xs) e)
-  where
-    go :
-        (any t xs ≡ true → (w : List ℕ) × List·Memᴰ w xs × (t w ≡ true)) →
-        (t x ≡ true) ⊎ (any t xs ≡ true) →
-        (w : List ℕ) × List·Memᴰ w (x ∷ xs) × (t w ≡ true)
-    go ih (inl q) = (x, List·Memᴰ·head refl, q)
-    go ih (inr q) = let (w, m, e) = ih q in (w, List·Memᴰ·tail m, e)
+any-mem t (x ∷ xs) e = elim (or-either (t x) (any t xs) e) [
+  | inl q ↦ (x, List·Memᴰ·head refl, q)
+  | inr q ↦ let (w, of-xs, passes) = any-mem t xs q in (w, List·Memᴰ·tail of-xs, passes)
+]
 
 pub mem-any : (t : List ℕ → Bool) {xs : List (List ℕ)} {w : List ℕ} → List·Memᴰ w xs → t w ≡ true → any t xs ≡ true
 unfolding any
@@ -206,14 +196,10 @@ pub joined-mem :
     (a : ℕ) × List·Memᴰ a l × List·Memᴰ w (f a)
 unfolding joined
 joined-mem f [] m = absurd (List·Memᴰ·not-nil m)
-joined-mem f (a ∷ l) {w} m = go (λ (m′ : List·Memᴰ w (joined f l)). joined-mem f l m′) (List·Memᴰ·append-cases (f a) m)
-  where
-    go :
-        (List·Memᴰ w (joined f l) → (b : ℕ) × List·Memᴰ b l × List·Memᴰ w (f b)) →
-        List·Memᴰ w (f a) ⊎ List·Memᴰ w (joined f l) →
-        (b : ℕ) × List·Memᴰ b (a ∷ l) × List·Memᴰ w (f b)
-    go ih (inl q) = (a, List·Memᴰ·head refl, q)
-    go ih (inr q) = let (b, of-l, of-fb) = ih q in (b, List·Memᴰ·tail of-l, of-fb)
+joined-mem f (a ∷ l) m = elim (List·Memᴰ·append-cases (f a) m) [
+  | inl q ↦ (a, List·Memᴰ·head refl, q)
+  | inr q ↦ let (b, of-l, of-fb) = joined-mem f l q in (b, List·Memᴰ·tail of-l, of-fb)
+]
 
 pub mem-joined :
     (f : ℕ → List (List ℕ)) {l : List ℕ} {a : ℕ} {w : List ℕ} →
@@ -225,24 +211,19 @@ mem-joined f (List·Memᴰ·tail {x} {xs} h) m = Memᴰ·append-right (f x) (mem
 pub from-mem : (c k : ℕ) {a : ℕ} → List·Memᴰ a (from c k) → (c ≤ a) × (a < c + k)
 unfolding from
 from-mem c zero m = absurd (List·Memᴰ·not-nil m)
-from-mem c (suc k) {a} m = go (λ (m′ : List·Memᴰ a (from (suc c) k)). from-mem (suc c) k m′) (List·Memᴰ·cases-cons m)
-  where
-    go :
-        (List·Memᴰ a (from (suc c) k) → (suc c ≤ a) × (a < suc c + k)) →
-        (a ≡ c) ⊎ List·Memᴰ a (from (suc c) k) →
-        (c ≤ a) × (a < c + suc k)
-    go ih (inl q) = (omega arith, omega arith)
-    go ih (inr q) = let (low, high) = ih q in (omega arith, omega arith)
+from-mem c (suc k) m = elim (List·Memᴰ·cases-cons m) [
+  | inl q ↦ (omega arith, omega arith)
+  | inr q ↦ let (low, high) = from-mem (suc c) k q in (omega arith, omega arith)
+]
 
 pub mem-from : (c k a : ℕ) → c ≤ a → a < c + k → List·Memᴰ a (from c k)
 unfolding from
 mem-from c zero a h l = absurd (omega arith)
-mem-from c (suc k) a h l = go (compared c a) (λ (q : suc c ≤ a). mem-from (suc c) k a q (omega arith))
-  where
-    go : Compared c a → (suc c ≤ a → List·Memᴰ a (from (suc c) k)) → List·Memᴰ a (c ∷ from (suc c) k)
-    go (less q) ih = List·Memᴰ·tail (ih q)
-    go (same q) ih = List·Memᴰ·head (sym q)
-    go (more q) ih = absurd (omega arith)
+mem-from c (suc k) a h l = elim (compared c a) [
+  | less q ↦ List·Memᴰ·tail (mem-from (suc c) k a q (omega arith))
+  | same q ↦ List·Memᴰ·head (sym q)
+  | more q ↦ absurd (omega arith)
+]
 
 -- the words of at most k atoms more, each after the atom a
 abbrev pub starting : ℕ → ℕ → ℕ → List (List ℕ)
