@@ -1,5 +1,5 @@
--- The counts of a search: trials + n × |p| and n × extensions + the sum of p + c rise alike, by each trial and unwinding.
--- Open words: each is one of the at most n − 1 beginnings of some member.
+-- The counts of a search, by a balance: trials + n × |p| and n × extensions + the sum of p + c rise alike.
+-- At most n − 1 open words for each member: an open word is one of the beginnings of some member.
 use Prim.Native.Nat.{ℕ, zero, suc, _+_, _-_, _*_, _≤_}
 use native.Mathlib.Omega.{arith}
 use native.Mathlib.Nat.{mul-suc, mul-zero}

@@ -1,5 +1,5 @@
--- From every valid search, within 2 × n × n trials, a member is listed or the search is done: rising and unwinding use up
--- the slack of the beginning, and once an open word is entered it is not left before one of its members is listed.
+-- From every valid search, within 2 × n × n trials, a member is listed or the search is done. Rising and unwinding use
+-- up the slack of the beginning; once an open word is entered it is not left before one of its members is listed.
 use Prim.Native.Nat.{ℕ, zero, suc, _+_, _-_, _*_, _≤_, _<_}
 use native.Mathlib.Omega.{arith}
 use native.Mathlib.Nat.{mul-suc, mul-assoc, mul-le-mul-left}
@@ -198,10 +198,11 @@ module _ (F : Family) (L : Lawful F) where
           inr (rw (unwound-still n (st .next ∷ st .stack) 1 one)
           (aimed k (entered st) (entered-valid st one f) (aim-open (st .stack) (st .next) f) near))
       go c≤n false false e f ih =
-          let t = suc (st .trials) in
           let next = suc (st .next) in
-          ih (placed (unwound n (st .stack) next) t (st .extensions) (st .listed))
-          (unwound-valid F L (st .stack) next t (st .extensions) (st .listed) (v .open-stack) (omega arith) (omega arith))
+          let low : 1 ≤ next = omega arith in
+          let high : next ≤ suc n = omega arith in
+          ih (placed (unwound n (st .stack) next) (suc (st .trials)) (st .extensions) (st .listed))
+          (unwound-valid F L (st .stack) next (suc (st .trials)) (st .extensions) (st .listed) (v .open-stack) low high)
           (unwound-slack n (n * n) k (st .stack) next (omega arith))
 
   pub progresses :

@@ -127,7 +127,7 @@ under-mem true u ws m = List·Memᴰ·cases-cons m
 under-mem false u ws m = inl (List·Memᴰ·eq-of-singleton m)
 
 -- one turn at an atom: the words that begin with p and it
-pub twig-mem :
+twig-mem :
     (G : List ℕ → Bool) (n k : ℕ) (p : List ℕ) (a : ℕ) {w : List ℕ} →
     (List·Memᴰ w (branch G n k (a ∷ p)) → Beyond (a ∷ p) w) →
     List·Memᴰ w (twig G n k p a) → (v : List ℕ) × (w ≡ reverseAux p (a ∷ v))
@@ -140,18 +140,18 @@ twig-mem G n k p a below m =
 pub branch-mem : (G : List ℕ → Bool) (n k : ℕ) (p : List ℕ) {w : List ℕ} → List·Memᴰ w (branch G n k p) → Beyond p w
 unfolding branch
 branch-mem G n zero p m = absurd (List·Memᴰ·not-nil m)
-branch-mem G n (suc k) p {w} m =
+branch-mem G n (suc k) p m =
     let (a, of-atoms, of-twig) = joined-mem (twig G n k p) (from 1 n) m in
-    let (v, shape) = twig-mem G n k p a (λ (q : List·Memᴰ w (branch G n k (a ∷ p))). branch-mem G n k (a ∷ p) q) of-twig in
+    let (v, shape) = twig-mem G n k p a (branch-mem G n k (a ∷ p)) of-twig in
     (a, v, shape)
 
 pub turn-mem :
     (G : List ℕ → Bool) (n : ℕ) (p : List ℕ) (a : ℕ) {w : List ℕ} → List·Memᴰ w (turn G n p a) →
     (v : List ℕ) × (w ≡ reverseAux p (a ∷ v))
 unfolding turn
-turn-mem G n p a {w} m =
+turn-mem G n p a m =
     let k = n - suc (length p) in
-    twig-mem G n k p a (λ (q : List·Memᴰ w (branch G n k (a ∷ p))). branch-mem G n k (a ∷ p) q) m
+    twig-mem G n k p a (branch-mem G n k (a ∷ p)) m
 
 -- the same beginning does not matter to whether one begins the other
 pub begins-on : (p v w : List ℕ) → begins (reverseAux p v) (reverseAux p w) ≡ begins v w

@@ -303,7 +303,7 @@ module _ (F : Family) (L : Lawful F) where
       (q : List ℕ) →
       List·Memᴰ q (openWords F) ↔ ((isEmpty q ≡ false) × (m : List ℕ) × (F .member m ≡ true) × (begins q m ≡ true))
   open-exactly q =
-      (openWords-sound F q, λ (not-empty, m, is-member, q-begins). openWords-complete F L q m not-empty is-member q-begins)
+      (openWords-sound F q, λ (not-empty, m, is-member, begun). openWords-complete F L q m not-empty is-member begun)
 
   -- ---- progress
 
