@@ -195,6 +195,17 @@ begins-shorter [] (b ∷ w) e = omega arith
 begins-shorter (a ∷ v) [] e = absurd (apart (sym e))
 begins-shorter (a ∷ v) (b ∷ w) e = omega (arith, begins-shorter v w (and-both (eqb a b) (begins v w) e .1))
 
+-- where q begins m, m is q, then an atom, then perhaps more
+pub begins-rest : (q m : List ℕ) → begins q m ≡ true → (b : ℕ) × (v : List ℕ) × (m ≡ q ++ b ∷ v)
+unfolding begins
+begins-rest [] [] e = absurd (apart (sym e))
+begins-rest [] (b ∷ m) e = (b, m, refl)
+begins-rest (a ∷ q) [] e = absurd (apart (sym e))
+begins-rest (a ∷ q) (b ∷ m) e =
+    let (same-atom, q-begins) = and-both (eqb a b) (begins q m) e in
+    let (d, v, shape) = begins-rest q m q-begins in
+    (d, v, cc (eqb-true a b same-atom, shape))
+
 pub begins-range : (n : ℕ) (v w : List ℕ) → begins v w ≡ true → InRange n w → InRange n v
 unfolding begins
 begins-range n [] w e r = tt

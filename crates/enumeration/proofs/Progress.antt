@@ -15,7 +15,7 @@ use Rattle.enumeration.specs.Machine.{State, tried, isDone, unwound, pla
 use Rattle.enumeration.specs.Lawful.{Lawful}
 use Rattle.enumeration.specs.Trials.{Valid, steps}
 use Rattle.enumeration.proofs.Basics.{apart, decided, not-true-false, and-both, compared, less, same, more}
-use Rattle.enumeration.proofs.Order.{InRange}
+use Rattle.enumeration.proofs.Order.{InRange, begins-rest}
 use Rattle.enumeration.proofs.Stream.{begins-on}
 use Rattle.enumeration.proofs.Open.{range-on, tried-open, opens-below, member-range, begins-open, stack-most}
 use Rattle.enumeration.proofs.Trial.{done-place, unwound-valid}
@@ -56,16 +56,6 @@ unwound-slack n m k (a ∷ p) c h = go (eqb c (suc n)) refl (unwound-slack n m k
     go false q ih = h
 
 -- ---- aims
-
-begins-rest : (q m : List ℕ) → begins q m ≡ true → (b : ℕ) × (v : List ℕ) × (m ≡ q ++ b ∷ v)
-unfolding begins
-begins-rest [] [] e = absurd (apart (sym e))
-begins-rest [] (b ∷ m) e = (b, m, refl)
-begins-rest (a ∷ q) [] e = absurd (apart (sym e))
-begins-rest (a ∷ q) (b ∷ m) e =
-    let (same-atom, q-begins) = and-both (eqb a b) (begins q m) e in
-    let (d, v, shape) = begins-rest q m q-begins in
-    (d, v, cc (eqb-true a b same-atom, shape))
 
 -- some member begins with p and goes on with an atom that is at least c
 abbrev Aim : Family → List ℕ → ℕ → Type 0
