@@ -1,5 +1,5 @@
 -- Rings and paths have at most n atoms, all from 1 to n, and none begins another: from the laws of their definitions.
--- So a word is listed exactly when it is a ring (a path), and a non-empty p is open exactly when some p ++ a ∷ r is one.
+-- So a word is listed exactly when it is one, and a non-empty p is open exactly when some p ++ a ∷ r is one.
 use Prim.Native.Nat.{ℕ, _≤_, _<_}
 use mathlib.Core.Path.{_≡_}
 use mathlib.Core.Bool.{true, false}

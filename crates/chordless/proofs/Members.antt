@@ -1,5 +1,5 @@
--- A word is in the list of a family exactly when it is a member, and a non-empty p is open exactly when some p ++ a ∷ r is
--- one, for any family whose members have at most n atoms, all from 1 to n. From the laws of `words`, `keep` and `any`.
+-- A word is listed exactly when it is a member, and a non-empty p is open exactly when some p ++ a ∷ r is one, for any
+-- family whose members have at most n atoms, all from 1 to n. From the laws of `words`, `keep` and `any`.
 use Prim.Native.Nat.{ℕ, _≤_, _<_}
 use mathlib.Core.Path.{_≡_, refl}
 use mathlib.Core.Bool.{true, false}
@@ -12,7 +12,7 @@ use Rattle.enumeration.specs.Words.{begins, words, keep, Family, members, isOpe
 use Rattle.enumeration.proofs.Basics.{any-mem, mem-any, keep-mem, mem-keep}
 use Rattle.enumeration.proofs.Order.{range-at, words-complete, begins-rest}
 
--- p begins w: w is p and then at least one atom
+-- a word begins itself with an atom or more added
 pub begins-append : (v : List ℕ) (a : ℕ) (r : List ℕ) → begins v (v ++ a ∷ r) ≡ true
 unfolding begins
 begins-append [] a r = refl

@@ -1,5 +1,5 @@
--- An atom v opens a beginning p of a ring exactly when it is as `RingOpens` says: openness is reachability (document 01).
--- A ring that goes on p and v is cut at v; a chordless list from v to a closing atom, found from the walk, is joined to p.
+-- An atom v opens a beginning p of a ring exactly as `RingOpens` says: openness is reachability (document 01).
+-- A ring that goes on p and v is cut at v; a chordless list from v to a closing atom is joined to p.
 use Prim.Native.Nat.{ℕ, _≤_, _<_}
 use mathlib.Core.Path.{_≡_, sym}
 use mathlib.Core.Bool.{true, false}
@@ -75,7 +75,7 @@ module _ (n : ℕ) (adj : Adjacency) where
       let ring = ring-shape n adj s a (p ++ v ∷ q) b .0 e in
       let shape : p ++ v ∷ q ++ b ∷ [] ≡ p ++ v ∷ (q ++ b ∷ []) = append-assoc p (v ∷ q) (b ∷ []) in
       let chain : Chordless adj ((a ∷ p) ++ v ∷ (q ++ b ∷ [])) = rw shape at (ring .chain) in
-      let from-v : All (λ u. (s < u) × (u ≤ n)) (v ∷ (q ++ b ∷ [])) = all-right p (rw shape at (all-tail (ring .above))) in
+      let from-v = all-right p (rw shape at (all-tail (ring .above))) in
       let (v-above, v-range) = all-head from-v in
       let (b-above, b-range) = all-head (all-right q (all-tail from-v)) in
       let off-p = off-clear adj (a ∷ p) (q ++ b ∷ []) (glue-off adj (a ∷ p) v (q ++ b ∷ []) chain) in
@@ -158,13 +158,12 @@ module _ (n : ℕ) (adj : Adjacency) where
         let b = o .last in
         let (v-below-b, b-range, closes, b-off) = closing-facts adj n s [] v b (o .closes) in
         let v-differs : v ≢ b = omega arith in
-        let (q, between, chain) = shortest adj (λ u. free-irreflexive adj n s (s ∷ []) u irr) v-differs (o .reached) in
+        let (q, between, chain) = shortest adj (free-irreflexive adj n s (s ∷ []) irr) v-differs (o .reached) in
         let s-below-v : s < v = o .above in
-        let above : All (λ u. (s < u) × (u ≤ n)) (v ∷ q ++ b ∷ []) =
-        (s-below-v, o .range) ◁ all-append (free-range adj n s (s ∷ []) between) ((omega arith, b-range) ◁ none) in
+        let after-v = all-append (free-range adj n s (s ∷ []) between) ((omega arith, b-range) ◁ none) in
         let ring : RingShape n adj s v q b = record {
           least = stem .least;
-          above = above;
+          above = (s-below-v, o .range) ◁ after-v;
           chain = chain;
           opens = touches-facts adj (s ∷ []) v (o .touches);
           inner = all-map (λ u off. all-head off) (free-clear adj n s (s ∷ []) between);
@@ -178,22 +177,20 @@ module _ (n : ℕ) (adj : Adjacency) where
         let (s-off-v, touches-p) = touches-facts adj (s ∷ a ∷ p) v (o .touches) in
         let (opens, inner) = stem .starts in
         let v-differs : v ≢ b = λ e. told-apart adj s b v closes s-off-v (sym e) in
-        let (q, between, chain) =
-        shortest adj (λ u. free-irreflexive adj n s (s ∷ a ∷ p) u irr) v-differs (o .reached) in
+        let (q, between, chain) = shortest adj (free-irreflexive adj n s (s ∷ a ∷ p) irr) v-differs (o .reached) in
         let s-below-v : s < v = o .above in
         let (s-below-a, a-range) = all-head (stem .above) in
         let off = free-clear adj n s (s ∷ a ∷ p) between in
         let not-v = fresh adj a p v (told-apart adj s a v opens s-off-v) (stem .chain) touches-p in
         let a-differs : a ≢ b = omega arith in
-        let not-b : All (λ u. u ≢ b) (a ∷ p) =
-        a-differs ◁ all-map (λ u e g. told-apart adj s b u closes e (sym g)) inner in
+        let p-differs : All (λ u. u ≢ b) p = all-map (λ u e g. told-apart adj s b u closes e (sym g)) inner in
         let up-to-q = all-append (stem .above) ((s-below-v, o .range) ◁ free-range adj n s (s ∷ a ∷ p) between) in
         let ring : RingShape n adj s a (p ++ v ∷ q) b = record {
           least = stem .least;
           above = all-append up-to-q ((omega arith, b-range) ◁ none);
           chain =
               join adj (a ∷ p) v q b (stem .chain) (follows-of adj (a ∷ p) v not-v touches-p) chain
-              (all-map (λ u f. all-tail f) off) b-off not-b;
+              (all-map (λ u f. all-tail f) off) b-off (a-differs ◁ p-differs);
           opens = opens;
           inner = all-append inner (s-off-v ◁ all-map (λ u f. all-head f) off);
           closes = closes;

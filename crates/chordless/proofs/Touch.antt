@@ -1,4 +1,4 @@
--- The tests of `Reach` as plain facts, by recursion on the beginning; and how a beginning is joined to a chordless list.
+-- The tests of `Reach` as plain facts, by recursion on the beginning; how a beginning is joined to a chordless list.
 -- No atom occurs twice in the joined list: an atom of a chordless list is told by the atom before it or after it.
 use Prim.Native.Nat.{ℕ, zero, suc, _≤_, _<_}
 use mathlib.Core.Path.{_≡_, sym, ap, _∙_}
@@ -143,9 +143,12 @@ module _ (adj : Adjacency) where
         let bounds = and-both (ltb low u) (leb u n) (lt-ltb low u h) (le-leb u n g) in
         and-both (ltb low u && leb u n) (clear adj p u) bounds (clear-of p u a)
 
-    -- a free atom is not bonded to itself
-    pub free-irreflexive : Irreflexive n adj → free n adj low p u ≡ true → adj u u ≡ false
-    free-irreflexive irr e = let (above, range, off) = free-facts e in irr u (omega arith) range
+  -- a free atom is not bonded to itself
+  pub free-irreflexive :
+      (n low : ℕ) (p : List ℕ) → Irreflexive n adj → (u : ℕ) → free n adj low p u ≡ true → adj u u ≡ false
+  free-irreflexive n low p irr u e =
+      let (above, range, off) = free-facts n low p u e in
+      irr u (omega arith) range
 
   -- a list of free atoms
   module _ (n low : ℕ) (p : List ℕ) {q : List ℕ} where
