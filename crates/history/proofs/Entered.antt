@@ -48,10 +48,10 @@ atoms-most mol e =
     let c = symmetric (mol .rows) in
     let d = loopless (mol .rows) in
     let w = within (mol .atoms) (mol .rows) in
-    leb-true (mol .atoms) 128
-    (and-left a b
-    (and-left (a && b) c
-    (and-left (a && b && c) d (and-left (a && b && c && d) w (and-left (a && b && c && d && w) _ e)))))
+    let to-w = and-left (a && b && c && d && w) _ e in
+    let to-d = and-left (a && b && c && d) w to-w in
+    let to-c = and-left (a && b && c) d to-d in
+    leb-true (mol .atoms) 128 (and-left a b (and-left (a && b) c to-c))
 
 pub family-atoms : (mol : Molecule) (kind s t : ℕ) → familyOf mol kind s t .atoms ≡ mol .atoms
 unfolding familyOf
@@ -59,8 +59,8 @@ family-atoms mol kind s t = go (eqb kind 0)
   where
     go :
         (b : Bool) →
-        cond b (rings (mol .atoms) (bonded (mol .atoms) (mol .rows)))
-        (paths (mol .atoms) (bonded (mol .atoms) (mol .rows)) s t) .atoms ≡ mol .atoms
+        let adj = bonded (mol .atoms) (mol .rows) in
+        cond b (rings (mol .atoms) adj) (paths (mol .atoms) adj s t) .atoms ≡ mol .atoms
     go true = refl
     go false = refl
 
@@ -68,12 +68,7 @@ family-atoms mol kind s t = go (eqb kind 0)
 pub prefix-size : (kind s t : ℕ) (st : State) → length (st .stack) ≤ 128 → length (searchAt kind s t st .prefix) ≡ 128
 unfolding searchAt held
 prefix-size kind s t st h =
-    omega (
-      arith,
-      length-append (reverse (st .stack)) (replicate (128 - length (reverse (st .stack))) 0),
-      length-replicate {A = ℕ} (128 - length (reverse (st .stack))) 0,
-      length-reverse (st .stack),
-    )
+    simp (length-append, length-replicate, length-reverse) (omega arith)
 
 module _ (R : Molecule) (good : wellFormed R ≡ true) where
   run-answers :
@@ -87,13 +82,13 @@ module _ (R : Molecule) (good : wellFormed R ≡ true) where
       take (length (outcome R q budget out .bytes)) (runOutput R q budget out) ≡ outcome R q budget out .bytes
   unfolding runOutput
   run-wrote q budget out e =
-      rw (good, e)
-      (take-append-seam (outcome R q budget out .bytes) (drop (length (outcome R q budget out .bytes)) out))
+      let bytes = outcome R q budget out .bytes in
+      rw (good, e) (take-append-seam bytes (drop (length bytes) out))
 
   pub save-at :
       (q : Search) (buffer : List ℕ) → restorable R q ≡ true →
-      saveAnswer R q buffer ≡ cond (leb (length (markText R q)) (length buffer)) (Written (length (markText R q)))
-      (Refused refusal.MarkRoom)
+      saveAnswer R q buffer ≡
+      cond (leb (length (markText R q)) (length buffer)) (Written (length (markText R q))) (Refused refusal.MarkRoom)
   unfolding saveAnswer
   save-at q buffer e = rw (good, e)
 
@@ -106,8 +101,8 @@ module _ (R : Molecule) (good : wellFormed R ≡ true) where
   module _ (kind s t : ℕ) (st : State) (back : stateOf (searchAt kind s t st) ≡ st)
       (passes : restorable R (searchAt kind s t st) ≡ true) where
     outcome-at :
-        (budget : ℕ) (out : List ℕ) → outcome R (searchAt kind s t st) budget out ≡ run (familyOf R kind s t) budget
-        (length out) st
+        (budget : ℕ) (out : List ℕ) →
+        outcome R (searchAt kind s t st) budget out ≡ run (familyOf R kind s t) budget (length out) st
     unfolding searchAt
     outcome-at budget out = ap (run (familyOf R kind s t) budget (length out)) back
 
@@ -116,15 +111,16 @@ module _ (R : Molecule) (good : wellFormed R ≡ true) where
     ran-at o = refl
 
     pub run-at :
-        (budget : ℕ) (out : List ℕ) → runSearch R (searchAt kind s t st) budget out ≡
+        (budget : ℕ) (out : List ℕ) →
+        runSearch R (searchAt kind s t st) budget out ≡
         ranAt kind s t (run (familyOf R kind s t) budget (length out) st)
     run-at budget out =
-        run-answers (searchAt kind s t st) budget out passes
-        ∙ ran-at (outcome R (searchAt kind s t st) budget out)
-        ∙ ap (ranAt kind s t) (outcome-at budget out)
+        run-answers (searchAt kind s t st) budget out passes ∙
+        ran-at (outcome R (searchAt kind s t st) budget out) ∙
+        ap (ranAt kind s t) (outcome-at budget out)
 
     pub wrote-at :
         (budget : ℕ) (out : List ℕ) →
-        take (length (run (familyOf R kind s t) budget (length out) st .bytes))
-        (runOutput R (searchAt kind s t st) budget out) ≡ run (familyOf R kind s t) budget (length out) st .bytes
+        let o = run (familyOf R kind s t) budget (length out) st in
+        take (length (o .bytes)) (runOutput R (searchAt kind s t st) budget out) ≡ o .bytes
     wrote-at budget out = rw (outcome-at budget out) at (run-wrote (searchAt kind s t st) budget out passes)

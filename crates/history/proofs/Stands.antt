@@ -1,5 +1,5 @@
 -- What holds of what stands whatever the calls began with: its parts, when it is done, and that calls handed it go on.
--- It is the search that they began with after the trials made (`Reached`), of which the theory of a search says the rest.
+-- It is the search that they began with after the trials made (`Reached`): the theory of a search says the rest.
 use Prim.Native.Nat.{ℕ, _+_, _*_, _≤_}
 use native.Mathlib.Omega.{arith}
 use mathlib.Core.Path.{_≡_, refl, sym, ap, _∙_}
