@@ -137,8 +137,9 @@ module _ (n : ℕ) (adj : Adjacency) (xs : List ℕ) where
   pub ring-facts : isRing n adj xs ≡ true → Ring n adj xs
   unfolding isRing
   ring-facts e =
+      let lowest = allBelow (length xs - 1) above in
       let oriented = ltb (atomAt xs 1) (lastAtom xs) in
-      let (l, r, i, b, o) = and5 (leb 3 (length xs)) (inRange n xs) induced (allBelow (length xs - 1) above) oriented e in
+      let (l, r, i, b, o) = and5 (leb 3 (length xs)) (inRange n xs) induced lowest oriented e in
       record {
         long = leb-true 3 (length xs) l;
         range = inRange-at n xs r;

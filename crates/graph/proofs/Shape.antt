@@ -1,5 +1,5 @@
--- A ring is s, then a chordless list a .. b above s of which s meets only a and b, with a below b; a path is a chordless
--- list from s to t. The places of the tests are counted here once, so that proofs on lists need not.
+-- A ring is s, then a chordless list a .. b above s of which s meets only a and b, with a below b; a path is a
+-- chordless list from s to t. The places of the tests are counted here once, so that proofs on lists need not.
 use Prim.Native.Nat.{ℕ, zero, suc, _-_, _≤_, _<_}
 use mathlib.Core.Path.{_≡_, refl, sym, ap, _∙_}
 use mathlib.Core.Bool.{Bool, true, false, _&&_, _||_}
