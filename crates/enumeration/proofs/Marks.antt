@@ -171,8 +171,7 @@ module _ (F : Family) (L : Lawful F) where
       let h : a ≤ suc n = omega arith in
       let below-p : level always n p 1 ≡ lower n p a ++ level always n p a = level-split n p a low h in
       let from-a : level always n p a ≡ turn always n p a ++ level always n p (suc a) = level-cons always n p a high in
-      let at-a : turn always n p a ≡ reverse (a ∷ p) ∷ level always n (a ∷ p) 1 =
-      turn-level n p a (stack-short F L p a o) in
+      let at-a = turn-level n p a (stack-short F L p a o) in
       words-cut p (stack-pop F L p a o) ∙ rw (below-p, from-a, at-a) (simp append-assoc)
 
 -- ---- on each side

@@ -87,13 +87,16 @@ module _ (F : Family) (L : Lawful F) where
   aim-short p c (b, v, is-member, high) =
       omega (arith, L .short (reverseAux p (b ∷ v)) is-member, length-reverseAux p (b ∷ v))
 
+  -- a member that is p and then v
+  member-on : (p v m : List ℕ) → m ≡ reverse p ++ v → member m ≡ true → member (reverseAux p v) ≡ true
+  member-on p v m shape e = rw (reverseAux-eq p v, ← shape) e
+
   -- an open word is aimed at from its start
   aim-open : (p : List ℕ) (a : ℕ) → isOpen F (reverse (a ∷ p)) ≡ true → Aim F (a ∷ p) 1
   aim-open p a o =
       let (m, is-member, beginning) = opens-below F (reverse (a ∷ p)) (tried-open F p a ∙ o) in
       let (b, v, shape) = begins-rest (reverse (a ∷ p)) m beginning in
-      let whole : member (reverseAux (a ∷ p) (b ∷ v)) ≡ true =
-      ap member (reverseAux-eq (a ∷ p) (b ∷ v) ∙ sym shape) ∙ is-member in
+      let whole = member-on (a ∷ p) (b ∷ v) m shape is-member in
       (b, v, whole, range-past (a ∷ p) (b ∷ v) whole .0)
 
   -- past a word that is neither a member nor open the aim is higher

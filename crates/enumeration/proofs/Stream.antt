@@ -211,15 +211,21 @@ module _ (G t : List ℕ → Bool) (shown : (q w : List ℕ) → t w ≡ true �
 
 -- ---- every word
 
+-- the words that start with a, each after p
+starting-twig :
+    (n k : ℕ) (p : List ℕ) (a : ℕ) →
+    map (reverseAux (a ∷ p)) (words n k) ≡ reverse (a ∷ p) ∷ branch always n k (a ∷ p) →
+    map (reverseAux p) (starting n k a) ≡ twig always n k p a
+starting-twig n k p a below = map-map (reverseAux p) (λ (w : List ℕ). a ∷ w) (words n k) ∙ below
+
 -- with every gate open it is every word below p
 pub words-branch : (n k : ℕ) (p : List ℕ) → map (reverseAux p) (words n k) ≡ reverse p ∷ branch always n k p
 unfolding words branch
 words-branch n zero p = refl
 words-branch n (suc k) p =
-    let below : (a : ℕ) → map (reverseAux p) (starting n k a) ≡ twig always n k p a =
-    λ a. map-map (reverseAux p) (λ (w : List ℕ). a ∷ w) (words n k) ∙ words-branch n k (a ∷ p) in
     rw (map-joined (reverseAux p) (starting n k) (from 1 n))
-    (rw (joined-cong (λ (a : ℕ). map (reverseAux p) (starting n k a)) (twig always n k p) (from 1 n) below))
+    (rw (joined-cong (λ (a : ℕ). map (reverseAux p) (starting n k a)) (twig always n k p) (from 1 n)
+    (λ a. starting-twig n k p a (words-branch n k (a ∷ p)))))
 
 pub words-root : (n : ℕ) → words n n ≡ [] ∷ level always n [] 1
 words-root n = sym (map-same (words n n)) ∙ words-branch n n [] ∙ rw (branch-root always n)

@@ -61,14 +61,17 @@ strike-length k (x ∷ xs) = go (eqb x k) (strike-length k xs)
     go true b = omega arith
     go false b = omega arith
 
+strike-below :
+    (n : ℕ) (xs : List ℕ) → All (λ u. (1 ≤ u) × (u ≤ suc n)) xs → Apart xs →
+    All (λ u. (1 ≤ u) × (u ≤ n)) (strike (suc n) xs)
+strike-below n xs a d =
+    all-map (λ u f. omega arith) (all-both (strike-all (suc n) xs a) (strike-without (suc n) xs d))
+
 pigeon : (n : ℕ) (xs : List ℕ) → All (λ u. (1 ≤ u) × (u ≤ n)) xs → Apart xs → length xs ≤ n
 pigeon zero [] a d = omega arith
 pigeon zero (x ∷ xs) ((low, high) ◁ a) d = absurd (omega arith)
 pigeon (suc n) xs a d =
-    let others = strike (suc n) xs in
-    let below : All (λ u. (1 ≤ u) × (u ≤ n)) others =
-    all-map (λ u f. omega arith) (all-both (strike-all (suc n) xs a) (strike-without (suc n) xs d)) in
-    let fewer = pigeon n others below (strike-apart (suc n) xs d) in
+    let fewer = pigeon n (strike (suc n) xs) (strike-below n xs a d) (strike-apart (suc n) xs d) in
     omega (arith, strike-length (suc n) xs)
 
 apart-of : (xs : List ℕ) → Distinct xs → Apart xs

@@ -155,12 +155,18 @@ module _ (R : Molecule) (q : Search) (good : wellFormed R ≡ true) (passes : re
     trials-risen : x .search .trials ≡ q .trials + x .made
     trials-risen = rw trials-same at (now .trials-are)
 
+  reached-after :
+      (calls : List Call) → History R (restoredStart q) calls →
+      let x = standing (restoredStart q) calls in
+      (k : ℕ) × Reached R (q .kind) (q .s) (q .t) (stateOf q) (saidDone calls) k x
+  reached-after calls h =
+      list-reached R (q .kind) (q .s) (q .t) good kinds (stateOf q) sound
+      calls (restoredStart q) h false 0 first-reached
+
   from-search :
       (calls : List Call) → History R (restoredStart q) calls → FromMark R q calls (standing (restoredStart q) calls)
   from-search calls h =
-      let (k, r) =
-      list-reached R (q .kind) (q .s) (q .t) good kinds (stateOf q) sound calls (restoredStart q) h
-      false 0 first-reached in
+      let (k, r) = reached-after calls h in
       holds k (standing (restoredStart q) calls) r
     where
       holds :
