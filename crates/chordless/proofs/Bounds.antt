@@ -15,6 +15,8 @@ use Rattle.enumeration.proofs.Order.{begins-rest}
 use Rattle.chordless.specs.Families.{rings, paths}
 use Rattle.chordless.proofs.Members.{Bounded, in-list, open-iff}
 
+-- ---- rings
+
 module _ (n : ℕ) (adj : Adjacency) where
   pub rings-bounded : Bounded (rings n adj)
   rings-bounded w e = (ring-short n adj w e, ring-range n adj w e)
@@ -40,6 +42,8 @@ module _ (n : ℕ) (adj : Adjacency) where
       (x : ℕ) (p : List ℕ) →
       (isOpen (rings n adj) (x ∷ p) ≡ true) ↔ ((a : ℕ) × (r : List ℕ) × (isRing n adj (x ∷ p ++ a ∷ r) ≡ true))
   rings-open x p = open-iff (rings n adj) rings-bounded x p
+
+-- ---- paths
 
 module _ (n : ℕ) (adj : Adjacency) (s t : ℕ) where
   pub paths-bounded : Bounded (paths n adj s t)

@@ -2,11 +2,10 @@
 -- family whose members have at most n atoms, all from 1 to n. From the laws of `words`, `keep` and `any`.
 use Prim.Native.Nat.{ℕ, _≤_, _<_}
 use mathlib.Core.Path.{_≡_, refl}
-use mathlib.Core.Bool.{true, false}
+use mathlib.Core.Bool.{true}
 use mathlib.Core.List.{List, [], _∷_, _++_, append-assoc, List·Memᴰ}
 use mathlib.Core.Logic.{_↔_}
 use lib.ListN.{length, getD}
-use lib.Dec.{eqb}
 use borrow.Author.Tests.{eq-eqb}
 use Rattle.enumeration.specs.Words.{begins, words, keep, Family, members, isOpen}
 use Rattle.enumeration.proofs.Basics.{any-mem, mem-any, keep-mem, mem-keep}

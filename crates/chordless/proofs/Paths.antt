@@ -9,12 +9,12 @@ use native.Mathlib.Nat.{not-suc-le-zero}
 use lib.ListN.{length}
 use Rattle.graph.specs.Chordless.{Adjacency, isPath}
 use Rattle.graph.proofs.Below.{false-of}
-use Rattle.graph.proofs.All.{All, none, _◁_, all-head, all-tail, all-append, all-left, all-right, all-map, all-both, all-every}
+use Rattle.graph.proofs.All.{All, none, _◁_, all-head, all-tail, all-append, all-left, all-right, all-every}
 use Rattle.graph.proofs.Chain.{Chordless, glue, glue-left, glue-right, glue-follows, glue-off}
 use Rattle.graph.proofs.Shape.{PathShape, path-shape, snoc-view}
 use Rattle.enumeration.specs.Words.{isOpen}
 use Rattle.chordless.specs.Families.{paths}
-use Rattle.chordless.specs.Reach.{Irreflexive, Walk, clear, free, touchesOnlyLast, PathOpens}
+use Rattle.chordless.specs.Reach.{Irreflexive, Walk, free, touchesOnlyLast, PathOpens}
 use Rattle.chordless.proofs.Bounds.{paths-open}
 use Rattle.chordless.proofs.Shortest.{shortest, walks}
 use Rattle.chordless.proofs.Touch.{clear-facts, clear-of, touches-facts, touches-of, free-range, free-clear, free-all, free-irreflexive, follows-of, follows-touches, follows-differ, fresh, touch-apart, join, off-clear, regroup, snoc-after, snoc-through}

@@ -16,7 +16,7 @@ use Rattle.graph.proofs.Shape.{RingShape, ring-shape}
 use Rattle.graph.proofs.Pigeon.{ring-long, ring-range}
 use Rattle.enumeration.specs.Words.{isOpen}
 use Rattle.chordless.specs.Families.{rings}
-use Rattle.chordless.specs.Reach.{Irreflexive, free, RingOpens, RingCloses}
+use Rattle.chordless.specs.Reach.{Irreflexive, RingOpens, RingCloses}
 use Rattle.chordless.proofs.Members.{open-shorter}
 use Rattle.chordless.proofs.Bounds.{rings-bounded, rings-open}
 use Rattle.chordless.proofs.Shortest.{shortest, walks}

@@ -3,7 +3,7 @@
 use Prim.Native.Nat.{ℕ, zero, suc, _+_, _-_, _*_, _≤_, _<_}
 use native.Mathlib.Omega.{arith}
 use native.Mathlib.Nat.{mul-suc, mul-assoc, mul-le-mul-left}
-use mathlib.Core.Path.{_≡_, refl, sym, ap, _∙_}
+use mathlib.Core.Path.{_≡_, refl, sym, _∙_}
 use mathlib.Core.Logic.{_⊎_, inl, inr}
 use mathlib.Core.Bool.{Bool, true, false, cond}
 use mathlib.Core.List.{List, [], _∷_, _++_, reverse, reverseAux, reverseAux-eq}
@@ -14,7 +14,7 @@ use Rattle.enumeration.specs.Words.{Family, begins, isOpen}
 use Rattle.enumeration.specs.Machine.{State, tried, isDone, unwound, placed, act, trial}
 use Rattle.enumeration.specs.Lawful.{Lawful}
 use Rattle.enumeration.specs.Trials.{Valid, steps}
-use Rattle.enumeration.proofs.Basics.{apart, decided, not-true-false, and-both, compared, less, same, more}
+use Rattle.enumeration.proofs.Basics.{apart, decided, not-true-false, compared, less, same, more}
 use Rattle.enumeration.proofs.Order.{InRange, begins-rest}
 use Rattle.enumeration.proofs.Stream.{begins-on}
 use Rattle.enumeration.proofs.Open.{range-on, tried-open, opens-below, member-range, begins-open, stack-most}

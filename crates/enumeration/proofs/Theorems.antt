@@ -1,6 +1,5 @@
--- What is proved of every search: the order of the list, many trials,
--- runs, valid searches, marks, a search from its start, progress.
--- Each statement is for any family F; where `L` is an argument it is `Lawful F`. The ideas are in the other files.
+-- What is proved of every search: the order of the list, many trials, runs, valid searches, marks, a search from its
+-- start, progress. For any family F; where `L` is an argument it is `Lawful F`. The ideas are in the other files.
 use Prim.Native.Nat.{ℕ, suc, _+_, _-_, _*_, _≤_, _<_}
 use native.Mathlib.Omega.{arith}
 use mathlib.Core.Path.{_≡_, sym, ap, _∙_, subst}

@@ -1,6 +1,5 @@
--- One trial takes the head off the stream of words tried, keeps the
--- search valid and counts what it did; unwinding changes no stream.
--- By the four cases of member and open, of which one cannot be: a member is not open.
+-- One trial takes the head off the stream of words tried, keeps the search valid and counts what it did.
+-- By the four cases of member and open, of which one cannot be: a member is not open. Unwinding changes no stream.
 use Prim.Native.Nat.{ℕ, suc, _+_, _≤_}
 use native.Mathlib.Omega.{arith}
 use mathlib.Core.Path.{_≡_, refl, sym, _∙_}

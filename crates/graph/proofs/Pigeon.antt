@@ -1,6 +1,6 @@
 -- Different atoms from 1 to n are at most n; so rings and paths have at most n atoms, and none begins another.
 -- By induction on n: strike n from the list and count again.
-use Prim.Native.Nat.{ℕ, zero, suc, _-_, _+_, _≤_}
+use Prim.Native.Nat.{ℕ, zero, suc, _-_, _≤_}
 use mathlib.Core.Path.{_≡_, refl, sym, _∙_}
 use mathlib.Core.Bool.{Bool, true, false, cond}
 use mathlib.Core.List.{List, [], _∷_, _++_}
@@ -11,7 +11,7 @@ use lib.Dec.{eqb}
 use borrow.Author.Tests.{eqb-true, eqb-false}
 use Rattle.graph.specs.Chordless.{Adjacency, atomAt, lastAtom, isRing, isPath}
 use Rattle.graph.proofs.Below.{clash}
-use Rattle.graph.proofs.All.{All, none, _◁_, all-head, all-tail, all-map, all-both, all-of}
+use Rattle.graph.proofs.All.{All, none, _◁_, all-map, all-both, all-of}
 use Rattle.graph.proofs.Facts.{Distinct, InRange, ring-facts, path-facts}
 use Rattle.graph.proofs.Shape.{along-last, along-inner}
 

@@ -52,6 +52,8 @@ module _ (R : Molecule) (kind s t : ℕ) (good : wellFormed R ≡ true) (kept : 
       } in
       reached-start R kind s t good kept fresh fresh-sound zero-counts (start kind s t) refl
 
+  -- ---- after k trials
+
   module _ (said : Bool) (k : ℕ) (x : Standing) (r : Reached R kind s t fresh said k x) where
     abbrev now : Stood R kind s t fresh said k x
     now = stood R kind s t good kept fresh fresh-sound said k x r
@@ -90,6 +92,8 @@ module _ (R : Molecule) (kind s t : ℕ) (good : wellFormed R ≡ true) (kept : 
     trials-made : x .search .trials ≡ x .made
     unfolding fresh
     trials-made = omega (arith, now .trials-are)
+
+  -- ---- all of it
 
   demand-of :
       (calls : List Call) (k : ℕ) (x : Standing) → Reached R kind s t fresh (saidDone calls) k x →

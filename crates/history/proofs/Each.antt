@@ -2,7 +2,7 @@
 -- Instances of `demand3`: kind 0 keeps rule 16, and kind 1 with s and t that keep rules 10 and 11.
 use Prim.Native.Nat.{ℕ}
 use mathlib.Core.Path.{_≡_, refl}
-use mathlib.Core.Bool.{Bool, true, false, _&&_, not}
+use mathlib.Core.Bool.{Bool, true, _&&_, not}
 use mathlib.Core.List.{List}
 use lib.Dec.{eqb}
 use borrow.Author.Tests.{not-true}
@@ -15,6 +15,8 @@ use Rattle.search.specs.Entries.{acceptedSearch, startRings, startPaths}
 use Rattle.history.specs.Calls.{Call, start, standing, History}
 use Rattle.history.specs.Demand.{Demand}
 use Rattle.history.proofs.Demand3.{demand3}
+
+-- ---- lists and starts
 
 -- The list of kind 0 is the rings of the record, that of kind 1 its paths from s to t
 pub rings-listed : (R : Molecule) (s t : ℕ) → familyOf R 0 s t ≡ rings (R .atoms) (bonded (R .atoms) (R .rows))
@@ -38,6 +40,8 @@ paths-start R s t good ends =
     let a : Bool = isAtom (R .atoms) s && isAtom (R .atoms) t in
     let (atoms, not-same) = and-parts a (not (eqb s t)) ends in
     rw (good, atoms, not-true (eqb s t) not-same)
+
+-- ---- demand 3
 
 pub rings-kept : (n : ℕ) → kindKept n 0 0 0 ≡ true
 unfolding kindKept

@@ -1,11 +1,11 @@
 -- What runs, saves and restores answer when they are handed the search at a state: a run is the run of that state.
 -- From the definitions, rules 9 and 12 being kept.
-use Prim.Native.Nat.{ℕ, _+_, _-_, _≤_}
+use Prim.Native.Nat.{ℕ, _+_, _≤_}
 use native.Mathlib.Omega.{arith}
 use mathlib.Core.Path.{_≡_, refl, ap, _∙_}
 use mathlib.Core.Bool.{Bool, true, false, _&&_, cond}
-use mathlib.Core.List.{List, _++_, reverse}
-use lib.ListN.{length, take, drop, replicate, length-append, length-replicate, length-reverse}
+use mathlib.Core.List.{List, _++_}
+use lib.ListN.{length, take, drop, length-append, length-replicate, length-reverse}
 use lib.Seq.{take-append-seam}
 use lib.Dec.{leb, eqb}
 use borrow.Author.Tests.{leb-true, le-leb}
@@ -27,18 +27,22 @@ use Rattle.history.specs.Calls.{Standing}
 
 -- what the run of a state returns for a search of a kind, s and t
 abbrev pub ranAt : ℕ → ℕ → ℕ → Outcome → Ran
-ranAt kind s t o =
-    record {
-      ended = Stopped (o .stop);
-      search = searchAt kind s t (o .state);
-      used = length (o .bytes);
-      made = o .made;
-    }
+ranAt kind s t o = record {
+  ended = Stopped (o .stop);
+  search = searchAt kind s t (o .state);
+  used = length (o .bytes);
+  made = o .made;
+}
 
 -- what stands after it
 abbrev pub movedBy : ℕ → ℕ → ℕ → Standing → Outcome → Standing
-movedBy kind s t x o =
-    record { search = searchAt kind s t (o .state); sheet = x .sheet ++ o .bytes; made = x .made + o .made }
+movedBy kind s t x o = record {
+  search = searchAt kind s t (o .state);
+  sheet = x .sheet ++ o .bytes;
+  made = x .made + o .made;
+}
+
+-- ---- sizes
 
 pub atoms-most : (mol : Molecule) → wellFormed mol ≡ true → mol .atoms ≤ 128
 unfolding wellFormed
@@ -69,6 +73,8 @@ pub prefix-size : (kind s t : ℕ) (st : State) → length (st .stack) ≤ 128 �
 unfolding searchAt held
 prefix-size kind s t st h =
     simp (length-append, length-replicate, length-reverse) (omega arith)
+
+-- ---- answers
 
 module _ (R : Molecule) (good : wellFormed R ≡ true) where
   run-answers :

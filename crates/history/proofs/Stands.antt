@@ -27,6 +27,8 @@ use Rattle.history.specs.Demand.{Progress, GoesOn}
 use Rattle.history.proofs.Entered.{ranAt, family-atoms, save-at, save-wrote}
 use Rattle.history.proofs.Reached.{Reached, stateAt, lawful, valid-at, back-of, reached-restorable, reached-restores, reached-state, reached-runs}
 
+-- ---- what is said
+
 -- the parts of a search at a state
 pub record Parts (kind s t : ℕ) (st : State) (q : Search) : Type 0 where
   pub kind-is : q .kind ≡ kind
@@ -38,10 +40,16 @@ pub record Parts (kind s t : ℕ) (st : State) (q : Search) : Type 0 where
 
 parts : (kind s t : ℕ) (st : State) → Parts kind s t st (searchAt kind s t st)
 unfolding searchAt
-parts kind s t st =
-    record { kind-is = refl; s-is = refl; t-is = refl; trials-is = refl; extensions-is = refl; listed-is = refl }
+parts kind s t st = record {
+  kind-is = refl;
+  s-is = refl;
+  t-is = refl;
+  trials-is = refl;
+  extensions-is = refl;
+  listed-is = refl;
+}
 
--- what holds of x where it is reached
+-- all that holds of x where it is reached
 pub record Stood (R : Molecule) (kind s t : ℕ) (origin : State) (said : Bool) (k : ℕ) (x : Standing) : Type 0 where
   pub parts : Parts kind s t (stateAt R kind s t origin k) (x .search)
   pub search-is : x .search ≡ searchAt kind s t (steps (familyOf R kind s t) (x .made) origin)
@@ -51,6 +59,8 @@ pub record Stood (R : Molecule) (kind s t : ℕ) (origin : State) (said : Bool) 
       isDone (familyOf R kind s t .atoms) (stateAt R kind s t origin k) ≡ true
   pub said-done : said ≡ true → isDone (R .atoms) (stateOf (x .search)) ≡ true
   pub goes-on : GoesOn R x
+
+-- ---- where it is reached
 
 module _ (R : Molecule) (kind s t : ℕ) (good : wellFormed R ≡ true) (kept : kindKept (R .atoms) kind s t ≡ true)
     (origin : State) (sound : Valid (familyOf R kind s t) origin) where
