@@ -61,6 +61,10 @@ unwound-slack n m k (a ∷ p) c h = go (eqb c (suc n)) refl (unwound-slack n m k
 abbrev Aim : Family → List ℕ → ℕ → Type 0
 Aim F p c = (b : ℕ) × (v : List ℕ) × (F .member (reverseAux p (b ∷ v)) ≡ true) × (c ≤ b)
 
+-- the search once an open word is entered: its next atom is 1
+abbrev entered : State → State
+entered st = placed (st .next ∷ st .stack, 1) (suc (st .trials)) (suc (st .extensions)) (st .listed)
+
 -- k trials are enough to list a member that is aimed at
 abbrev Near : Family → ℕ → State → Type 0
 Near F k st = F .atoms * F .atoms + 1 ≤ k + F .atoms * length (st .stack) + st .next
@@ -124,18 +128,14 @@ module _ (F : Family) (L : Lawful F) where
   more-listed : (k : ℕ) (st s : State) → st .listed < s .listed → st .listed < steps F k s .listed
   more-listed k st s h = omega (arith, listed-steps F k s)
 
-  -- an open word entered: its first atom is next
-  entered : State → State
-  entered st = placed (st .next ∷ st .stack, 1) (suc (st .trials)) (suc (st .extensions)) (st .listed)
-
   entered-valid : (st : State) → 1 ≤ n → isOpen F (tried st) ≡ true → Valid F (entered st)
-  unfolding tried entered
+  unfolding tried
   entered-valid st one o = record { open-stack = o; low = omega arith; within = λ d. one }
 
   -- where a member is aimed at, one is listed
   aimed :
       (k : ℕ) (st : State) → Valid F st → Aim F (st .stack) (st .next) → Near F k st → st .listed < steps F k st .listed
-  unfolding trial tried act entered
+  unfolding trial tried act
   aimed zero st v r h =
       let high = aim-high (st .stack) (st .next) r in
       let short = aim-short (st .stack) (st .next) r in
@@ -165,7 +165,7 @@ module _ (F : Family) (L : Lawful F) where
 
   -- rising and unwinding until the end, a listing or an open word
   moving : (k : ℕ) (st : State) → Valid F st → Enough F k st → Onward F k st
-  unfolding steps trial tried act entered
+  unfolding steps trial tried act
   moving zero st v h = elim (decided (isDone n st)) [
     | inl done ↦ inl done
     | inr not-done ↦
