@@ -9,19 +9,17 @@ use Rattle.chordless.specs.Families.{rings, paths}
 use Rattle.chordless.proofs.Bounds.{rings-sizes, rings-stop, paths-sizes, paths-stop}
 
 pub rings-lawful : (n : ℕ) (adj : Adjacency) → Lawful (rings n adj)
-rings-lawful n adj =
-    record {
-      nonEmpty = λ w e. rings-sizes n adj w e .0;
-      short = λ w e. rings-sizes n adj w e .1;
-      inRange = λ w e. rings-sizes n adj w e .2;
-      prefixFree = λ v w e f g. clash (begins v w) g (rings-stop n adj v w e f);
-    }
+rings-lawful n adj = record {
+  nonEmpty = λ w e. let (non-empty, short, range) = rings-sizes n adj w e in non-empty;
+  short = λ w e. let (non-empty, short, range) = rings-sizes n adj w e in short;
+  inRange = λ w e. let (non-empty, short, range) = rings-sizes n adj w e in range;
+  prefixFree = λ v w e f begun. clash (begins v w) begun (rings-stop n adj v w e f);
+}
 
 pub paths-lawful : (n : ℕ) (adj : Adjacency) (s t : ℕ) → Lawful (paths n adj s t)
-paths-lawful n adj s t =
-    record {
-      nonEmpty = λ w e. paths-sizes n adj s t w e .0;
-      short = λ w e. paths-sizes n adj s t w e .1;
-      inRange = λ w e. paths-sizes n adj s t w e .2;
-      prefixFree = λ v w e f g. clash (begins v w) g (paths-stop n adj s t v w e f);
-    }
+paths-lawful n adj s t = record {
+  nonEmpty = λ w e. let (non-empty, short, range) = paths-sizes n adj s t w e in non-empty;
+  short = λ w e. let (non-empty, short, range) = paths-sizes n adj s t w e in short;
+  inRange = λ w e. let (non-empty, short, range) = paths-sizes n adj s t w e in range;
+  prefixFree = λ v w e f begun. clash (begins v w) begun (paths-stop n adj s t v w e f);
+}

@@ -1,9 +1,7 @@
--- Openness of a beginning of a ring is reachability (document
--- 01): an atom v opens p exactly when it is as `RingOpens` says.
--- A ring that goes on p and v is cut at v; and a chordless list
--- from v to a closing atom, found from the walk, is joined to p.
+-- An atom v opens a beginning p of a ring exactly as `RingOpens` says: openness is reachability (document 01).
+-- A ring that goes on p and v is cut at v; a chordless list from v to a closing atom is joined to p.
 use Prim.Native.Nat.{ℕ, _≤_, _<_}
-use mathlib.Core.Path.{_≡_, sym, ap, subst, _∙_}
+use mathlib.Core.Path.{_≡_, sym}
 use mathlib.Core.Bool.{true, false}
 use mathlib.Core.List.{List, [], _∷_, _++_, append-assoc}
 use mathlib.Core.Logic.{_≢_, _↔_}
@@ -14,15 +12,15 @@ use Rattle.graph.specs.Chordless.{Adjacency, atomAt, isRing}
 use Rattle.graph.proofs.Below.{false-of}
 use Rattle.graph.proofs.All.{All, none, _◁_, all-head, all-tail, all-append, all-left, all-right, all-map, all-both, all-every}
 use Rattle.graph.proofs.Chain.{Chordless, glue, glue-left, glue-right, glue-follows, glue-off}
-use Rattle.graph.proofs.Shape.{RingShape, ring-shape, snoc-view}
+use Rattle.graph.proofs.Shape.{RingShape, ring-shape}
 use Rattle.graph.proofs.Pigeon.{ring-long, ring-range}
 use Rattle.enumeration.specs.Words.{isOpen}
 use Rattle.chordless.specs.Families.{rings}
-use Rattle.chordless.specs.Reach.{Irreflexive, free, RingOpens, RingCloses}
+use Rattle.chordless.specs.Reach.{Irreflexive, RingOpens, RingCloses}
 use Rattle.chordless.proofs.Members.{open-shorter}
 use Rattle.chordless.proofs.Bounds.{rings-bounded, rings-open}
-use Rattle.chordless.proofs.Shortest.{Lane, shortest, walks}
-use Rattle.chordless.proofs.Touch.{Clear, Touches, touches-facts, touches-of, ends-facts, ends-of, free-facts, free-of, free-irreflexive, closing-facts, closing-of, follows-of, follows-touches, fresh, join, told-apart, off-clear, regroup}
+use Rattle.chordless.proofs.Shortest.{shortest, walks}
+use Rattle.chordless.proofs.Touch.{Clear, touches-facts, touches-of, ends-facts, ends-of, free-range, free-clear, free-all, free-irreflexive, closing-facts, closing-of, follows-of, follows-touches, fresh, join, told-apart, off-clear, regroup, snoc-after, snoc-through}
 
 -- s is bonded to the first atom of p and to no other
 abbrev pub Starts : Adjacency → ℕ → List ℕ → Type 0
@@ -37,80 +35,73 @@ pub record RingStem (n : ℕ) (adj : Adjacency) (s : ℕ) (p : List ℕ) : Type 
   pub starts : Starts adj s p
 
 module _ (n : ℕ) (adj : Adjacency) where
+  -- ---- beginnings
+
   pub ring-stem : (s : ℕ) (p : List ℕ) (c : ℕ) (r : List ℕ) → isRing n adj (s ∷ p ++ c ∷ r) ≡ true → RingStem n adj s p
   ring-stem s [] c r e =
-      record { least = ring-range n adj (s ∷ c ∷ r) e 0 (omega arith) .0; above = none; chain = tt; starts = tt }
-  ring-stem s (a ∷ p) c r e = go (snoc-view c r)
-    where
-      go : (q : List ℕ) × (b : ℕ) × (c ∷ r ≡ q ++ b ∷ []) → RingStem n adj s (a ∷ p)
-      go t =
-          let w : p ++ c ∷ r ≡ p ++ t .0 ++ t .1 ∷ [] = ap (λ (l : List ℕ). p ++ l) (t .2) ∙
-          sym (append-assoc p (t .0) (t .1 ∷ [])) in
-          let k : RingShape n adj s a (p ++ t .0) (t .1) =
-          ring-shape n adj s a (p ++ t .0) (t .1) .0 (subst (λ (l : List ℕ). isRing n adj (s ∷ a ∷ l) ≡ true) w e) in
-          record {
-            least = k .least;
-            above =
-                all-left (a ∷ p) (c ∷ r)
-                (subst (λ (l : List ℕ). All (λ u. (s < u) × (u ≤ n)) (a ∷ l)) (sym w) (k .above));
-            chain = glue-left adj (a ∷ p) c r (subst (λ (l : List ℕ). Chordless adj (a ∷ l)) (sym w) (k .chain));
-            starts = (k .opens, all-left p (t .0) (k .inner));
-          }
+      let (least, most) = ring-range n adj (s ∷ c ∷ r) e 0 (omega arith) in
+      record { least = least; above = none; chain = tt; starts = tt }
+  ring-stem s (a ∷ p) c r e =
+      let (q, b, shape) = snoc-after p c r in
+      let ring = ring-shape n adj s a (p ++ q) b .0 (rw shape at e) in
+      let above : All (λ u. (s < u) × (u ≤ n)) (a ∷ p ++ c ∷ r) = rw shape (ring .above) in
+      let chain : Chordless adj (a ∷ p ++ c ∷ r) = rw shape (ring .chain) in
+      record {
+        least = ring .least;
+        above = all-left (a ∷ p) (c ∷ r) above;
+        chain = glue-left adj (a ∷ p) c r chain;
+        starts = (ring .opens, all-left p q (ring .inner));
+      }
 
   -- a ring cut at v
   ring-cut :
       (s : ℕ) (p : List ℕ) (v : ℕ) (q : List ℕ) (b : ℕ) → isRing n adj (s ∷ p ++ v ∷ q ++ b ∷ []) ≡ true →
       RingOpens n adj (s ∷ p) (atomAt (s ∷ p ++ v ∷ []) 1) v
-  ring-cut s [] v q b e = go (ring-shape n adj s v q b .0 e)
+  ring-cut s [] v q b e =
+      let ring = ring-shape n adj s v q b .0 e in
+      let (v-above, v-range) = all-head (ring .above) in
+      let after-v = all-tail (ring .above) in
+      let (b-above, b-range) = all-head (all-right q after-v) in
+      let off = all-map (λ u o. o ◁ none) (ring .inner) in
+      record {
+        above = v-above;
+        range = v-range;
+        touches = touches-of adj (s ∷ []) v (ring .opens);
+        last = b;
+        closes = closing-of adj n s [] v b (ring .oriented) b-range (ring .closes) none;
+        reached = walks adj q (free-all adj n s (s ∷ []) (all-left q (b ∷ []) after-v) off) (ring .chain);
+      }
+  ring-cut s (a ∷ p) v q b e =
+      let ring = ring-shape n adj s a (p ++ v ∷ q) b .0 e in
+      let shape : p ++ v ∷ q ++ b ∷ [] ≡ p ++ v ∷ (q ++ b ∷ []) = append-assoc p (v ∷ q) (b ∷ []) in
+      let chain : Chordless adj ((a ∷ p) ++ v ∷ (q ++ b ∷ [])) = rw shape at (ring .chain) in
+      let from-v = all-right p (rw shape at (all-tail (ring .above))) in
+      let (v-above, v-range) = all-head from-v in
+      let (b-above, b-range) = all-head (all-right q (all-tail from-v)) in
+      let off-p = off-clear adj (a ∷ p) (q ++ b ∷ []) (glue-off adj (a ∷ p) v (q ++ b ∷ []) chain) in
+      let off-s : All (λ u. adj s u ≡ false) (v ∷ q) = all-right p (ring .inner) in
+      let touches-p = follows-touches adj (a ∷ p) v (glue-follows adj (a ∷ p) v (q ++ b ∷ []) chain) in
+      let off = all-map clear-of-both (all-both (all-tail off-s) (all-left q (b ∷ []) off-p)) in
+      let between = free-all adj n s (s ∷ a ∷ p) (all-left q (b ∷ []) (all-tail from-v)) off in
+      record {
+        above = v-above;
+        range = v-range;
+        touches = touches-of adj (s ∷ a ∷ p) v (all-head off-s, touches-p);
+        last = b;
+        closes =
+            closing-of adj n s (a ∷ p) a b (ring .oriented) b-range (ring .closes) (all-head (all-right q off-p));
+        reached = walks adj q between (glue-right adj (a ∷ p) v (q ++ b ∷ []) chain);
+      }
     where
-      go : RingShape n adj s v q b → RingOpens n adj (s ∷ []) v v
-      go k =
-          record {
-            above = all-head (k .above) .0;
-            range = all-head (k .above) .1;
-            touches = touches-of adj (s ∷ []) v (k .opens);
-            last = b;
-            closes =
-                closing-of adj n s [] v b (k .oriented) (all-head (all-right q (all-tail (k .above))) .1)
-                (k .closes) none;
-            reached =
-                walks adj q (all-map (λ u f. free-of adj n s (s ∷ []) u (f .0 .0) (f .0 .1) (f .1 ◁ none))
-                (all-both (all-left q (b ∷ []) (all-tail (k .above))) (k .inner))) (k .chain);
-          }
-  ring-cut s (a ∷ p) v q b e = go (ring-shape n adj s a (p ++ v ∷ q) b .0 e)
-    where
-      w : p ++ v ∷ q ++ b ∷ [] ≡ p ++ v ∷ (q ++ b ∷ [])
-      w = append-assoc p (v ∷ q) (b ∷ [])
-
-      go : RingShape n adj s a (p ++ v ∷ q) b → RingOpens n adj (s ∷ a ∷ p) a v
-      go k =
-          let c : Chordless adj ((a ∷ p) ++ v ∷ (q ++ b ∷ [])) =
-          subst (λ (l : List ℕ). Chordless adj (a ∷ l)) w (k .chain) in
-          let f : All (λ u. (s < u) × (u ≤ n)) (v ∷ (q ++ b ∷ [])) =
-          all-right p (subst (λ (l : List ℕ). All (λ u. (s < u) × (u ≤ n)) l) w (all-tail (k .above))) in
-          let g : All (λ u. Clear adj (a ∷ p) u) (q ++ b ∷ []) =
-          off-clear adj (a ∷ p) (q ++ b ∷ []) (glue-off adj (a ∷ p) v (q ++ b ∷ []) c) in
-          let h : All (λ u. adj s u ≡ false) (v ∷ q) = all-right p (k .inner) in
-          record {
-            above = all-head f .0;
-            range = all-head f .1;
-            touches =
-                touches-of adj (s ∷ a ∷ p) v
-                (all-head h, follows-touches adj (a ∷ p) v (glue-follows adj (a ∷ p) v (q ++ b ∷ []) c));
-            last = b;
-            closes =
-                closing-of adj n s (a ∷ p) a b (k .oriented) (all-head (all-right q (all-tail f)) .1) (k .closes)
-                (all-head (all-right q g));
-            reached =
-                walks adj q (all-map (λ u z. free-of adj n s (s ∷ a ∷ p) u (z .0 .0) (z .0 .1) (z .1 .0 ◁ z .1 .1))
-                (all-both (all-left q (b ∷ []) (all-tail f)) (all-both (all-tail h) (all-left q (b ∷ []) g))))
-                (glue-right adj (a ∷ p) v (q ++ b ∷ []) c);
-          }
+      clear-of-both : (u : ℕ) → (adj s u ≡ false) × Clear adj (a ∷ p) u → Clear adj (s ∷ a ∷ p) u
+      clear-of-both u (off-s, off-p) = off-s ◁ off-p
 
   open-stem : (s : ℕ) (p : List ℕ) → isOpen (rings n adj) (s ∷ p) ≡ true → RingStem n adj s p
   open-stem s p e = let (c, r, f) = rings-open n adj s p .0 e in ring-stem s p c r f
 
-  -- membership: v closes a beginning of two atoms or more
+  -- ---- membership
+
+  -- v closes a beginning of two atoms or more
   pub ring-closes :
       (p : List ℕ) (v : ℕ) → 2 ≤ length p → isOpen (rings n adj) p ≡ true →
       (isRing n adj (p ++ v ∷ []) ≡ true) ↔ RingCloses n adj p v
@@ -120,102 +111,92 @@ module _ (n : ℕ) (adj : Adjacency) where
       (λ f. to (ring-shape n adj s a p v .0 f), λ k. ring-shape n adj s a p v .1 (back (open-stem s (a ∷ p) e) k))
     where
       to : RingShape n adj s a p v → RingCloses n adj (s ∷ a ∷ p) v
-      to k =
+      to ring =
+          let touches-p = follows-touches adj (a ∷ p) v (glue-follows adj (a ∷ p) v [] (ring .chain)) in
           record {
-            above = k .oriented;
-            range = all-head (all-right (a ∷ p) (k .above)) .1;
-            touches =
-                ends-of adj s a p v (k .closes)
-                (follows-touches adj (a ∷ p) v (glue-follows adj (a ∷ p) v [] (k .chain)));
+            above = ring .oriented;
+            range = all-head (all-right (a ∷ p) (ring .above)) .1;
+            touches = ends-of adj s a p v (ring .closes) touches-p;
           }
 
       back : RingStem n adj s (a ∷ p) → RingCloses n adj (s ∷ a ∷ p) v → RingShape n adj s a p v
-      back m k =
-          let (f, t) = ends-facts adj s a p v (k .touches) in
-          let l = all-head (m .above) in
-          let o : a < v = k .above in
-          let i : a ≢ v = omega arith in
+      back stem k =
+          let (closes, touches-p) = ends-facts adj s a p v (k .touches) in
+          let (opens, inner) = stem .starts in
+          let (a-above, a-range) = all-head (stem .above) in
+          let a-below-v : a < v = k .above in
+          let a-differs : a ≢ v = omega arith in
+          let not-in-p = fresh adj a p v a-differs (stem .chain) touches-p in
           record {
-            least = m .least;
-            above = all-append (m .above) ((omega arith, k .range) ◁ none);
+            least = stem .least;
+            above = all-append (stem .above) ((omega arith, k .range) ◁ none);
             chain =
-                glue adj (a ∷ p) v [] (m .chain) (follows-of adj (a ∷ p) v (fresh adj a p v i (m .chain) t) t)
+                glue adj (a ∷ p) v [] (stem .chain) (follows-of adj (a ∷ p) v not-in-p touches-p)
                 (all-every (a ∷ p) (λ x. none)) tt;
-            opens = m .starts .0;
-            inner = m .starts .1;
-            closes = f;
-            oriented = o;
+            opens = opens;
+            inner = inner;
+            closes = closes;
+            oriented = a-below-v;
           }
 
   -- no ring has fewer than three atoms
   pub ring-not-short : (p : List ℕ) (v : ℕ) → length p ≤ 1 → isRing n adj (p ++ v ∷ []) ≡ false
-  ring-not-short p v h =
-      false-of (isRing n adj (p ++ v ∷ []))
-      (λ e. let l = ring-long n adj (p ++ v ∷ []) e in omega (arith, length-append p (v ∷ [])))
+  ring-not-short p v h = false-of (isRing n adj (p ++ v ∷ [])) long
+    where
+      long : isRing n adj (p ++ v ∷ []) ≡ true → ⊥
+      long e = omega (arith, ring-long n adj (p ++ v ∷ []) e, length-append p (v ∷ []))
+
+  -- ---- openness
 
   module _ (irr : Irreflexive n adj) where
     -- a beginning joined to a chordless list from v to a closing atom
     ring-join :
-        (s : ℕ) (p : List ℕ) (v : ℕ) → RingStem n adj s p → RingOpens n adj (s ∷ p) (atomAt (s ∷ p ++ v ∷ []) 1) v →
+        (s : ℕ) (p : List ℕ) (v : ℕ) → RingStem n adj s p →
+        RingOpens n adj (s ∷ p) (atomAt (s ∷ p ++ v ∷ []) 1) v →
         (q : List ℕ) × (b : ℕ) × (isRing n adj (s ∷ p ++ v ∷ q ++ b ∷ []) ≡ true)
-    ring-join s [] v m o =
-        go (o .last) (closing-facts adj n s [] v (o .last) (o .closes))
-        (λ g. shortest adj (λ u. free-irreflexive adj n s (s ∷ []) u irr) g (o .reached))
-      where
-        go :
-            (b : ℕ) → (v < b) × (b ≤ n) × (adj s b ≡ true) × Clear adj [] b →
-            (v ≢ b → Lane adj (λ u. free n adj s (s ∷ []) u ≡ true) v b) →
-            (q : List ℕ) × (b : ℕ) × (isRing n adj (s ∷ v ∷ q ++ b ∷ []) ≡ true)
-        go b k f =
-            let (q, z, c) = f (omega arith) in
-            let y = all-map (λ u e. free-facts adj n s (s ∷ []) u e) z in
-            let h = o .above in (
-              q,
-              b,
-              ring-shape n adj s v q b .1 (record {
-                least = m .least;
-                above = (h, o .range) ◁ all-append (all-map (λ u e. (e .0, e .1)) y) ((omega arith, k .1) ◁ none);
-                chain = c;
-                opens = touches-facts adj (s ∷ []) v (o .touches);
-                inner = all-map (λ u e. all-head (e .2)) y;
-                closes = k .2;
-                oriented = k .0;
-              }),
-            )
-    ring-join s (a ∷ p) v m o =
-        go (o .last) (closing-facts adj n s (a ∷ p) a (o .last) (o .closes))
-        (touches-facts adj (s ∷ a ∷ p) v (o .touches))
-        (λ g. shortest adj (λ u. free-irreflexive adj n s (s ∷ a ∷ p) u irr) g (o .reached))
-      where
-        go :
-            (b : ℕ) → (a < b) × (b ≤ n) × (adj s b ≡ true) × Clear adj (a ∷ p) b → Touches adj (s ∷ a ∷ p) v →
-            (v ≢ b → Lane adj (λ u. free n adj s (s ∷ a ∷ p) u ≡ true) v b)
-            → (q : List ℕ) × (b : ℕ) × (isRing n adj (s ∷ a ∷ p ++ v ∷ q ++ b ∷ []) ≡ true)
-        go b k t f =
-            let (q, z, c) = f (λ e. told-apart adj s b v (k .2) (t .0) (sym e)) in
-            let y = all-map (λ u e. free-facts adj n s (s ∷ a ∷ p) u e) z in
-            let h = o .above in
-            let l = all-head (m .above) in
-            let d = fresh adj a p v (told-apart adj s a v (m .starts .0) (t .0)) (m .chain) (t .1) in
-            let i : a ≢ b = omega arith in
-            let x : All (λ u. u ≢ b) (a ∷ p) =
-            i ◁ all-map (λ u e g. told-apart adj s b u (k .2) e (sym g)) (m .starts .1) in (
-              q,
-              b,
-              ring-shape n adj s a (p ++ v ∷ q) b .1 (record {
-                least = m .least;
-                above =
-                    all-append (all-append (m .above) ((h, o .range) ◁ all-map (λ u e. (e .0, e .1)) y))
-                    ((omega arith, k .1) ◁ none);
-                chain =
-                    join adj (a ∷ p) v q b (m .chain) (follows-of adj (a ∷ p) v d (t .1)) c
-                    (all-map (λ u e. all-tail (e .2)) y) (k .3) x;
-                opens = m .starts .0;
-                inner = all-append (m .starts .1) (t .0 ◁ all-map (λ u e. all-head (e .2)) y);
-                closes = k .2;
-                oriented = k .0;
-              }),
-            )
+    ring-join s [] v stem o =
+        let b = o .last in
+        let (v-below-b, b-range, closes, b-off) = closing-facts adj n s [] v b (o .closes) in
+        let v-differs : v ≢ b = omega arith in
+        let (q, between, chain) = shortest adj (free-irreflexive adj n s (s ∷ []) irr) v-differs (o .reached) in
+        let s-below-v : s < v = o .above in
+        let after-v = all-append (free-range adj n s (s ∷ []) between) ((omega arith, b-range) ◁ none) in
+        let ring : RingShape n adj s v q b = record {
+          least = stem .least;
+          above = (s-below-v, o .range) ◁ after-v;
+          chain = chain;
+          opens = touches-facts adj (s ∷ []) v (o .touches);
+          inner = all-map (λ u off. all-head off) (free-clear adj n s (s ∷ []) between);
+          closes = closes;
+          oriented = v-below-b;
+        } in
+        (q, b, ring-shape n adj s v q b .1 ring)
+    ring-join s (a ∷ p) v stem o =
+        let b = o .last in
+        let (a-below-b, b-range, closes, b-off) = closing-facts adj n s (a ∷ p) a b (o .closes) in
+        let (s-off-v, touches-p) = touches-facts adj (s ∷ a ∷ p) v (o .touches) in
+        let (opens, inner) = stem .starts in
+        let v-differs : v ≢ b = λ e. told-apart adj s b v closes s-off-v (sym e) in
+        let (q, between, chain) = shortest adj (free-irreflexive adj n s (s ∷ a ∷ p) irr) v-differs (o .reached) in
+        let s-below-v : s < v = o .above in
+        let (s-below-a, a-range) = all-head (stem .above) in
+        let off = free-clear adj n s (s ∷ a ∷ p) between in
+        let not-v = fresh adj a p v (told-apart adj s a v opens s-off-v) (stem .chain) touches-p in
+        let a-differs : a ≢ b = omega arith in
+        let p-differs : All (λ u. u ≢ b) p = all-map (λ u e g. told-apart adj s b u closes e (sym g)) inner in
+        let up-to-q = all-append (stem .above) ((s-below-v, o .range) ◁ free-range adj n s (s ∷ a ∷ p) between) in
+        let ring : RingShape n adj s a (p ++ v ∷ q) b = record {
+          least = stem .least;
+          above = all-append up-to-q ((omega arith, b-range) ◁ none);
+          chain =
+              join adj (a ∷ p) v q b (stem .chain) (follows-of adj (a ∷ p) v not-v touches-p) chain
+              (all-map (λ u f. all-tail f) off) b-off (a-differs ◁ p-differs);
+          opens = opens;
+          inner = all-append inner (s-off-v ◁ all-map (λ u f. all-head f) off);
+          closes = closes;
+          oriented = a-below-b;
+        } in
+        (q, b, ring-shape n adj s a (p ++ v ∷ q) b .1 ring)
 
     -- for a beginning s ∷ p that has what every beginning of a ring has
     stem-opens :
@@ -226,10 +207,8 @@ module _ (n : ℕ) (adj : Adjacency) where
         to : isOpen (rings n adj) (s ∷ p ++ v ∷ []) ≡ true → RingOpens n adj (s ∷ p) (atomAt (s ∷ p ++ v ∷ []) 1) v
         to e =
             let (c, r, f) = rings-open n adj s (p ++ v ∷ []) .0 e in
-            let (q, b, w) = snoc-view c r in
-            ring-cut s p v q b
-            (subst (λ (l : List ℕ). isRing n adj (s ∷ l) ≡ true)
-            (ap (λ (l : List ℕ). p ++ v ∷ [] ++ l) w ∙ regroup p v q b) f)
+            let (q, b, shape) = snoc-through p v c r in
+            ring-cut s p v q b (rw shape at f)
 
         goes-on :
             (q : List ℕ) (b : ℕ) → isRing n adj (s ∷ p ++ v ∷ [] ++ (q ++ b ∷ [])) ≡ true →
@@ -240,7 +219,7 @@ module _ (n : ℕ) (adj : Adjacency) where
         back : RingOpens n adj (s ∷ p) (atomAt (s ∷ p ++ v ∷ []) 1) v → isOpen (rings n adj) (s ∷ p ++ v ∷ []) ≡ true
         back o =
             let (q, b, f) = ring-join s p v m o in
-            goes-on q b (subst (λ (l : List ℕ). isRing n adj (s ∷ l) ≡ true) (sym (regroup p v q b)) f)
+            goes-on q b (rw (regroup p v q b) f)
 
     -- any open beginning that is not empty
     pub ring-opens :
@@ -272,10 +251,11 @@ module _ (n : ℕ) (adj : Adjacency) where
             go :
                 (c : ℕ) (r : List ℕ) → isRing n adj (v ∷ c ∷ r) ≡ true →
                 (a : ℕ) × (1 ≤ v) × RingOpens n adj (v ∷ []) a a
-            go c [] f = absurd (not-suc-le-zero (le-of-suc-le-suc (le-of-suc-le-suc (ring-long n adj (v ∷ c ∷ []) f))))
+            go c [] f = absurd (omega (arith, ring-long n adj (v ∷ c ∷ []) f))
             go c (d ∷ r) f =
-                let h : 1 ≤ v = ring-stem v [] c (d ∷ r) f .least in
-                (c, h, ring-opens-one v c h .0 (rings-open n adj v (c ∷ []) .1 (d, r, f)))
+                let least : 1 ≤ v = ring-stem v [] c (d ∷ r) f .least in
+                (c, least, ring-opens-one v c least .0 (rings-open n adj v (c ∷ []) .1 (d, r, f)))
 
         back : (a : ℕ) × (1 ≤ v) × RingOpens n adj (v ∷ []) a a → isOpen (rings n adj) (v ∷ []) ≡ true
-        back t = open-shorter (rings n adj) (rings-bounded n adj) v [] (t .0) (ring-opens-one v (t .0) (t .1) .1 (t .2))
+        back (a, least, o) =
+            open-shorter (rings n adj) (rings-bounded n adj) v [] a (ring-opens-one v a least .1 o)

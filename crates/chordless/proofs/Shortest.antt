@@ -1,9 +1,7 @@
--- The core of lemma 2 of document 003: b is reached from v through allowed
--- atoms exactly when a chordless list leads from v to b through them.
--- By induction on the walk: before the chordless list from the
--- next atom, v is put at the last atom of it that v is bonded to.
+-- b is reached from v through allowed atoms exactly when a chordless list leads from v to b through them (document 003,
+-- lemma 2). By induction on the walk: v goes before the last atom of the list from the next atom that it is bonded to.
 use Prim.Native.Nat.{ℕ}
-use mathlib.Core.Path.{_≡_, sym, subst}
+use mathlib.Core.Path.{_≡_, sym}
 use mathlib.Core.Bool.{Bool, true, false}
 use mathlib.Core.List.{List, [], _∷_, _++_}
 use mathlib.Core.Logic.{_≢_, _⊎_, inl, inr, _↔_}
@@ -15,9 +13,11 @@ use Rattle.graph.proofs.Chain.{Chordless, chordless-iff}
 use Rattle.chordless.specs.Reach.{Walk, there, through}
 
 module _ (adj : Adjacency) where
+  -- ---- chordless lists
+
   pub chain-tail : (x : ℕ) (r : List ℕ) → Chordless adj (x ∷ r) → Chordless adj r
   chain-tail x [] c = tt
-  chain-tail x (y ∷ r) c = c .3
+  chain-tail x (y ∷ r) (differ, bonded, off, chain) = chain
 
   -- bonded to z, and not bonded to z: two atoms
   pub differs : (x y z : ℕ) → adj x z ≡ true → adj y z ≡ false → x ≢ y
@@ -25,12 +25,13 @@ module _ (adj : Adjacency) where
 
   -- an atom bonded to none of a chordless list to b is not in it, unless it is b
   pub stays-out :
-      (v b : ℕ) (q : List ℕ) → v ≢ b → Chordless adj (q ++ b ∷ []) → All (λ u. adj v u ≡ false) (q ++ b ∷ []) →
-      All (λ u. v ≢ u) (q ++ b ∷ [])
+      (v b : ℕ) (q : List ℕ) → v ≢ b → Chordless adj (q ++ b ∷ []) →
+      All (λ u. adj v u ≡ false) (q ++ b ∷ []) → All (λ u. v ≢ u) (q ++ b ∷ [])
   stays-out v b [] h c a = h ◁ none
-  stays-out v b (y ∷ []) h c a = (λ e. differs y v b (c .1) (all-head (all-tail a)) (sym e)) ◁ h ◁ none
-  stays-out v b (y ∷ z ∷ q) h c a =
-      (λ e. differs y v z (c .1) (all-head (all-tail a)) (sym e)) ◁ stays-out v b (z ∷ q) h (c .3) (all-tail a)
+  stays-out v b (y ∷ []) h (differ, bonded, off, chain) (y-off ◁ b-off ◁ none) =
+      (λ e. differs y v b bonded b-off (sym e)) ◁ h ◁ none
+  stays-out v b (y ∷ z ∷ q) h (differ, bonded, off, chain) (y-off ◁ a) =
+      (λ e. differs y v z bonded (all-head a) (sym e)) ◁ stays-out v b (z ∷ q) h chain a
 
   -- a chordless list from v to b, through atoms with P
   abbrev pub Lane : (ℕ → Type 0) → ℕ → ℕ → Type 0
@@ -38,69 +39,63 @@ module _ (adj : Adjacency) where
 
   -- v goes before the last atom of the list that it is bonded to; or it is bonded to none
   cut :
-      {P : ℕ → Type 0} → ((u : ℕ) → P u → adj u u ≡ false) → (v b : ℕ) (q : List ℕ) → v ≢ b →
-      Chordless adj (q ++ b ∷ []) → All P q → Lane P v b ⊎ All (λ u. adj v u ≡ false) (q ++ b ∷ [])
-  cut {P} irr v b [] h c a = go (either (adj v b))
+      {P : ℕ → Type 0} → ((u : ℕ) → P u → adj u u ≡ false) →
+      (v b : ℕ) (q : List ℕ) → v ≢ b → Chordless adj (q ++ b ∷ []) → All P q →
+      Lane P v b ⊎ All (λ u. adj v u ≡ false) (q ++ b ∷ [])
+  cut irr v b [] h c a = elim (either (adj v b)) [
+    | inl e ↦ inl ([], none, (h, e, none, tt))
+    | inr e ↦ inr (e ◁ none)
+  ]
+  cut {P} irr v b (y ∷ q) h c a = go (either (adj v y)) (cut irr v b q h tail (all-tail a))
     where
-      go : (adj v b ≡ true) ⊎ (adj v b ≡ false) → Lane P v b ⊎ All (λ u. adj v u ≡ false) (b ∷ [])
-      go (inl e) = inl ([], none, (h, e, none, tt))
-      go (inr e) = inr (e ◁ none)
-  cut {P} irr v b (y ∷ q) h c a = go (either (adj v y)) (cut irr v b q h (chain-tail y (q ++ b ∷ []) c) (all-tail a))
-    where
+      tail : Chordless adj (q ++ b ∷ [])
+      tail = chain-tail y (q ++ b ∷ []) c
+
       go :
           (adj v y ≡ true) ⊎ (adj v y ≡ false) → Lane P v b ⊎ All (λ u. adj v u ≡ false) (q ++ b ∷ []) →
           Lane P v b ⊎ All (λ u. adj v u ≡ false) (y ∷ q ++ b ∷ [])
-      go e (inl r) = inl r
-      go (inl e) (inr r) =
-          inl (
-            y ∷ q,
-            a,
-            (
-              differs v y y e (irr y (all-head a)),
-              e,
-              all-both (stays-out v b q h (chain-tail y (q ++ b ∷ []) c) r) r,
-              c,
-            ),
-          )
-      go (inr e) (inr r) = inr (e ◁ r)
+      go e (inl lane) = inl lane
+      go (inl e) (inr off) =
+          let differ : v ≢ y = differs v y y e (irr y (all-head a)) in
+          inl (y ∷ q, a, (differ, e, all-both (stays-out v b q h tail off) off, c))
+      go (inr e) (inr off) = inr (e ◁ off)
 
   pub shortest :
-      {allowed : ℕ → Bool} {v b : ℕ} → ((u : ℕ) → allowed u ≡ true → adj u u ≡ false) → v ≢ b → Walk adj allowed b v →
-      Lane (λ u. allowed u ≡ true) v b
+      {allowed : ℕ → Bool} {v b : ℕ} → ((u : ℕ) → allowed u ≡ true → adj u u ≡ false) → v ≢ b →
+      Walk adj allowed b v → Lane (λ u. allowed u ≡ true) v b
   shortest irr h (there e) = ([], none, (h, e, none, tt))
-  shortest {allowed} {b} irr h (through {v} {w} e a k) = split (ℕ-discrete w b) (λ g. shortest irr g k)
-    where
-      place :
-          (r : Lane (λ u. allowed u ≡ true) w b) → Lane (λ u. allowed u ≡ true) v b ⊎
-          All (λ u. adj v u ≡ false) (w ∷ r .0 ++ b ∷ []) → Lane (λ u. allowed u ≡ true) v b
-      place r (inl l) = l
-      place r (inr n) = absurd (clash (adj v w) e (all-head n))
-
-      split : Dec (w ≡ b) → (w ≢ b → Lane (λ u. allowed u ≡ true) w b) → Lane (λ u. allowed u ≡ true) v b
-      split (yes g) below = ([], none, (h, subst (λ (u : ℕ). adj v u ≡ true) g e, none, tt))
-      split (no g) below = let r = below g in place r (cut irr v b (w ∷ r .0) h (r .2) (a ◁ r .1))
+  shortest {b} irr h (through {v} {w} e a k) = elim (ℕ-discrete w b) [
+    | yes g ↦ ([], none, (h, rw g at e, none, tt))
+    | no g ↦
+        let (q, between, chain) = shortest irr g k in
+        elim (cut irr v b (w ∷ q) h chain (a ◁ between)) [
+          | inl lane ↦ lane
+          | inr off ↦ absurd (clash (adj v w) e (all-head off))
+        ]
+  ]
 
   pub walks :
-      {allowed : ℕ → Bool} {v b : ℕ} (q : List ℕ) → All (λ u. allowed u ≡ true) q → Chordless adj (v ∷ q ++ b ∷ []) →
-      Walk adj allowed b v
-  walks [] a c = there (c .1)
-  walks (y ∷ q) a c = through (c .1) (all-head a) (walks q (all-tail a) (c .3))
+      {allowed : ℕ → Bool} {v b : ℕ} (q : List ℕ) → All (λ u. allowed u ≡ true) q →
+      Chordless adj (v ∷ q ++ b ∷ []) → Walk adj allowed b v
+  walks [] a (differ, bonded, off, chain) = there bonded
+  walks (y ∷ q) (y-allowed ◁ a) (differ, bonded, off, chain) = through bonded y-allowed (walks q a chain)
 
   pub shortest-iff :
       (allowed : ℕ → Bool) (v b : ℕ) → ((u : ℕ) → allowed u ≡ true → adj u u ≡ false) → v ≢ b →
       Walk adj allowed b v ↔ Lane (λ u. allowed u ≡ true) v b
-  shortest-iff allowed v b irr h = (shortest irr h, λ r. walks (r .0) (r .1) (r .2))
+  shortest-iff allowed v b irr h = (shortest irr h, λ (q, between, chain). walks q between chain)
 
   -- the same with the test `induces`
-  pub shortest-induces : (allowed : ℕ → Bool) (v b : ℕ) → ((u : ℕ) → allowed u ≡ true → adj u u ≡ false) → v ≢ b
-      →
+  pub shortest-induces :
+      (allowed : ℕ → Bool) (v b : ℕ) → ((u : ℕ) → allowed u ≡ true → adj u u ≡ false) → v ≢ b →
       Walk adj allowed b v ↔
       ((q : List ℕ) × All (λ u. allowed u ≡ true) q × (induces adj alongPath (v ∷ q ++ b ∷ []) ≡ true))
   shortest-induces allowed v b irr h = (
-    λ k. let (q, a, c) = shortest irr h k in
-        (q, a, chordless-iff adj (v ∷ q ++ b ∷ []) .1 c),
-    λ r. walks (r .0) (r .1) (chordless-iff adj (v ∷ r .0 ++ b ∷ []) .0 (r .2)),
+    λ k. let (q, between, chain) = shortest irr h k in (q, between, chordless-iff adj (v ∷ q ++ b ∷ []) .1 chain),
+    λ (q, between, e). walks q between (chordless-iff adj (v ∷ q ++ b ∷ []) .0 e),
   )
+
+  -- ---- walks
 
   -- through more atoms
   pub walk-more : {f g : ℕ → Bool} {b v : ℕ} → ((u : ℕ) → f u ≡ true → g u ≡ true) → Walk adj f b v → Walk adj g b v

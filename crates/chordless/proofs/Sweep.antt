@@ -1,8 +1,7 @@
--- Openness and membership of p with v added, as equations between
--- tests: what a search computes for each v, once a sweep has found
--- the atoms from which a target is reached. From the theorems of `Rings` and `Paths`, part by part.
+-- Openness and membership of p with v added, as equations between tests: what a search computes for each v once a sweep
+-- has found the atoms from which a target is reached. From the theorems of `Rings` and `Paths`, part by part.
 use Prim.Native.Nat.{ℕ, _≤_}
-use mathlib.Core.Path.{_≡_, refl, subst}
+use mathlib.Core.Path.{_≡_, refl}
 use mathlib.Core.Bool.{Bool, true, _&&_, not}
 use mathlib.Core.List.{List, [], _∷_, _++_}
 use mathlib.Core.Logic.{_≢_, _↔_}
@@ -10,7 +9,7 @@ use lib.ListN.{length}
 use lib.Dec.{leb, ltb, eqb}
 use borrow.Author.Tests.{leb-true, le-leb, ltb-true, lt-ltb, eqb-true, eq-eqb, eqb-false, ne-eqb, not-true}
 use Rattle.graph.specs.Chordless.{Adjacency, atomAt, isRing, isPath}
-use Rattle.graph.proofs.Below.{and-left, and-right, and-both, same-test, not-of}
+use Rattle.graph.proofs.Below.{and-parts, and-both, same-test, not-of}
 use Rattle.enumeration.specs.Words.{isOpen}
 use Rattle.chordless.specs.Families.{rings, paths}
 use Rattle.chordless.specs.Reach.{Irreflexive, Walk, Sweeps, clear, free, closing, touchesOnlyLast, touchesOnlyEnds, RingOpens, RingCloses, PathOpens}
@@ -19,10 +18,15 @@ use Rattle.chordless.proofs.Paths.{path-opens, path-opens-none, path-cl
 
 -- the parts of a conjunction of tests
 and3 : (a b c : Bool) → a && b && c ≡ true → (a ≡ true) × (b ≡ true) × (c ≡ true)
-and3 a b c e = let l = and-left (a && b) c e in (and-left a b l, and-right a b l, and-right (a && b) c e)
+and3 a b c e =
+    let (ab, is-c) = and-parts (a && b) c e in
+    let (is-a, is-b) = and-parts a b ab in
+    (is-a, is-b, is-c)
 
 all3 : (a b c : Bool) → a ≡ true → b ≡ true → c ≡ true → a && b && c ≡ true
 all3 a b c p q r = and-both (a && b) c (and-both a b p q) r
+
+-- ---- rings
 
 module _ (n : ℕ) (adj : Adjacency) where
   -- v opens the beginning p of a ring, tested
@@ -34,51 +38,53 @@ module _ (n : ℕ) (adj : Adjacency) where
       Sweeps n (atomAt p 0) adj (free n adj (atomAt p 0) p) (closing n adj p a) S → t ≡ ringTest p S v
   ring-test p a v S t e w = same-test t (ringTest p S v) (λ h. to (e .0 h)) (λ h. e .1 (back h))
     where
+      fits : Bool
+      fits = ltb (atomAt p 0) v && leb v n && touchesOnlyLast adj p v
+
       to : RingOpens n adj p a v → ringTest p S v ≡ true
       to o =
-          and-both (ltb (atomAt p 0) v && leb v n && touchesOnlyLast adj p v) (S v)
-          (all3 (ltb (atomAt p 0) v) (leb v n) (touchesOnlyLast adj p v) (lt-ltb (atomAt p 0) v (o .above))
-          (le-leb v n (o .range)) (o .touches)) (w v (o .above) (o .range) .1 (o .last, o .closes, o .reached))
+          let above = lt-ltb (atomAt p 0) v (o .above) in
+          let range = le-leb v n (o .range) in
+          let fit = all3 (ltb (atomAt p 0) v) (leb v n) (touchesOnlyLast adj p v) above range (o .touches) in
+          and-both fits (S v) fit (w v (o .above) (o .range) .1 (o .last, o .closes, o .reached))
 
       back : ringTest p S v ≡ true → RingOpens n adj p a v
       back h =
-          let (x, y, z) =
-          and3 (ltb (atomAt p 0) v) (leb v n) (touchesOnlyLast adj p v)
-          (and-left (ltb (atomAt p 0) v && leb v n && touchesOnlyLast adj p v) (S v) h) in
-          let (b, c, k) =
-          w v (ltb-true (atomAt p 0) v x) (leb-true v n y) .0
-          (and-right (ltb (atomAt p 0) v && leb v n && touchesOnlyLast adj p v) (S v) h) in
+          let (fit, reaches) = and-parts fits (S v) h in
+          let (above, range, touches) = and3 (ltb (atomAt p 0) v) (leb v n) (touchesOnlyLast adj p v) fit in
+          let (b, closes, walk) = w v (ltb-true (atomAt p 0) v above) (leb-true v n range) .0 reaches in
           record {
-            above = ltb-true (atomAt p 0) v x;
-            range = leb-true v n y;
-            touches = z;
+            above = ltb-true (atomAt p 0) v above;
+            range = leb-true v n range;
+            touches = touches;
             last = b;
-            closes = c;
-            reached = k;
+            closes = closes;
+            reached = walk;
           }
 
   module _ (irr : Irreflexive n adj) where
     -- two atoms or more: one S for every v
     pub ring-sweep :
         (p : List ℕ) (S : ℕ → Bool) → 2 ≤ length p → isOpen (rings n adj) p ≡ true →
-        Sweeps n (atomAt p 0) adj (free n adj (atomAt p 0) p) (closing n adj p (atomAt p 1)) S
-        → (v : ℕ) →
+        Sweeps n (atomAt p 0) adj (free n adj (atomAt p 0) p) (closing n adj p (atomAt p 1)) S →
+        (v : ℕ) →
         isOpen (rings n adj) (p ++ v ∷ []) ≡ (ltb (atomAt p 0) v && leb v n && touchesOnlyLast adj p v && S v)
     ring-sweep p S h e w v =
         ring-test p (atomAt p 1) v S (isOpen (rings n adj) (p ++ v ∷ [])) (ring-opens-long n adj irr p v h e) w
 
     -- one atom: S for this v
     pub ring-sweep-one :
-        (s v : ℕ) (S : ℕ → Bool) → 1 ≤ s → Sweeps n s adj (free n adj s (s ∷ [])) (closing n adj (s ∷ []) v) S
-        → isOpen (rings n adj) (s ∷ v ∷ []) ≡ (ltb s v && leb v n && touchesOnlyLast adj (s ∷ []) v && S v)
+        (s v : ℕ) (S : ℕ → Bool) → 1 ≤ s →
+        Sweeps n s adj (free n adj s (s ∷ [])) (closing n adj (s ∷ []) v) S →
+        isOpen (rings n adj) (s ∷ v ∷ []) ≡ (ltb s v && leb v n && touchesOnlyLast adj (s ∷ []) v && S v)
     ring-sweep-one s v S h w =
         ring-test (s ∷ []) v v S (isOpen (rings n adj) (s ∷ v ∷ [])) (ring-opens-one n adj irr s v h) w
 
     -- any open beginning that is not empty: S for this v
     pub ring-sweep-each :
         (p : List ℕ) (v : ℕ) (S : ℕ → Bool) → 1 ≤ length p → isOpen (rings n adj) p ≡ true →
-        Sweeps n (atomAt p 0) adj (free n adj (atomAt p 0) p) (closing n adj p (atomAt (p ++ v ∷ []) 1)) S
-        → isOpen (rings n adj) (p ++ v ∷ []) ≡ (ltb (atomAt p 0) v && leb v n && touchesOnlyLast adj p v && S v)
+        Sweeps n (atomAt p 0) adj (free n adj (atomAt p 0) p) (closing n adj p (atomAt (p ++ v ∷ []) 1)) S →
+        isOpen (rings n adj) (p ++ v ∷ []) ≡ (ltb (atomAt p 0) v && leb v n && touchesOnlyLast adj p v && S v)
     ring-sweep-each p v S h e w =
         ring-test p (atomAt (p ++ v ∷ []) 1) v S (isOpen (rings n adj) (p ++ v ∷ [])) (ring-opens n adj irr p v h e) w
 
@@ -91,24 +97,32 @@ module _ (n : ℕ) (adj : Adjacency) where
     where
       to : RingCloses n adj p v → ltb (atomAt p 1) v && leb v n && touchesOnlyEnds adj p v ≡ true
       to k =
-          all3 (ltb (atomAt p 1) v) (leb v n) (touchesOnlyEnds adj p v) (lt-ltb (atomAt p 1) v (k .above))
-          (le-leb v n (k .range)) (k .touches)
+          let above = lt-ltb (atomAt p 1) v (k .above) in
+          let range = le-leb v n (k .range) in
+          all3 (ltb (atomAt p 1) v) (leb v n) (touchesOnlyEnds adj p v) above range (k .touches)
 
       back : ltb (atomAt p 1) v && leb v n && touchesOnlyEnds adj p v ≡ true → RingCloses n adj p v
       back f =
-          let (x, y, z) = and3 (ltb (atomAt p 1) v) (leb v n) (touchesOnlyEnds adj p v) f in
-          record { above = ltb-true (atomAt p 1) v x; range = leb-true v n y; touches = z }
+          let (above, range, touches) = and3 (ltb (atomAt p 1) v) (leb v n) (touchesOnlyEnds adj p v) f in
+          record { above = ltb-true (atomAt p 1) v above; range = leb-true v n range; touches = touches }
+
+-- ---- paths
 
 module _ (n : ℕ) (adj : Adjacency) (s t : ℕ) where
   pub path-member :
       (p : List ℕ) (v : ℕ) → 1 ≤ length p → isOpen (paths n adj s t) p ≡ true →
       isPath n adj s t (p ++ v ∷ []) ≡ (eqb v t && touchesOnlyLast adj p v)
-  path-member p v h e =
-      same-test (isPath n adj s t (p ++ v ∷ [])) (eqb v t && touchesOnlyLast adj p v)
-      (λ f. let (x, y) = path-closes n adj s t p v h e .0 f in
-      and-both (eqb v t) (touchesOnlyLast adj p v) (eq-eqb v t x) y)
-      (λ f. path-closes n adj s t p v h e .1
-      (eqb-true v t (and-left (eqb v t) (touchesOnlyLast adj p v) f), and-right (eqb v t) (touchesOnlyLast adj p v) f))
+  path-member p v h e = same-test (isPath n adj s t (p ++ v ∷ [])) (eqb v t && touchesOnlyLast adj p v) to back
+    where
+      to : isPath n adj s t (p ++ v ∷ []) ≡ true → eqb v t && touchesOnlyLast adj p v ≡ true
+      to f =
+          let (is-t, touches) = path-closes n adj s t p v h e .0 f in
+          and-both (eqb v t) (touchesOnlyLast adj p v) (eq-eqb v t is-t) touches
+
+      back : eqb v t && touchesOnlyLast adj p v ≡ true → isPath n adj s t (p ++ v ∷ []) ≡ true
+      back f =
+          let (is-t, touches) = and-parts (eqb v t) (touchesOnlyLast adj p v) f in
+          path-closes n adj s t p v h e .1 (eqb-true v t is-t, touches)
 
   -- v opens the beginning p of a path, tested
   abbrev pathTest : List ℕ → (ℕ → Bool) → ℕ → Bool
@@ -117,49 +131,64 @@ module _ (n : ℕ) (adj : Adjacency) (s t : ℕ) where
   -- one S for every v
   pub path-sweep :
       Irreflexive n adj → (p : List ℕ) (S : ℕ → Bool) → 1 ≤ length p → isOpen (paths n adj s t) p ≡ true →
-      Sweeps n 0 adj (free n adj 0 p) (λ b. eqb b t) S
-      → (v : ℕ) →
+      Sweeps n 0 adj (free n adj 0 p) (λ b. eqb b t) S →
+      (v : ℕ) →
       isOpen (paths n adj s t) (p ++ v ∷ []) ≡
       (leb 1 v && leb v n && not (eqb (atomAt p 0) v) && touchesOnlyLast adj p v && clear adj p t && S v)
   path-sweep irr p S h e w v =
       same-test (isOpen (paths n adj s t) (p ++ v ∷ [])) (pathTest p S v)
       (λ f. to (path-opens n adj s t irr p v h e .0 f)) (λ f. path-opens n adj s t irr p v h e .1 (back f))
     where
+      is-first : Bool
+      is-first = eqb (atomAt p 0) v
+
+      -- the tests of v alone, without and with its bonds to p
+      stands : Bool
+      stands = leb 1 v && leb v n && not is-first
+
+      fits : Bool
+      fits = stands && touchesOnlyLast adj p v
+
       to : PathOpens n adj t p v → pathTest p S v ≡ true
       to o =
-          all3 (leb 1 v && leb v n && not (eqb (atomAt p 0) v) && touchesOnlyLast adj p v) (clear adj p t) (S v)
-          (and-both (leb 1 v && leb v n && not (eqb (atomAt p 0) v)) (touchesOnlyLast adj p v)
-          (all3 (leb 1 v) (leb v n) (not (eqb (atomAt p 0) v)) (le-leb 1 v (o .least)) (le-leb v n (o .range))
-          (not-of (eqb (atomAt p 0) v) (ne-eqb (atomAt p 0) v (o .other))))
-          (o .touches))
-          (o .ahead)
-          (w v (o .least) (o .range) .1 (t, eq-eqb t t refl, o .reached))
+          let other = not-of is-first (ne-eqb (atomAt p 0) v (o .other)) in
+          let stand = all3 (leb 1 v) (leb v n) (not is-first) (le-leb 1 v (o .least)) (le-leb v n (o .range)) other in
+          let fit = and-both stands (touchesOnlyLast adj p v) stand (o .touches) in
+          all3 fits (clear adj p t) (S v) fit (o .ahead) (w v (o .least) (o .range) .1 (t, eq-eqb t t refl, o .reached))
 
       back : pathTest p S v ≡ true → PathOpens n adj t p v
       back f =
-          let (i, j, k) =
-          and3 (leb 1 v && leb v n && not (eqb (atomAt p 0) v) && touchesOnlyLast adj p v) (clear adj p t) (S v) f in
-          let (x, y, z) =
-          and3 (leb 1 v) (leb v n) (not (eqb (atomAt p 0) v))
-          (and-left (leb 1 v && leb v n && not (eqb (atomAt p 0) v)) (touchesOnlyLast adj p v) i) in
-          let (b, c, l) = w v (leb-true 1 v x) (leb-true v n y) .0 k in
+          let (fit, ahead, reaches) = and3 fits (clear adj p t) (S v) f in
+          let (stand, touches) = and-parts stands (touchesOnlyLast adj p v) fit in
+          let (least, range, other) = and3 (leb 1 v) (leb v n) (not is-first) stand in
+          let (b, is-t, walk) = w v (leb-true 1 v least) (leb-true v n range) .0 reaches in
           record {
-            least = leb-true 1 v x;
-            range = leb-true v n y;
-            other = eqb-false (atomAt p 0) v (not-true (eqb (atomAt p 0) v) z);
-            touches = and-right (leb 1 v && leb v n && not (eqb (atomAt p 0) v)) (touchesOnlyLast adj p v) i;
-            ahead = j;
-            reached = subst (λ (u : ℕ). Walk adj (free n adj 0 p) u v) (eqb-true b t c) l;
+            least = leb-true 1 v least;
+            range = leb-true v n range;
+            other = eqb-false (atomAt p 0) v (not-true is-first other);
+            touches = touches;
+            ahead = ahead;
+            reached = rw (eqb-true b t is-t) at walk;
           }
 
   -- the empty beginning
   pub path-sweep-none :
       Irreflexive n adj → (S : ℕ → Bool) → s ≢ t → (1 ≤ s) × (s ≤ n) → (1 ≤ t) × (t ≤ n) →
-      Sweeps n 0 adj (free n adj 0 []) (λ b. eqb b t) S → (v : ℕ) → isOpen (paths n adj s t) (v ∷ []) ≡ (eqb v s && S s)
-  path-sweep-none irr S h hs ht w v =
-      same-test (isOpen (paths n adj s t) (v ∷ [])) (eqb v s && S s)
-      (λ f. let (e, k) = path-opens-none n adj s t irr v h hs ht .0 f in
-      and-both (eqb v s) (S s) (eq-eqb v s e) (w s (hs .0) (hs .1) .1 (t, eq-eqb t t refl, k)))
-      (λ f. let (b, c, k) = w s (hs .0) (hs .1) .0 (and-right (eqb v s) (S s) f) in
-      path-opens-none n adj s t irr v h hs ht .1
-      (eqb-true v s (and-left (eqb v s) (S s) f), subst (λ (u : ℕ). Walk adj (free n adj 0 []) u s) (eqb-true b t c) k))
+      Sweeps n 0 adj (free n adj 0 []) (λ b. eqb b t) S →
+      (v : ℕ) → isOpen (paths n adj s t) (v ∷ []) ≡ (eqb v s && S s)
+  path-sweep-none irr S h (s-least, s-range) ht w v =
+      same-test (isOpen (paths n adj s t) (v ∷ [])) (eqb v s && S s) to back
+    where
+      opens : (isOpen (paths n adj s t) (v ∷ []) ≡ true) ↔ ((v ≡ s) × Walk adj (free n adj 0 []) t s)
+      opens = path-opens-none n adj s t irr v h (s-least, s-range) ht
+
+      to : isOpen (paths n adj s t) (v ∷ []) ≡ true → eqb v s && S s ≡ true
+      to f =
+          let (is-s, walk) = opens .0 f in
+          and-both (eqb v s) (S s) (eq-eqb v s is-s) (w s s-least s-range .1 (t, eq-eqb t t refl, walk))
+
+      back : eqb v s && S s ≡ true → isOpen (paths n adj s t) (v ∷ []) ≡ true
+      back f =
+          let (is-s, reaches) = and-parts (eqb v s) (S s) f in
+          let (b, is-t, walk) = w s s-least s-range .0 reaches in
+          opens .1 (eqb-true v s is-s, rw (eqb-true b t is-t) at walk)

@@ -1,7 +1,6 @@
--- Openness as reachability (document 01, after lemma 2 of document 003):
--- what an atom must be to go on a beginning p of a ring or of a path.
--- Any adjacency: a bond is asked from the earlier atom of a list to the
--- later one, as in `induces`. The laws ask that it is `Irreflexive`.
+-- Openness as reachability (document 01, after lemma 2 of document 003): what an atom must be to go on a beginning p
+-- of a ring or of a path. Any adjacency: a bond is asked from the earlier atom of a list to the later one, as in
+-- `induces`. The laws ask that it is `Irreflexive`.
 use Prim.Native.Nat.{ℕ, suc, _≤_, _<_}
 use mathlib.Core.Path.{_≡_}
 use mathlib.Core.Bool.{Bool, true, false, _&&_, _||_, not, Bool·beq}
@@ -16,17 +15,18 @@ use Rattle.graph.specs.Chordless.{Adjacency, atomAt}
 abbrev pub Irreflexive : ℕ → Adjacency → Type 0
 Irreflexive n adj = (u : ℕ) → 1 ≤ u → u ≤ n → adj u u ≡ false
 
--- From v, b is reached through atoms that `allowed` admits: every
--- atom strictly between v and b is allowed, v and b need not be
+-- From v, b is reached through atoms that `allowed` admits:
+-- every atom strictly between v and b is allowed, v and b need not be
 pub data Walk (adj : Adjacency) (allowed : ℕ → Bool) (b : ℕ) : ℕ → Type 0 where
   there : {v : ℕ} → adj v b ≡ true → Walk adj allowed b v
   through : {v w : ℕ} → adj v w ≡ true → allowed w ≡ true → Walk adj allowed b w → Walk adj allowed b v
 
--- Of the atoms above low, at most n, S holds exactly for those from
--- which a target is reached: one sweep finds S for every candidate
+-- Of the atoms above low, at most n, S holds exactly for those from which a target is reached:
+-- one sweep finds S for every candidate
 abbrev pub Sweeps : ℕ → ℕ → Adjacency → (ℕ → Bool) → (ℕ → Bool) → (ℕ → Bool) → Type 0
 Sweeps n low adj allowed target S =
-    (v : ℕ) → low < v → v ≤ n → (S v ≡ true) ↔ ((b : ℕ) × (target b ≡ true) × Walk adj allowed b v)
+    (v : ℕ) → low < v → v ≤ n →
+    (S v ≡ true) ↔ ((b : ℕ) × (target b ≡ true) × Walk adj allowed b v)
 
 -- u is bonded to no atom of p
 unfoldable pub clear : Adjacency → List ℕ → ℕ → Bool
@@ -34,30 +34,32 @@ clear adj p u = allBelow (length p) (λ i. not (adj (atomAt p i) u))
 
 -- u is bonded to the last atom of p and to no other
 unfoldable pub touchesOnlyLast : Adjacency → List ℕ → ℕ → Bool
-touchesOnlyLast adj p u = allBelow (length p) (λ i. Bool·beq (adj (atomAt p i) u) (eqb (suc i) (length p)))
+touchesOnlyLast adj p u =
+    allBelow (length p) (λ i. Bool·beq (adj (atomAt p i) u) (eqb (suc i) (length p)))
 
 -- u is bonded to the first atom of p and to no other
 unfoldable pub touchesOnlyFirst : Adjacency → List ℕ → ℕ → Bool
-touchesOnlyFirst adj p u = allBelow (length p) (λ i. Bool·beq (adj (atomAt p i) u) (eqb i 0))
+touchesOnlyFirst adj p u =
+    allBelow (length p) (λ i. Bool·beq (adj (atomAt p i) u) (eqb i 0))
 
 -- u is bonded to the first atom of p, to the last, and to no other
 unfoldable pub touchesOnlyEnds : Adjacency → List ℕ → ℕ → Bool
-touchesOnlyEnds adj p u = allBelow (length p) (λ i. Bool·beq (adj (atomAt p i) u) (eqb i 0 || eqb (suc i) (length p)))
+touchesOnlyEnds adj p u =
+    allBelow (length p) (λ i. Bool·beq (adj (atomAt p i) u) (eqb i 0 || eqb (suc i) (length p)))
 
--- u may stand between: above low (a ring: its first atom; a path: 0), at most n, bonded to no atom of p
+-- u may stand between: above low (a ring: its first atom; a path: 0), at most n,
+-- bonded to no atom of p
 unfoldable pub free : ℕ → Adjacency → ℕ → List ℕ → ℕ → Bool
 free n adj low p u = ltb low u && leb u n && clear adj p u
 
--- b may close a ring that begins with p: above the second atom
--- a, at most n, bonded to the first atom of p and to no other
+-- b may close a ring that begins with p: above the second atom a, at most n,
+-- bonded to the first atom of p and to no other
 unfoldable pub closing : ℕ → Adjacency → List ℕ → ℕ → ℕ → Bool
 closing n adj p a b = ltb a b && leb b n && touchesOnlyFirst adj p b
 
--- v opens the beginning p of a ring, whose second atom is a (for one atom
--- alone, a is v): v is above the first atom, is bonded to the last one
--- and to no other, and some closing atom is reached from v through
--- free atoms. Which atoms are free or closing does not depend on v
--- when p has two atoms or more.
+-- v opens the beginning p of a ring, whose second atom is a (for one atom alone, a is v): v is above the first atom,
+-- is bonded to the last one and to no other, and some closing atom is reached from v through free atoms.
+-- Which atoms are free or closing does not depend on v when p has two atoms or more.
 pub record RingOpens (n : ℕ) (adj : Adjacency) (p : List ℕ) (a v : ℕ) : Type 0 where
   pub above : atomAt p 0 < v
   pub range : v ≤ n
@@ -72,9 +74,9 @@ pub record RingCloses (n : ℕ) (adj : Adjacency) (p : List ℕ) (v : ℕ) : Typ
   pub range : v ≤ n
   pub touches : touchesOnlyEnds adj p v ≡ true
 
--- v opens the beginning p of a path to t: v is not the first atom,
--- is bonded to the last one and to no other, t is bonded to none,
--- and t is reached from v through free atoms. Neither the free atoms nor the test of t depend on v.
+-- v opens the beginning p of a path to t: v is not the first atom, is bonded to the last one and to no other,
+-- t is bonded to none, and t is reached from v through free atoms.
+-- Neither the free atoms nor the test of t depend on v.
 pub record PathOpens (n : ℕ) (adj : Adjacency) (t : ℕ) (p : List ℕ) (v : ℕ) : Type 0 where
   pub least : 1 ≤ v
   pub range : v ≤ n

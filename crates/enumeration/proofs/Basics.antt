@@ -2,13 +2,15 @@
 -- By induction on the list.
 use Prim.Native.Nat.{ℕ, zero, suc, _+_, _≤_, _<_}
 use native.Mathlib.Omega.{arith}
-use mathlib.Core.Path.{_≡_, refl, sym, ap, _∙_, subst}
+use mathlib.Core.Path.{_≡_, refl, sym, ap, _∙_}
 use mathlib.Core.Logic.{_⊎_, inl, inr}
 use mathlib.Core.Bool.{Bool, true, false, _||_, _&&_, cond, true≢false}
 use mathlib.Core.List.{List, [], _∷_, _++_, map, append-assoc, List·Memᴰ, List·Memᴰ·head, List·Memᴰ·tail, List·Memᴰ·not-nil, List·Memᴰ·cases-cons, List·Memᴰ·append-cases, Memᴰ·append-left, Memᴰ·append-right}
 use lib.Dec.{ltb}
 use borrow.Author.Tests.{ltb-true, ltb-false}
 use Rattle.enumeration.specs.Words.{from, joined, words, keep, any}
+
+-- ---- tests
 
 pub apart : true ≡ false → ⊥
 apart e = true≢false e
@@ -64,13 +66,14 @@ compared a b = go (decided (ltb a b)) (decided (ltb b a))
 pub keep-append : (t : List ℕ → Bool) (xs ys : List (List ℕ)) → keep t (xs ++ ys) ≡ keep t xs ++ keep t ys
 unfolding keep
 keep-append t [] ys = refl
-keep-append t (x ∷ xs) ys = go (t x) (keep-append t xs ys)
+keep-append t (x ∷ xs) ys = rw (keep-append t xs ys) (go (t x))
   where
     go :
-        (b : Bool) → keep t (xs ++ ys) ≡ keep t xs ++ keep t ys → cond b (x ∷ keep t (xs ++ ys)) (keep t (xs ++ ys)) ≡
+        (b : Bool) →
+        cond b (x ∷ keep t xs ++ keep t ys) (keep t xs ++ keep t ys) ≡
         cond b (x ∷ keep t xs) (keep t xs) ++ keep t ys
-    go true e = ap (λ (r : List (List ℕ)). x ∷ r) e
-    go false e = e
+    go true = refl
+    go false = refl
 
 pub keep-false : (t : List ℕ → Bool) (x : List ℕ) (xs : List (List ℕ)) → t x ≡ false → keep t (x ∷ xs) ≡ keep t xs
 unfolding keep
@@ -83,20 +86,14 @@ unfolding keep
 keep-mem t [] m = absurd (List·Memᴰ·not-nil m)
 keep-mem t (x ∷ xs) {w} m = go (t x) refl (λ (m′ : List·Memᴰ w (keep t xs)). keep-mem t xs m′) m
   where
-    deeper : (List·Memᴰ w xs × (t w ≡ true)) → List·Memᴰ w (x ∷ xs) × (t w ≡ true)
-    deeper r = (List·Memᴰ·tail (r .0), r .1)
-
-    first :
-        t x ≡ true → (List·Memᴰ w (keep t xs) → List·Memᴰ w xs × (t w ≡ true)) → (w ≡ x) ⊎ List·Memᴰ w (keep t xs) →
-        List·Memᴰ w (x ∷ xs) × (t w ≡ true)
-    first e ih (inl q) = (List·Memᴰ·head q, ap t q ∙ e)
-    first e ih (inr m′) = deeper (ih m′)
-
     go :
         (b : Bool) → t x ≡ b → (List·Memᴰ w (keep t xs) → List·Memᴰ w xs × (t w ≡ true)) →
         List·Memᴰ w (cond b (x ∷ keep t xs) (keep t xs)) → List·Memᴰ w (x ∷ xs) × (t w ≡ true)
-    go true e ih m′ = first e ih (List·Memᴰ·cases-cons m′)
-    go false e ih m′ = deeper (ih m′)
+    go true e ih m′ = elim (List·Memᴰ·cases-cons m′) [
+      | inl q ↦ (List·Memᴰ·head q, ap t q ∙ e)
+      | inr kept ↦ let (of-xs, passes) = ih kept in (List·Memᴰ·tail of-xs, passes)
+    ]
+    go false e ih m′ = let (of-xs, passes) = ih m′ in (List·Memᴰ·tail of-xs, passes)
 
 -- a word of the list that passes is kept
 pub mem-keep :
@@ -140,7 +137,8 @@ keep-swap s t [] = refl
 keep-swap s t (x ∷ xs) = go (s x) refl (t x) refl (keep-swap s t xs)
   where
     go :
-        (a : Bool) → s x ≡ a → (b : Bool) → t x ≡ b → keep s (keep t xs) ≡ keep t (keep s xs) →
+        (a : Bool) → s x ≡ a → (b : Bool) → t x ≡ b →
+        keep s (keep t xs) ≡ keep t (keep s xs) →
         keep s (cond b (x ∷ keep t xs) (keep t xs)) ≡ keep t (cond a (x ∷ keep s xs) (keep s xs))
     go true e true f ih = rw (e, f, ih)
     go true e false f ih = rw (f, ih)
@@ -153,13 +151,10 @@ keep-swap s t (x ∷ xs) = go (s x) refl (t x) refl (keep-swap s t xs)
 pub any-mem : (t : List ℕ → Bool) (xs : List (List ℕ)) → any t xs ≡ true → (w : List ℕ) × List·Memᴰ w xs × (t w ≡ true)
 unfolding any
 any-mem t [] e = absurd (apart (sym e))
-any-mem t (x ∷ xs) e = go (any-mem t xs) (or-either (t x) (any t xs) e)
-  where
-    go :
-        (any t xs ≡ true → (w : List ℕ) × List·Memᴰ w xs × (t w ≡ true)) → (t x ≡ true) ⊎ (any t xs ≡ true) →
-        (w : List ℕ) × List·Memᴰ w (x ∷ xs) × (t w ≡ true)
-    go ih (inl q) = (x, List·Memᴰ·head refl, q)
-    go ih (inr q) = let r = ih q in (r .0, List·Memᴰ·tail (r .1), r .2)
+any-mem t (x ∷ xs) e = elim (or-either (t x) (any t xs) e) [
+  | inl q ↦ (x, List·Memᴰ·head refl, q)
+  | inr q ↦ let (w, of-xs, passes) = any-mem t xs q in (w, List·Memᴰ·tail of-xs, passes)
+]
 
 pub mem-any : (t : List ℕ → Bool) {xs : List (List ℕ)} {w : List ℕ} → List·Memᴰ w xs → t w ≡ true → any t xs ≡ true
 unfolding any
@@ -182,62 +177,53 @@ pub map-joined :
     (h : List ℕ → List ℕ) (f : ℕ → List (List ℕ)) (l : List ℕ) → map h (joined f l) ≡ joined (λ a. map h (f a)) l
 unfolding joined
 map-joined h f [] = refl
-map-joined h f (a ∷ l) =
-    map-append′ (f a) (joined f l) ∙ ap (λ (r : List (List ℕ)). map h (f a) ++ r) (map-joined h f l)
+map-joined h f (a ∷ l) = rw (map-append′ (f a) (joined f l), map-joined h f l)
   where
     map-append′ : (xs ys : List (List ℕ)) → map h (xs ++ ys) ≡ map h xs ++ map h ys
     map-append′ [] ys = refl
-    map-append′ (x ∷ xs) ys = ap (λ (r : List (List ℕ)). h x ∷ r) (map-append′ xs ys)
+    map-append′ (x ∷ xs) ys = rw (map-append′ xs ys)
 
 pub keep-joined :
-    (t : List ℕ → Bool) (f g : ℕ → List (List ℕ)) (l : List ℕ) → ((a : ℕ) → keep t (f a) ≡ keep t (g a)) →
+    (t : List ℕ → Bool) (f g : ℕ → List (List ℕ)) (l : List ℕ) →
+    ((a : ℕ) → keep t (f a) ≡ keep t (g a)) →
     keep t (joined f l) ≡ keep t (joined g l)
 unfolding joined
 keep-joined t f g [] h = refl
-keep-joined t f g (a ∷ l) h =
-    keep-append t (f a) (joined f l) ∙ cc (h a, keep-joined t f g l h) ∙ sym (keep-append t (g a) (joined g l))
+keep-joined t f g (a ∷ l) h = simp (keep-append, h a, keep-joined t f g l h)
 
 pub joined-mem :
     (f : ℕ → List (List ℕ)) (l : List ℕ) {w : List ℕ} → List·Memᴰ w (joined f l) →
     (a : ℕ) × List·Memᴰ a l × List·Memᴰ w (f a)
 unfolding joined
 joined-mem f [] m = absurd (List·Memᴰ·not-nil m)
-joined-mem f (a ∷ l) {w} m = go (λ (m′ : List·Memᴰ w (joined f l)). joined-mem f l m′) (List·Memᴰ·append-cases (f a) m)
-  where
-    go :
-        (List·Memᴰ w (joined f l) → (b : ℕ) × List·Memᴰ b l × List·Memᴰ w (f b)) →
-        List·Memᴰ w (f a) ⊎ List·Memᴰ w (joined f l) → (b : ℕ) × List·Memᴰ b (a ∷ l) × List·Memᴰ w (f b)
-    go ih (inl q) = (a, List·Memᴰ·head refl, q)
-    go ih (inr q) = let r = ih q in (r .0, List·Memᴰ·tail (r .1), r .2)
+joined-mem f (a ∷ l) m = elim (List·Memᴰ·append-cases (f a) m) [
+  | inl q ↦ (a, List·Memᴰ·head refl, q)
+  | inr q ↦ let (b, of-l, of-fb) = joined-mem f l q in (b, List·Memᴰ·tail of-l, of-fb)
+]
 
 pub mem-joined :
-    (f : ℕ → List (List ℕ)) {l : List ℕ} {a : ℕ} {w : List ℕ} → List·Memᴰ a l → List·Memᴰ w (f a) →
-    List·Memᴰ w (joined f l)
+    (f : ℕ → List (List ℕ)) {l : List ℕ} {a : ℕ} {w : List ℕ} →
+    List·Memᴰ a l → List·Memᴰ w (f a) → List·Memᴰ w (joined f l)
 unfolding joined
-mem-joined f {w = w} (List·Memᴰ·head {x} {xs} q) m =
-    Memᴰ·append-left (joined f xs) (subst (λ (b : ℕ). List·Memᴰ w (f b)) q m)
+mem-joined f (List·Memᴰ·head {x} {xs} q) m = Memᴰ·append-left (joined f xs) (rw q at m)
 mem-joined f (List·Memᴰ·tail {x} {xs} h) m = Memᴰ·append-right (f x) (mem-joined f h m)
 
 pub from-mem : (c k : ℕ) {a : ℕ} → List·Memᴰ a (from c k) → (c ≤ a) × (a < c + k)
 unfolding from
 from-mem c zero m = absurd (List·Memᴰ·not-nil m)
-from-mem c (suc k) {a} m = go (λ (m′ : List·Memᴰ a (from (suc c) k)). from-mem (suc c) k m′) (List·Memᴰ·cases-cons m)
-  where
-    go :
-        (List·Memᴰ a (from (suc c) k) → (suc c ≤ a) × (a < suc c + k)) → (a ≡ c) ⊎ List·Memᴰ a (from (suc c) k) →
-        (c ≤ a) × (a < c + suc k)
-    go ih (inl q) = (omega arith, omega arith)
-    go ih (inr q) = let r = ih q in (omega arith, omega arith)
+from-mem c (suc k) m = elim (List·Memᴰ·cases-cons m) [
+  | inl q ↦ (omega arith, omega arith)
+  | inr q ↦ let (low, high) = from-mem (suc c) k q in (omega arith, omega arith)
+]
 
 pub mem-from : (c k a : ℕ) → c ≤ a → a < c + k → List·Memᴰ a (from c k)
 unfolding from
 mem-from c zero a h l = absurd (omega arith)
-mem-from c (suc k) a h l = go (compared c a) (λ (q : suc c ≤ a). mem-from (suc c) k a q (omega arith))
-  where
-    go : Compared c a → (suc c ≤ a → List·Memᴰ a (from (suc c) k)) → List·Memᴰ a (c ∷ from (suc c) k)
-    go (less q) ih = List·Memᴰ·tail (ih q)
-    go (same q) ih = List·Memᴰ·head (sym q)
-    go (more q) ih = absurd (omega arith)
+mem-from c (suc k) a h l = elim (compared c a) [
+  | less q ↦ List·Memᴰ·tail (mem-from (suc c) k a q (omega arith))
+  | same q ↦ List·Memᴰ·head (sym q)
+  | more q ↦ absurd (omega arith)
+]
 
 -- the words of at most k atoms more, each after the atom a
 abbrev pub starting : ℕ → ℕ → ℕ → List (List ℕ)

@@ -1,10 +1,9 @@
--- From every valid search, within 2 × n × n trials, a member is listed or the search is done.
--- Rising and unwinding use up the slack of the beginning; once an open
--- word is entered it is not left before one of its members is listed.
+-- From every valid search, within 2 × n × n trials, a member is listed or the search is done. Rising and unwinding use
+-- up the slack of the beginning; once an open word is entered it is not left before one of its members is listed.
 use Prim.Native.Nat.{ℕ, zero, suc, _+_, _-_, _*_, _≤_, _<_}
 use native.Mathlib.Omega.{arith}
 use native.Mathlib.Nat.{mul-suc, mul-assoc, mul-le-mul-left}
-use mathlib.Core.Path.{_≡_, refl, sym, ap, _∙_}
+use mathlib.Core.Path.{_≡_, refl, sym, _∙_}
 use mathlib.Core.Logic.{_⊎_, inl, inr}
 use mathlib.Core.Bool.{Bool, true, false, cond}
 use mathlib.Core.List.{List, [], _∷_, _++_, reverse, reverseAux, reverseAux-eq}
@@ -15,11 +14,14 @@ use Rattle.enumeration.specs.Words.{Family, begins, isOpen}
 use Rattle.enumeration.specs.Machine.{State, tried, isDone, unwound, placed, act, trial}
 use Rattle.enumeration.specs.Lawful.{Lawful}
 use Rattle.enumeration.specs.Trials.{Valid, steps}
-use Rattle.enumeration.proofs.Basics.{Decided, apart, decided, not-true-false, and-both, Compared, compared, less, same, more}
+use Rattle.enumeration.proofs.Basics.{apart, decided, not-true-false, compared, less, same, more}
+use Rattle.enumeration.proofs.Order.{InRange, begins-rest}
 use Rattle.enumeration.proofs.Stream.{begins-on}
 use Rattle.enumeration.proofs.Open.{range-on, tried-open, opens-below, member-range, begins-open, stack-most}
 use Rattle.enumeration.proofs.Trial.{done-place, unwound-valid}
 use Rattle.enumeration.proofs.Steps.{steps-trial, steps-done, listed-steps}
+
+-- ---- the slack of a beginning
 
 -- how far the atoms of a beginning can still rise
 abbrev slack : ℕ → List ℕ → ℕ
@@ -48,28 +50,20 @@ unwound-slack n m k (a ∷ p) c h = go (eqb c (suc n)) refl (unwound-slack n m k
     go :
         (b : Bool) → eqb c (suc n) ≡ b →
         (1 + slack n p + m ≤ k + suc a → 1 + slack n (unwound n p (suc a) .0) + m ≤ k + unwound n p (suc a) .1) →
-        1 + slack n (cond b (unwound n p (suc a)) (a ∷ p, c) .0) + m ≤ k + cond b (unwound n p (suc a)) (a ∷ p, c) .1
+        let place = cond b (unwound n p (suc a)) (a ∷ p, c) in
+        1 + slack n (place .0) + m ≤ k + place .1
     go true q ih = ih (omega (arith, eqb-true c (suc n) q))
     go false q ih = h
 
-begins-rest : (q m : List ℕ) → begins q m ≡ true → (b : ℕ) × (v : List ℕ) × (m ≡ q ++ b ∷ v)
-unfolding begins
-begins-rest [] [] e = absurd (apart (sym e))
-begins-rest [] (b ∷ m) e = (b, m, refl)
-begins-rest (a ∷ q) [] e = absurd (apart (sym e))
-begins-rest (a ∷ q) (b ∷ m) e = go (and-both (eqb a b) (begins q m) e) (begins-rest q m)
-  where
-    go :
-        (eqb a b ≡ true) × (begins q m ≡ true) → (begins q m ≡ true → (d : ℕ) × (v : List ℕ) × (m ≡ q ++ d ∷ v)) →
-        (d : ℕ) × (v : List ℕ) × (b ∷ m ≡ a ∷ q ++ d ∷ v)
-    go s ih =
-        let r = ih (s .1) in
-        let f : a ≡ b = eqb-true a b (s .0) in
-        (r .0, r .1, rw f (ap (λ (l : List ℕ). b ∷ l) (r .2)))
+-- ---- aims
 
 -- some member begins with p and goes on with an atom that is at least c
 abbrev Aim : Family → List ℕ → ℕ → Type 0
 Aim F p c = (b : ℕ) × (v : List ℕ) × (F .member (reverseAux p (b ∷ v)) ≡ true) × (c ≤ b)
+
+-- the search once an open word is entered: its next atom is 1
+abbrev entered : State → State
+entered st = placed (st .next ∷ st .stack, 1) (suc (st .trials)) (suc (st .extensions)) (st .listed)
 
 -- k trials are enough to list a member that is aimed at
 abbrev Near : Family → ℕ → State → Type 0
@@ -84,141 +78,130 @@ abbrev Onward : Family → ℕ → State → Type 0
 Onward F k st = (isDone (F .atoms) (steps F k st) ≡ true) ⊎ (st .listed < steps F k st .listed)
 
 module _ (F : Family) (L : Lawful F) where
-  aim-high : (p : List ℕ) (c : ℕ) → Aim F p c → c ≤ F .atoms
-  aim-high p c r =
-      omega (arith, range-on (F .atoms) p (r .0 ∷ r .1) (member-range F L (reverseAux p (r .0 ∷ r .1)) (r .2)) .1)
+  open Family F using (atoms as n, member)
 
-  aim-short : (p : List ℕ) (c : ℕ) → Aim F p c → suc (length p) ≤ F .atoms
-  aim-short p c r = omega (arith, L .short (reverseAux p (r .0 ∷ r .1)) (r .2), length-reverseAux p (r .0 ∷ r .1))
+  -- the atoms of a member past its beginning p are in range
+  range-past : (p v : List ℕ) → member (reverseAux p v) ≡ true → InRange n v
+  range-past p v e = range-on n p v (member-range F L (reverseAux p v) e)
+
+  aim-high : (p : List ℕ) (c : ℕ) → Aim F p c → c ≤ n
+  aim-high p c (b, v, is-member, high) = omega (arith, range-past p (b ∷ v) is-member .1)
+
+  aim-short : (p : List ℕ) (c : ℕ) → Aim F p c → suc (length p) ≤ n
+  aim-short p c (b, v, is-member, high) =
+      omega (arith, L .short (reverseAux p (b ∷ v)) is-member, length-reverseAux p (b ∷ v))
+
+  -- a member that is p and then v
+  member-on : (p v m : List ℕ) → m ≡ reverse p ++ v → member m ≡ true → member (reverseAux p v) ≡ true
+  member-on p v m shape e = rw (reverseAux-eq p v, ← shape) e
 
   -- an open word is aimed at from its start
   aim-open : (p : List ℕ) (a : ℕ) → isOpen F (reverse (a ∷ p)) ≡ true → Aim F (a ∷ p) 1
-  aim-open p a o = go (opens-below F (reverse (a ∷ p)) (tried-open F p a ∙ o))
-    where
-      found :
-          (m : List ℕ) → F .member m ≡ true → (b : ℕ) × (v : List ℕ) × (m ≡ reverse (a ∷ p) ++ b ∷ v) → Aim F (a ∷ p) 1
-      found m e r =
-          let f : F .member (reverseAux (a ∷ p) (r .0 ∷ r .1)) ≡ true =
-          ap (F .member) (reverseAux-eq (a ∷ p) (r .0 ∷ r .1) ∙ sym (r .2)) ∙ e in (
-            r .0,
-            r .1,
-            f,
-            range-on (F .atoms) (a ∷ p) (r .0 ∷ r .1) (member-range F L (reverseAux (a ∷ p) (r .0 ∷ r .1)) f) .0,
-          )
-
-      go : (m : List ℕ) × (F .member m ≡ true) × (begins (reverse (a ∷ p)) m ≡ true) → Aim F (a ∷ p) 1
-      go r = found (r .0) (r .1) (begins-rest (reverse (a ∷ p)) (r .0) (r .2))
+  aim-open p a o =
+      let (m, is-member, beginning) = opens-below F (reverse (a ∷ p)) (tried-open F p a ∙ o) in
+      let (b, v, shape) = begins-rest (reverse (a ∷ p)) m beginning in
+      let whole = member-on (a ∷ p) (b ∷ v) m shape is-member in
+      (b, v, whole, range-past (a ∷ p) (b ∷ v) whole .0)
 
   -- past a word that is neither a member nor open the aim is higher
   aim-rise :
-      (p : List ℕ) (c : ℕ) → F .member (reverse (c ∷ p)) ≡ false → isOpen F (reverse (c ∷ p)) ≡ false → Aim F p c →
-      Aim F p (suc c)
+      (p : List ℕ) (c : ℕ) → member (reverse (c ∷ p)) ≡ false → isOpen F (reverse (c ∷ p)) ≡ false →
+      Aim F p c → Aim F p (suc c)
   unfolding begins
-  aim-rise p c e o r = go (compared c (r .0))
+  aim-rise p c e o (b, v, is-member, high) = elim (compared c b) [
+    | less q ↦ (b, v, is-member, q)
+    | same q ↦ absurd (itself v (rw q is-member))
+    | more q ↦ absurd (omega arith)
+  ]
     where
-      itself : (v : List ℕ) → F .member (reverseAux p (c ∷ v)) ≡ true → ⊥
+      itself : (v : List ℕ) → member (reverseAux p (c ∷ v)) ≡ true → ⊥
       itself [] f = apart (sym f ∙ e)
       itself (d ∷ v) f =
-          apart (sym (begins-open F L (reverse (c ∷ p)) (reverseAux p (c ∷ d ∷ v)) f (begins-on (c ∷ p) [] (d ∷ v))) ∙
-          o)
+          let beginning = begins-on (c ∷ p) [] (d ∷ v) in
+          apart (sym (begins-open F L (reverse (c ∷ p)) (reverseAux p (c ∷ d ∷ v)) f beginning) ∙ o)
 
-      go : Compared c (r .0) → Aim F p (suc c)
-      go (less q) = (r .0, r .1, r .2, q)
-      go (same q) = absurd (itself (r .1) (ap (λ (x : ℕ). F .member (reverseAux p (x ∷ r .1))) q ∙ r .2))
-      go (more q) = absurd (omega arith)
+  -- ---- trials
 
-  not-done : (st : State) → st .next ≤ F .atoms → isDone (F .atoms) st ≡ false
-  not-done st h = not-true-false (isDone (F .atoms) st) (λ d. omega (arith, done-place (F .atoms) st d .1))
+  not-done : (st : State) → st .next ≤ n → isDone n st ≡ false
+  not-done st h = not-true-false (isDone n st) (λ d. omega (arith, done-place n st d .1))
 
   more-listed : (k : ℕ) (st s : State) → st .listed < s .listed → st .listed < steps F k s .listed
   more-listed k st s h = omega (arith, listed-steps F k s)
+
+  entered-valid : (st : State) → 1 ≤ n → isOpen F (tried st) ≡ true → Valid F (entered st)
+  unfolding tried
+  entered-valid st one o = record { open-stack = o; low = omega arith; within = λ d. one }
 
   -- where a member is aimed at, one is listed
   aimed :
       (k : ℕ) (st : State) → Valid F st → Aim F (st .stack) (st .next) → Near F k st → st .listed < steps F k st .listed
   unfolding trial tried act
   aimed zero st v r h =
-      absurd (omega (
-        arith,
-        aim-high (st .stack) (st .next) r,
-        mul-suc (F .atoms) (length (st .stack)),
-        mul-le-mul-left (F .atoms) (aim-short (st .stack) (st .next) r),
-      ))
+      let high = aim-high (st .stack) (st .next) r in
+      let short = aim-short (st .stack) (st .next) r in
+      absurd (omega (arith, mul-suc n (length (st .stack)), mul-le-mul-left n short))
   aimed (suc k) st v r h =
-      rw (steps-trial F k st (not-done st (aim-high (st .stack) (st .next) r)))
-      (go (F .member (tried st)) (isOpen F (tried st)) refl refl (aimed k))
+      rw (steps-trial F k st (not-done st c≤n)) (go (member (tried st)) (isOpen F (tried st)) refl refl (aimed k))
     where
-      c≤n : st .next ≤ F .atoms
+      c≤n : st .next ≤ n
       c≤n = aim-high (st .stack) (st .next) r
 
       go :
-          (m o : Bool) → F .member (tried st) ≡ m → isOpen F (tried st) ≡ o →
+          (m o : Bool) → member (tried st) ≡ m → isOpen F (tried st) ≡ o →
           ((s : State) → Valid F s → Aim F (s .stack) (s .next) → Near F k s → s .listed < steps F k s .listed) →
-          st .listed < steps F k (act (F .atoms) m o st) .listed
-      go true o e f ih = more-listed k st (act (F .atoms) true o st) (omega arith)
+          st .listed < steps F k (act n m o st) .listed
+      go true o e f ih = more-listed k st (act n true o st) (omega arith)
       go false true e f ih =
-          let one : 1 ≤ F .atoms = omega (arith, v .low, c≤n) in
-          rw (unwound-still (F .atoms) (st .next ∷ st .stack) 1 one)
-          (ih (placed (st .next ∷ st .stack, 1) (suc (st .trials)) (suc (st .extensions)) (st .listed))
-          (record { open-stack = f; low = omega arith; within = λ d. one })
-          (aim-open (st .stack) (st .next) f)
-          (omega (arith, c≤n, mul-suc (F .atoms) (length (st .stack)))))
+          let one : 1 ≤ n = omega (arith, v .low, c≤n) in
+          let near : Near F k (entered st) = omega (arith, c≤n, mul-suc n (length (st .stack))) in
+          rw (unwound-still n (st .next ∷ st .stack) 1 one)
+          (ih (entered st) (entered-valid st one f) (aim-open (st .stack) (st .next) f) near)
       go false false e f ih =
           let up = aim-rise (st .stack) (st .next) e f r in
-          let high : suc (st .next) ≤ F .atoms = aim-high (st .stack) (suc (st .next)) up in
-          rw (unwound-still (F .atoms) (st .stack) (suc (st .next)) high)
-          (ih (placed (st .stack, suc (st .next)) (suc (st .trials)) (st .extensions) (st .listed))
-          (record { open-stack = v .open-stack; low = omega arith; within = λ d. high })
-          up
-          (omega arith))
+          let high : suc (st .next) ≤ n = aim-high (st .stack) (suc (st .next)) up in
+          let risen : State = placed (st .stack, suc (st .next)) (suc (st .trials)) (st .extensions) (st .listed) in
+          let valid : Valid F risen = record { open-stack = v .open-stack; low = omega arith; within = λ d. high } in
+          rw (unwound-still n (st .stack) (suc (st .next)) high) (ih risen valid up (omega arith))
 
   -- rising and unwinding until the end, a listing or an open word
   moving : (k : ℕ) (st : State) → Valid F st → Enough F k st → Onward F k st
   unfolding steps trial tried act
-  moving zero st v h = go (decided (isDone (F .atoms) st))
+  moving zero st v h = elim (decided (isDone n st)) [
+    | inl done ↦ inl done
+    | inr not-done ↦
+        let c≤n : st .next ≤ n = v .within not-done in
+        let one : 1 ≤ n = omega (arith, v .low) in
+        absurd (omega (arith, mul-le-mul-left n one))
+  ]
+  moving (suc k) st v h = elim (decided (isDone n st)) [
+    | inl done ↦ inl (rw (steps-done F (suc k) st done) done)
+    | inr not-done ↦
+        rw (steps-trial F k st not-done)
+        (go (v .within not-done) (member (tried st)) (isOpen F (tried st)) refl refl (moving k))
+  ]
     where
-      go : Decided (isDone (F .atoms) st) → (isDone (F .atoms) st ≡ true) ⊎ (st .listed < st .listed)
-      go (inl d) = inl d
-      go (inr d) =
-          let one : 1 ≤ F .atoms = omega (arith, v .low, v .within d) in
-          absurd (omega (arith, v .within d, mul-le-mul-left (F .atoms) one))
-  moving (suc k) st v h = go (decided (isDone (F .atoms) st)) (moving k)
-    where
-      cases :
-          st .next ≤ F .atoms → (m o : Bool) → F .member (tried st) ≡ m → isOpen F (tried st) ≡ o →
-          ((s : State) → Valid F s → Enough F k s → Onward F k s) →
-          (isDone (F .atoms) (steps F k (act (F .atoms) m o st)) ≡ true) ⊎
-          (st .listed < steps F k (act (F .atoms) m o st) .listed)
-      cases c≤n true o e f ih = inr (more-listed k st (act (F .atoms) true o st) (omega arith))
-      cases c≤n false true e f ih =
-          let one : 1 ≤ F .atoms = omega (arith, v .low, c≤n) in
-          inr (rw (unwound-still (F .atoms) (st .next ∷ st .stack) 1 one)
-          (aimed k (placed (st .next ∷ st .stack, 1) (suc (st .trials)) (suc (st .extensions)) (st .listed))
-          (record { open-stack = f; low = omega arith; within = λ d. one })
-          (aim-open (st .stack) (st .next) f)
-          (omega (arith, c≤n, mul-suc (F .atoms) (length (st .stack))))))
-      cases c≤n false false e f ih =
-          ih (placed (unwound (F .atoms) (st .stack) (suc (st .next))) (suc (st .trials)) (st .extensions) (st .listed))
-          (unwound-valid F L (st .stack) (suc (st .next)) (suc (st .trials)) (st .extensions) (st .listed)
-          (v .open-stack) (omega arith) (omega (arith, c≤n)))
-          (unwound-slack (F .atoms) (F .atoms * F .atoms) k (st .stack) (suc (st .next)) (omega arith))
-
       go :
-          Decided (isDone (F .atoms) st) → ((s : State) → Valid F s → Enough F k s → Onward F k s) → Onward F (suc k) st
-      go (inl d) ih = inl (rw (steps-done F (suc k) st d) d)
-      go (inr d) ih =
-          rw (steps-trial F k st d) (cases (v .within d) (F .member (tried st)) (isOpen F (tried st)) refl refl ih)
+          st .next ≤ n → (m o : Bool) → member (tried st) ≡ m → isOpen F (tried st) ≡ o →
+          ((s : State) → Valid F s → Enough F k s → Onward F k s) →
+          (isDone n (steps F k (act n m o st)) ≡ true) ⊎ (st .listed < steps F k (act n m o st) .listed)
+      go c≤n true o e f ih = inr (more-listed k st (act n true o st) (omega arith))
+      go c≤n false true e f ih =
+          let one : 1 ≤ n = omega (arith, v .low, c≤n) in
+          let near : Near F k (entered st) = omega (arith, c≤n, mul-suc n (length (st .stack))) in
+          inr (rw (unwound-still n (st .next ∷ st .stack) 1 one)
+          (aimed k (entered st) (entered-valid st one f) (aim-open (st .stack) (st .next) f) near))
+      go c≤n false false e f ih =
+          let next = suc (st .next) in
+          let low : 1 ≤ next = omega arith in
+          let high : next ≤ suc n = omega arith in
+          ih (placed (unwound n (st .stack) next) (suc (st .trials)) (st .extensions) (st .listed))
+          (unwound-valid F L (st .stack) next (suc (st .trials)) (st .extensions) (st .listed) (v .open-stack) low high)
+          (unwound-slack n (n * n) k (st .stack) next (omega arith))
 
   pub progresses :
-      (k : ℕ) (st : State) → Valid F st → 2 * F .atoms * F .atoms ≤ k → (isDone (F .atoms) (steps F k st) ≡ true) ⊎
-      (st .listed < steps F k st .listed)
+      (k : ℕ) (st : State) → Valid F st → 2 * n * n ≤ k →
+      (isDone n (steps F k st) ≡ true) ⊎ (st .listed < steps F k st .listed)
   progresses k st v h =
-      let stack-le : length (st .stack) ≤ F .atoms = omega (arith, stack-most F L (st .stack) (v .open-stack)) in
-      moving k st v
-      (omega (
-        arith,
-        v .low,
-        mul-assoc 2 (F .atoms) (F .atoms),
-        slack-most (F .atoms) (st .stack),
-        mul-le-mul-left (F .atoms) stack-le,
-      ))
+      let short : length (st .stack) ≤ n = omega (arith, stack-most F L (st .stack) (v .open-stack)) in
+      let slack-le = slack-most n (st .stack) in
+      moving k st v (omega (arith, v .low, mul-assoc 2 n n, mul-le-mul-left n short))

@@ -27,20 +27,23 @@ unfolding records
 records-append [] ys = refl
 records-append (x ∷ xs) ys = rw (records-append xs ys) (sym (append-assoc (recordOf x) (records xs) (records ys)))
 
+-- ---- one trial and the run after it
+
 module _ (F : Family) where
-  lists-newly : (st : State) → isDone (F .atoms) st ≡ false → lists F st ≡ records (newly F st)
+  open Family F using (atoms as n, member)
+
+  lists-newly : (st : State) → isDone n st ≡ false → lists F st ≡ records (newly F st)
   unfolding lists newly records recordIf recordOf
-  lists-newly st d = rw d (go (F .member (tried st)))
+  lists-newly st d = rw d (go (member (tried st)))
     where
       go : (b : Bool) → recordIf b (tried st) ≡ records (cond b (tried st ∷ []) [])
       go true = sym (append-nil (recordOf (tried st)))
       go false = refl
 
   emitted-trial :
-      (k : ℕ) (st : State) → isDone (F .atoms) st ≡ false →
-      emitted F (suc k) st ≡ newly F st ++ emitted F k (trial F st)
+      (k : ℕ) (st : State) → isDone n st ≡ false → emitted F (suc k) st ≡ newly F st ++ emitted F k (trial F st)
   unfolding emitted
-  emitted-trial k st d = ap (λ (s : State). newly F st ++ emitted F k s) (moved-trial F st d)
+  emitted-trial k st d = rw (moved-trial F st d)
 
   none-made :
       (budget room : ℕ) (st : State) (s : Stop) → Why F budget room (stopped st s) s →
@@ -63,11 +66,12 @@ module _ (F : Family) where
       Why F budget (room - length bytes) o s → Why F (suc budget) room (after bytes o) s
   why-after budget room bytes o h Done w = w
   why-after budget room bytes o h Limit w = w
-  why-after budget room bytes o h Spent w = (w .0, w .1, ap suc (w .2))
-  why-after budget room bytes o h Full w = (w .0, w .1, omega arith, omega (arith, length-append bytes (o .bytes)))
+  why-after budget room bytes o h Spent (not-done, below-limit, all-made) = (not-done, below-limit, ap suc all-made)
+  why-after budget room bytes o h Full (not-done, below-limit, fewer, too-long) =
+      (not-done, below-limit, omega arith, omega (arith, length-append bytes (o .bytes)))
 
   one-made :
-      (budget room : ℕ) (st : State) (o : Outcome) → isDone (F .atoms) st ≡ false → length (lists F st) ≤ room →
+      (budget room : ℕ) (st : State) (o : Outcome) → isDone n st ≡ false → length (lists F st) ≤ room →
       RunFacts F budget (room - length (lists F st)) (trial F st) o →
       RunFacts F (suc budget) room st (after (lists F st) o)
   unfolding steps
@@ -91,34 +95,35 @@ module _ (F : Family) where
       state-is : o .state ≡ steps F (suc (o .made)) st
       state-is = r .stepped ∙ sym (steps-trial F (o .made) st d)
 
-      busy-at : (j : ℕ) → j < suc (o .made) → isDone (F .atoms) (steps F j st) ≡ false
+      busy-at : (j : ℕ) → j < suc (o .made) → isDone n (steps F j st) ≡ false
       busy-at zero l = d
       busy-at (suc j) l = rw (steps-trial F j st d) (r .busy j (omega arith))
 
   pub run-ran : (budget room : ℕ) (st : State) → RunFacts F budget room st (run F budget room st)
   unfolding run
-  run-ran zero room st = go (isDone (F .atoms) st) (atLimit st) refl refl
+  run-ran zero room st = go (isDone n st) (atLimit st) refl refl
     where
       go :
-          (d l : Bool) → isDone (F .atoms) st ≡ d → atLimit st ≡ l →
+          (d l : Bool) → isDone n st ≡ d → atLimit st ≡ l →
           RunFacts F zero room st (cond d (stopped st Done) (cond l (stopped st Limit) (stopped st Spent)))
       go true l e f = none-made zero room st Done e
       go false true e f = none-made zero room st Limit (e, f)
       go false false e f = none-made zero room st Spent (e, f, refl)
   run-ran (suc budget) room st =
-      go (isDone (F .atoms) st) (atLimit st) (ltb room (length (lists F st))) refl refl refl
-      (run F budget (room - length (lists F st)) (trial F st))
-      (run-ran budget (room - length (lists F st)) (trial F st))
+      let left = room - length (lists F st) in
+      go (isDone n st) (atLimit st) (ltb room (length (lists F st))) refl refl refl
+      (run F budget left (trial F st)) (run-ran budget left (trial F st))
     where
       go :
-          (d l b : Bool) → isDone (F .atoms) st ≡ d → atLimit st ≡ l → ltb room (length (lists F st)) ≡ b →
+          (d l b : Bool) → isDone n st ≡ d → atLimit st ≡ l → ltb room (length (lists F st)) ≡ b →
           (o : Outcome) → RunFacts F budget (room - length (lists F st)) (trial F st) o →
-          RunFacts F (suc budget) room st
-          (cond d (stopped st Done) (cond l (stopped st Limit) (cond b (stopped st Full) (after (lists F st) o))))
+          let going = cond b (stopped st Full) (after (lists F st) o) in
+          RunFacts F (suc budget) room st (cond d (stopped st Done) (cond l (stopped st Limit) going))
       go true l b e f g o ih = none-made (suc budget) room st Done e
       go false true b e f g o ih = none-made (suc budget) room st Limit (e, f)
       go false false true e f g o ih =
-          none-made (suc budget) room st Full (e, f, omega arith, omega (arith, ltb-true room (length (lists F st)) g))
+          let too-long : room < length (lists F st) = ltb-true room (length (lists F st)) g in
+          none-made (suc budget) room st Full (e, f, omega arith, omega arith)
       go false false false e f g o ih = one-made budget room st o e (ltb-false room (length (lists F st)) g) ih
 
   -- ---- the limit
@@ -129,73 +134,80 @@ module _ (F : Family) where
   trial-bounded : (st : State) → Bounded st → atLimit st ≡ false → Bounded (trial F st)
   unfolding trial act atLimit
   trial-bounded st b e =
-      go (or-neither (eqb (st .trials) limit || eqb (st .extensions) limit) (eqb (st .listed) limit) e)
+      let (t-or-x, l) = or-neither (eqb (st .trials) limit || eqb (st .extensions) limit) (eqb (st .listed) limit) e in
+      let (t, x) = or-neither (eqb (st .trials) limit) (eqb (st .extensions) limit) t-or-x in
+      let trials = below-limit (st .trials) (b .trials-most) t in
+      let extensions = below-limit (st .extensions) (b .extensions-most) x in
+      let listed = below-limit (st .listed) (b .listed-most) l in
+      go trials extensions listed (member (tried st)) (isOpen F (tried st))
     where
-      by :
-          suc (st .trials) ≤ limit → suc (st .extensions) ≤ limit → suc (st .listed) ≤ limit → (m o : Bool) →
-          Bounded (act (F .atoms) m o st)
-      by t x l true o = record { trials-most = t; extensions-most = b .extensions-most; listed-most = l }
-      by t x l false true = record { trials-most = t; extensions-most = x; listed-most = b .listed-most }
-      by t x l false false =
-          record { trials-most = t; extensions-most = b .extensions-most; listed-most = b .listed-most }
-
       go :
-          ((eqb (st .trials) limit || eqb (st .extensions) limit) ≡ false) × (eqb (st .listed) limit ≡ false) →
-          Bounded (act (F .atoms) (F .member (tried st)) (isOpen F (tried st)) st)
-      go r =
-          let q = or-neither (eqb (st .trials) limit) (eqb (st .extensions) limit) (r .0) in
-          by (below-limit (st .trials) (b .trials-most) (q .0))
-          (below-limit (st .extensions) (b .extensions-most) (q .1)) (below-limit (st .listed) (b .listed-most) (r .1))
-          (F .member (tried st)) (isOpen F (tried st))
+          suc (st .trials) ≤ limit → suc (st .extensions) ≤ limit → suc (st .listed) ≤ limit →
+          (m o : Bool) → Bounded (act n m o st)
+      go t x l true o = record { trials-most = t; extensions-most = b .extensions-most; listed-most = l }
+      go t x l false true = record { trials-most = t; extensions-most = x; listed-most = b .listed-most }
+      go t x l false false =
+          record { trials-most = t; extensions-most = b .extensions-most; listed-most = b .listed-most }
 
   -- a run takes no count past the limit
   pub run-bounded : (budget room : ℕ) (st : State) → Bounded st → Bounded (run F budget room st .state)
   unfolding run
-  run-bounded zero room st b = go (isDone (F .atoms) st) (atLimit st)
+  run-bounded zero room st b = go (isDone n st) (atLimit st)
     where
       go : (d l : Bool) → Bounded (cond d (stopped st Done) (cond l (stopped st Limit) (stopped st Spent)) .state)
       go true l = b
       go false true = b
       go false false = b
   run-bounded (suc budget) room st b =
-      go (isDone (F .atoms) st) (atLimit st) (ltb room (length (lists F st))) refl
-      (run F budget (room - length (lists F st)) (trial F st))
-      (λ (e : atLimit st ≡ false). run-bounded budget (room - length (lists F st)) (trial F st) (trial-bounded st b e))
+      let left = room - length (lists F st) in
+      go (isDone n st) (atLimit st) (ltb room (length (lists F st))) refl (run F budget left (trial F st))
+      (λ (e : atLimit st ≡ false). run-bounded budget left (trial F st) (trial-bounded st b e))
     where
       go :
           (d l f : Bool) → atLimit st ≡ l → (o : Outcome) → (atLimit st ≡ false → Bounded (o .state)) →
-          Bounded (cond d (stopped st Done)
-          (cond l (stopped st Limit) (cond f (stopped st Full) (after (lists F st) o))) .state)
+          let going = cond f (stopped st Full) (after (lists F st) o) in
+          Bounded (cond d (stopped st Done) (cond l (stopped st Limit) going) .state)
       go true l f e o ih = b
       go false true f e o ih = b
       go false false true e o ih = b
       go false false false e o ih = ih e
 
+-- ---- runs of a lawful family
+
+-- a run has listed a member, or stopped done or at the limit
+abbrev Progressed : Family → State → Outcome → Type 0
+Progressed F st o = (1 ≤ length (emitted F (o .made) st)) ⊎ ((o .stop ≡ Done) ⊎ (o .stop ≡ Limit))
+
 module _ (F : Family) (L : Lawful F) where
+  open Family F using (atoms as n, member)
+
   pub run-valid : (budget room : ℕ) (st : State) → Valid F st → Valid F (run F budget room st .state)
   run-valid budget room st v =
       rw (run-ran F budget room st .stepped) (valid-steps F L (run F budget room st .made) st v)
 
-  lists-short : (st : State) → length (lists F st) ≤ suc (F .atoms)
+  lists-short : (st : State) → length (lists F st) ≤ suc n
   unfolding lists recordIf recordOf
-  lists-short st = go (F .member (tried st)) refl
+  lists-short st = go (member (tried st)) refl
     where
-      go : (b : Bool) → F .member (tried st) ≡ b → length (recordIf b (tried st)) ≤ suc (F .atoms)
+      go : (b : Bool) → member (tried st) ≡ b → length (recordIf b (tried st)) ≤ suc n
       go true e = omega (arith, L .short (tried st) e)
       go false e = omega arith
 
   pub run-progress :
-      (budget room : ℕ) (st : State) → Valid F st → 2 * F .atoms * F .atoms ≤ budget → F .atoms + 1 ≤ room →
+      (budget room : ℕ) (st : State) → Valid F st → 2 * n * n ≤ budget → n + 1 ≤ room →
       (1 ≤ length (emitted F (run F budget room st .made) st)) ⊎
       ((run F budget room st .stop ≡ Done) ⊎ (run F budget room st .stop ≡ Limit))
   unfolding records
-  run-progress budget room st v h room-left = go (run F budget room st) (run-ran F budget room st)
+  run-progress budget room st v h room-left =
+      let o = run F budget room st in
+      let facts = run-ran F budget room st in
+      by-stop o facts (o .stop) refl (facts .why)
     where
-      spent :
-          (k : ℕ) → budget ≤ k → isDone (F .atoms) (steps F k st) ≡ false → (isDone (F .atoms) (steps F k st) ≡ true) ⊎
-          (st .listed < steps F k st .listed) → 1 ≤ length (emitted F k st)
-      spent k b d (inl e) = absurd (apart (sym e ∙ d))
-      spent k b d (inr l) = omega (arith, listed-steps F k st)
+      spent : (k : ℕ) → budget ≤ k → isDone n (steps F k st) ≡ false → 1 ≤ length (emitted F k st)
+      spent k b not-done = elim (progresses F L k st v (omega arith)) [
+        | inl done ↦ absurd (apart (sym done ∙ not-done))
+        | inr more ↦ omega (arith, listed-steps F k st)
+      ]
 
       full :
           (ws : List (List ℕ)) (bytes : List ℕ) (s : State) → bytes ≡ records ws →
@@ -205,14 +217,10 @@ module _ (F : Family) (L : Lawful F) where
 
       by-stop :
           (o : Outcome) → RunFacts F budget room st o → (s : Stop) → o .stop ≡ s → Why F budget room o s →
-          (1 ≤ length (emitted F (o .made) st)) ⊎ ((o .stop ≡ Done) ⊎ (o .stop ≡ Limit))
+          Progressed F st o
       by-stop o r Done e w = inr (inl e)
       by-stop o r Limit e w = inr (inr e)
-      by-stop o r Spent e w =
-          inl (spent (o .made) (omega arith) (rw (r .stepped) at (w .0)) (progresses F L (o .made) st v (omega arith)))
-      by-stop o r Full e w = inl (full (emitted F (o .made) st) (o .bytes) (o .state) (r .wrote) (w .3))
-
-      go :
-          (o : Outcome) → RunFacts F budget room st o → (1 ≤ length (emitted F (o .made) st)) ⊎
-          ((o .stop ≡ Done) ⊎ (o .stop ≡ Limit))
-      go o r = by-stop o r (o .stop) refl (r .why)
+      by-stop o r Spent e (not-done, below-limit, all-made) =
+          inl (spent (o .made) (omega arith) (rw (r .stepped) at not-done))
+      by-stop o r Full e (not-done, below-limit, fewer, too-long) =
+          inl (full (emitted F (o .made) st) (o .bytes) (o .state) (r .wrote) too-long)

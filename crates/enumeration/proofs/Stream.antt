@@ -1,17 +1,17 @@
--- The words that a search tries from a place on, in order, where a gate
--- says below which words it goes; and the same with every gate open.
--- A test that passes only words above which each gate is open
--- keeps the same of both: below a shut gate it keeps nothing.
+-- The words that a search tries from a place on, where a gate says below which words it goes; and with every gate open.
+-- A test that only words below open gates pass keeps the same of both: below a shut gate it keeps nothing.
 use Prim.Native.Nat.{ℕ, zero, suc, _-_, _≤_, _<_}
 use native.Mathlib.Omega.{arith}
-use mathlib.Core.Path.{_≡_, refl, sym, ap, _∙_}
+use mathlib.Core.Path.{_≡_, refl, sym, _∙_}
 use mathlib.Core.Logic.{_⊎_, inl, inr}
 use mathlib.Core.Bool.{Bool, true, false, cond}
-use mathlib.Core.List.{List, [], _∷_, _++_, map, map-map, reverse, reverseAux, append-assoc, List·Memᴰ, List·Memᴰ·not-nil, List·Memᴰ·cases-cons}
+use mathlib.Core.List.{List, [], _∷_, _++_, map, map-map, reverse, reverseAux, append-assoc, List·Memᴰ, List·Memᴰ·not-nil, List·Memᴰ·cases-cons, List·Memᴰ·eq-of-singleton}
 use lib.ListN.{length}
 use borrow.Author.Tests.{eq-eqb}
 use Rattle.enumeration.specs.Words.{begins, from, joined, words, keep}
 use Rattle.enumeration.proofs.Basics.{starting, apart, not-true-false, keep-append, keep-none, joined-cong, map-joined, keep-joined, joined-mem}
+
+-- ---- the stream
 
 -- the numbers from c to n
 unfoldable pub upto : ℕ → ℕ → List ℕ
@@ -50,6 +50,8 @@ later G n (a ∷ p) = level G n p (suc a) ++ later G n p
 unfoldable pub rest : (List ℕ → Bool) → ℕ → List ℕ → ℕ → List (List ℕ)
 rest G n p c = level G n p c ++ later G n p
 
+-- ---- how the stream begins
+
 pub upto-cons : (n c : ℕ) → c ≤ n → upto n c ≡ c ∷ upto n (suc c)
 unfolding upto from
 upto-cons n c h =
@@ -68,23 +70,21 @@ upto-one n =
     let e : suc n - 1 ≡ n = omega arith in
     rw e
 
--- ---- how the stream begins
-
 pub level-cons :
-    (G : List ℕ → Bool) (n : ℕ) (p : List ℕ) (c : ℕ) → c ≤ n → level G n p c ≡ turn G n p c ++ level G n p (suc c)
+    (G : List ℕ → Bool) (n : ℕ) (p : List ℕ) (c : ℕ) → c ≤ n →
+    level G n p c ≡ turn G n p c ++ level G n p (suc c)
 unfolding level joined
-level-cons G n p c h = ap (joined (turn G n p)) (upto-cons n c h)
+level-cons G n p c h = rw (upto-cons n c h)
 
 pub level-end : (G : List ℕ → Bool) (n : ℕ) (p : List ℕ) → level G n p (suc n) ≡ []
 unfolding level joined
-level-end G n p = ap (joined (turn G n p)) (upto-end n)
+level-end G n p = rw (upto-end n)
 
 -- one more level of a branch
 pub branch-level :
     (G : List ℕ → Bool) (n k : ℕ) (p : List ℕ) → n - suc (length p) ≡ k → branch G n (suc k) p ≡ level G n p 1
 unfolding branch level turn
-branch-level G n k p e =
-    rw (upto-one n) (joined-cong (twig G n k p) (turn G n p) (from 1 n) (λ a. ap (λ (j : ℕ). twig G n j p a) (sym e)))
+branch-level G n k p e = rw (upto-one n, ← e)
 
 pub branch-root : (G : List ℕ → Bool) (n : ℕ) → branch G n n [] ≡ level G n [] 1
 unfolding branch level upto from joined
@@ -108,14 +108,11 @@ pub rest-open :
     rest G n p c ≡ reverse (c ∷ p) ∷ rest G n (c ∷ p) 1
 unfolding rest later turn
 rest-open G n p c h l g =
-    let d : n - suc (length p) ≡ suc (n - suc (suc (length p))) = omega arith in
-    rw (
-      level-cons G n p c h,
-      g,
-      d,
-      branch-level G n (n - suc (suc (length p))) (c ∷ p) refl,
-      append-assoc (level G n (c ∷ p) 1) (level G n p (suc c)) (later G n p),
-    )
+    let deeper = n - suc (suc (length p)) in
+    let d : n - suc (length p) ≡ suc deeper = omega arith in
+    let below = level G n (c ∷ p) 1 in
+    rw (level-cons G n p c h, g, d, branch-level G n deeper (c ∷ p) refl)
+    (rw (append-assoc below (level G n p (suc c)) (later G n p)))
 
 -- ---- what is in it
 
@@ -126,54 +123,35 @@ Beyond p w = (b : ℕ) × (v : List ℕ) × (w ≡ reverseAux p (b ∷ v))
 under-mem :
     (gate : Bool) (u : List ℕ) (ws : List (List ℕ)) {w : List ℕ} → List·Memᴰ w (under gate u ws) →
     (w ≡ u) ⊎ List·Memᴰ w ws
-under-mem gate u ws {w} m = go gate (List·Memᴰ·cases-cons m)
-  where
-    go : (b : Bool) → (w ≡ u) ⊎ List·Memᴰ w (cond b ws []) → (w ≡ u) ⊎ List·Memᴰ w ws
-    go b (inl e) = inl e
-    go true (inr q) = inr q
-    go false (inr q) = absurd (List·Memᴰ·not-nil q)
+under-mem true u ws m = List·Memᴰ·cases-cons m
+under-mem false u ws m = inl (List·Memᴰ·eq-of-singleton m)
 
 -- one turn at an atom: the words that begin with p and it
-turned :
-    (p : List ℕ) (a : ℕ) (w : List ℕ) → (w ≡ reverse (a ∷ p)) ⊎ Beyond (a ∷ p) w →
-    (v : List ℕ) × (w ≡ reverseAux p (a ∷ v))
-turned p a w (inl e) = ([], e)
-turned p a w (inr r) = (r .0 ∷ r .1, r .2)
+twig-mem :
+    (G : List ℕ → Bool) (n k : ℕ) (p : List ℕ) (a : ℕ) {w : List ℕ} →
+    (List·Memᴰ w (branch G n k (a ∷ p)) → Beyond (a ∷ p) w) →
+    List·Memᴰ w (twig G n k p a) → (v : List ℕ) × (w ≡ reverseAux p (a ∷ v))
+twig-mem G n k p a below m =
+    elim (under-mem (G (reverse (a ∷ p))) (reverse (a ∷ p)) (branch G n k (a ∷ p)) m) [
+      | inl itself ↦ ([], itself)
+      | inr q ↦ let (b, v, shape) = below q in (b ∷ v, shape)
+    ]
 
 pub branch-mem : (G : List ℕ → Bool) (n k : ℕ) (p : List ℕ) {w : List ℕ} → List·Memᴰ w (branch G n k p) → Beyond p w
 unfolding branch
 branch-mem G n zero p m = absurd (List·Memᴰ·not-nil m)
-branch-mem G n (suc k) p {w} m =
-    go (λ (a : ℕ) (m′ : List·Memᴰ w (branch G n k (a ∷ p))). branch-mem G n k (a ∷ p) m′)
-    (joined-mem (twig G n k p) (from 1 n) m)
-  where
-    side :
-        (a : ℕ) → (List·Memᴰ w (branch G n k (a ∷ p)) → Beyond (a ∷ p) w) →
-        (w ≡ reverse (a ∷ p)) ⊎ List·Memᴰ w (branch G n k (a ∷ p)) → (w ≡ reverse (a ∷ p)) ⊎ Beyond (a ∷ p) w
-    side a ih (inl e) = inl e
-    side a ih (inr q) = inr (ih q)
-
-    go :
-        ((a : ℕ) → List·Memᴰ w (branch G n k (a ∷ p)) → Beyond (a ∷ p) w) → (a : ℕ) × List·Memᴰ a (from 1 n) ×
-        List·Memᴰ w (twig G n k p a) → Beyond p w
-    go ih r =
-        let s = turned p (r .0) w
-        (side (r .0) (ih (r .0))
-        (under-mem (G (reverse (r .0 ∷ p))) (reverse (r .0 ∷ p)) (branch G n k (r .0 ∷ p)) (r .2))) in
-        (r .0, s .0, s .1)
+branch-mem G n (suc k) p m =
+    let (a, of-atoms, of-twig) = joined-mem (twig G n k p) (from 1 n) m in
+    let (v, shape) = twig-mem G n k p a (branch-mem G n k (a ∷ p)) of-twig in
+    (a, v, shape)
 
 pub turn-mem :
     (G : List ℕ → Bool) (n : ℕ) (p : List ℕ) (a : ℕ) {w : List ℕ} → List·Memᴰ w (turn G n p a) →
     (v : List ℕ) × (w ≡ reverseAux p (a ∷ v))
 unfolding turn
-turn-mem G n p a {w} m =
-    turned p a w (side (under-mem (G (reverse (a ∷ p))) (reverse (a ∷ p)) (branch G n (n - suc (length p)) (a ∷ p)) m))
-  where
-    side :
-        (w ≡ reverse (a ∷ p)) ⊎ List·Memᴰ w (branch G n (n - suc (length p)) (a ∷ p)) →
-        (w ≡ reverse (a ∷ p)) ⊎ Beyond (a ∷ p) w
-    side (inl e) = inl e
-    side (inr q) = inr (branch-mem G n (n - suc (length p)) (a ∷ p) q)
+turn-mem G n p a m =
+    let k = n - suc (length p) in
+    twig-mem G n k p a (branch-mem G n k (a ∷ p)) m
 
 -- the same beginning does not matter to whether one begins the other
 pub begins-on : (p v w : List ℕ) → begins (reverseAux p v) (reverseAux p w) ≡ begins v w
@@ -183,7 +161,7 @@ begins-on (a ∷ p) v w = begins-on p (a ∷ v) (a ∷ w) ∙ rw (eq-eqb a a ref
 
 pub beyond-begins : (p w : List ℕ) → Beyond p w → begins (reverse p) w ≡ true
 unfolding begins
-beyond-begins p w r = rw (r .2) (begins-on p [] (r .0 ∷ r .1))
+beyond-begins p w (b, v, shape) = rw shape (begins-on p [] (b ∷ v))
 
 -- ---- shut gates
 
@@ -196,7 +174,9 @@ module _ (G t : List ℕ → Bool) (shown : (q w : List ℕ) → t w ≡ true �
   keep-under p xs ys e below = go (G (reverse p)) refl
     where
       missed : G (reverse p) ≡ false → (w : List ℕ) → List·Memᴰ w ys → t w ≡ false
-      missed g w m = not-true-false (t w) (λ q. apart (sym (shown (reverse p) w q (beyond-begins p w (below w m))) ∙ g))
+      missed g w m =
+          let beginning : begins (reverse p) w ≡ true = beyond-begins p w (below w m) in
+          not-true-false (t w) (λ passes. apart (sym (shown (reverse p) w passes beginning) ∙ g))
 
       go : (b : Bool) → G (reverse p) ≡ b → keep t (under b (reverse p) xs) ≡ keep t (under true (reverse p) ys)
       go true g = rw e
@@ -217,37 +197,39 @@ module _ (G t : List ℕ → Bool) (shown : (q w : List ℕ) → t w ≡ true �
   pub keep-level : (n : ℕ) (p : List ℕ) (c : ℕ) → keep t (level G n p c) ≡ keep t (level always n p c)
   unfolding level turn
   keep-level n p c =
-      keep-joined t (turn G n p) (turn always n p) (upto n c)
-      (λ a. keep-twig n (n - suc (length p)) p a (keep-branch n (n - suc (length p)) (a ∷ p)))
+      let k = n - suc (length p) in
+      keep-joined t (turn G n p) (turn always n p) (upto n c) (λ a. keep-twig n k p a (keep-branch n k (a ∷ p)))
 
   keep-later : (n : ℕ) (p : List ℕ) → keep t (later G n p) ≡ keep t (later always n p)
   unfolding later
   keep-later n [] = refl
-  keep-later n (a ∷ p) =
-      keep-append t (level G n p (suc a)) (later G n p) ∙ cc (keep-level n p (suc a), keep-later n p) ∙
-      sym (keep-append t (level always n p (suc a)) (later always n p))
+  keep-later n (a ∷ p) = simp (keep-append, keep-level n p (suc a), keep-later n p)
 
   pub keep-rest : (n : ℕ) (p : List ℕ) (c : ℕ) → keep t (rest G n p c) ≡ keep t (rest always n p c)
   unfolding rest
-  keep-rest n p c =
-      keep-append t (level G n p c) (later G n p) ∙ cc (keep-level n p c, keep-later n p) ∙
-      sym (keep-append t (level always n p c) (later always n p))
+  keep-rest n p c = simp (keep-append, keep-level n p c, keep-later n p)
 
 -- ---- every word
+
+-- the words that start with a, each after p
+starting-twig :
+    (n k : ℕ) (p : List ℕ) (a : ℕ) →
+    map (reverseAux (a ∷ p)) (words n k) ≡ reverse (a ∷ p) ∷ branch always n k (a ∷ p) →
+    map (reverseAux p) (starting n k a) ≡ twig always n k p a
+starting-twig n k p a below = map-map (reverseAux p) (λ (w : List ℕ). a ∷ w) (words n k) ∙ below
 
 -- with every gate open it is every word below p
 pub words-branch : (n k : ℕ) (p : List ℕ) → map (reverseAux p) (words n k) ≡ reverse p ∷ branch always n k p
 unfolding words branch
 words-branch n zero p = refl
-words-branch n (suc k) p = ap (λ (r : List (List ℕ)). reverse p ∷ r)
-    (map-joined (reverseAux p) (starting n k) (from 1 n)
-    ∙ joined-cong (λ (a : ℕ). map (reverseAux p) (starting n k a)) (twig always n k p) (from 1 n)
-    (λ a. map-map (reverseAux p) (λ (w : List ℕ). a ∷ w) (words n k) ∙ words-branch n k (a ∷ p)))
+words-branch n (suc k) p =
+    rw (map-joined (reverseAux p) (starting n k) (from 1 n))
+    (rw (joined-cong (λ (a : ℕ). map (reverseAux p) (starting n k a)) (twig always n k p) (from 1 n)
+    (λ a. starting-twig n k p a (words-branch n k (a ∷ p)))))
 
 pub words-root : (n : ℕ) → words n n ≡ [] ∷ level always n [] 1
-words-root n =
-    sym (map-same (words n n)) ∙ words-branch n n [] ∙ ap (λ (r : List (List ℕ)). [] ∷ r) (branch-root always n)
+words-root n = sym (map-same (words n n)) ∙ words-branch n n [] ∙ rw (branch-root always n)
   where
     map-same : (ws : List (List ℕ)) → map (reverseAux []) ws ≡ ws
     map-same [] = refl
-    map-same (w ∷ ws) = ap (λ (r : List (List ℕ)). w ∷ r) (map-same ws)
+    map-same (w ∷ ws) = rw (map-same ws)

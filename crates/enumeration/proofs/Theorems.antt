@@ -1,6 +1,5 @@
--- What is proved of every search: the order of the list, many trials,
--- runs, valid searches, marks, a search from its start, progress.
--- Each statement is for any family F; where `L` is an argument it is `Lawful F`. The ideas are in the other files.
+-- What is proved of every search: the order of the list, many trials, runs, valid searches, marks, a search from its
+-- start, progress. For any family F; where `L` is an argument it is `Lawful F`. The ideas are in the other files.
 use Prim.Native.Nat.{ℕ, suc, _+_, _-_, _*_, _≤_, _<_}
 use native.Mathlib.Omega.{arith}
 use mathlib.Core.Path.{_≡_, sym, ap, _∙_, subst}
@@ -17,7 +16,7 @@ use Rattle.enumeration.specs.Lawful.{Lawful}
 use Rattle.enumeration.specs.Listing.{Ascending, NoRepeats, goesOn, past, follows, opens, openWords}
 use Rattle.enumeration.specs.Trials.{Valid, steps, emitted, attempts, sum, following}
 use Rattle.enumeration.specs.RunFacts.{Bounded, Why, RunFacts}
-use Rattle.enumeration.proofs.Basics.{Decided, decided}
+use Rattle.enumeration.proofs.Basics.{decided}
 use Rattle.enumeration.proofs.Order.{irreflexive, transitive, total, ascending-once}
 use Rattle.enumeration.proofs.Open.{stack-most, stack-range, members-ascending, members-sound, members-complete, members-stream, opens-stream, openWords-once, openWords-sound, openWords-complete}
 use Rattle.enumeration.proofs.Trial.{ahead, done-place, trial-tried}
@@ -43,8 +42,9 @@ order-total = total
 
 -- `goesOn p c w` says that w begins with p and goes on with an atom that is at least c
 pub goesOn-exactly :
-    (p : List ℕ) (c : ℕ) (w : List ℕ) → (goesOn p c w ≡ true) ↔ ((b : ℕ) × (v : List ℕ) × (w ≡ p ++ b ∷ v) × (c ≤ b))
-goesOn-exactly p c w = (goesOn-means p c w, λ r. ap (goesOn p c) (r .2) ∙ means-goesOn p c (r .0) (r .1) (r .3))
+    (p : List ℕ) (c : ℕ) (w : List ℕ) →
+    (goesOn p c w ≡ true) ↔ ((b : ℕ) × (v : List ℕ) × (w ≡ p ++ b ∷ v) × (c ≤ b))
+goesOn-exactly p c w = (goesOn-means p c w, λ (b, v, shape, high). rw shape (means-goesOn p c b v high))
 
 -- `past p w` says that w is later than every list that begins with p
 pub past-exactly : (p w : List ℕ) → (past p w ≡ true) ↔ ((v : List ℕ) → earlier (p ++ v) w ≡ true)
@@ -89,18 +89,15 @@ module _ (F : Family) where
   pub trials-all :
       (k j : ℕ) (st : State) → k ≤ suc j → isDone (F .atoms) (steps F j st) ≡ false →
       steps F k st .trials ≡ st .trials + k
-  trials-all k j st h d = trials-steps F k st ∙ ap (λ (m : ℕ). st .trials + m) (attempts-all F k j st h d)
+  trials-all k j st h d = trials-steps F k st ∙ rw (attempts-all F k j st h d)
 
   -- All k are made or the search is done
   pub trials-or-done :
       (k : ℕ) (st : State) → (steps F k st .trials ≡ st .trials + k) ⊎ (isDone (F .atoms) (steps F k st) ≡ true)
-  trials-or-done k st = go (decided (isDone (F .atoms) (steps F k st)))
-    where
-      go :
-          Decided (isDone (F .atoms) (steps F k st)) → (steps F k st .trials ≡ st .trials + k) ⊎
-          (isDone (F .atoms) (steps F k st) ≡ true)
-      go (inl d) = inr d
-      go (inr d) = inl (trials-all k k st (omega arith) d)
+  trials-or-done k st = elim (decided (isDone (F .atoms) (steps F k st))) [
+    | inl done ↦ inr done
+    | inr not-done ↦ inl (trials-all k k st (omega arith) not-done)
+  ]
 
   -- From the start, k trials count k if the search is not done before the last of them
   pub fresh-trials-all :
@@ -140,14 +137,15 @@ module _ (F : Family) (budget room : ℕ) (st : State) where
 
   -- It stops spent: it made its budget of trials, and neither of those holds
   pub run-spent :
-      outcome .stop ≡ Spent → (isDone (F .atoms) (outcome .state) ≡ false) × (atLimit (outcome .state) ≡ false) ×
-      (outcome .made ≡ budget)
+      outcome .stop ≡ Spent →
+      (isDone (F .atoms) (outcome .state) ≡ false) × (atLimit (outcome .state) ≡ false) × (outcome .made ≡ budget)
   run-spent e = subst (Why F budget room outcome) e (run-outcome .why)
 
   -- It stops full: the next trial would list a record longer than the room left, and none of those holds
   pub run-full :
       outcome .stop ≡ Full →
-      (isDone (F .atoms) (outcome .state) ≡ false) × (atLimit (outcome .state) ≡ false) × (outcome .made < budget) ×
+      (isDone (F .atoms) (outcome .state) ≡ false) × (atLimit (outcome .state) ≡ false) ×
+      (outcome .made < budget) ×
       (room < length (outcome .bytes) + length (lists F (outcome .state)))
   run-full e = subst (Why F budget room outcome) e (run-outcome .why)
 
@@ -180,17 +178,16 @@ module _ (F : Family) (L : Lawful F) where
 
   -- Its atoms are from 1 to n
   pub valid-range :
-      (st : State) → Valid F st → (i : ℕ) → i < length (st .stack) → (1 ≤ getD (st .stack) i 0) ×
-      (getD (st .stack) i 0 ≤ F .atoms)
+      (st : State) → Valid F st → (i : ℕ) → i < length (st .stack) →
+      (1 ≤ getD (st .stack) i 0) × (getD (st .stack) i 0 ≤ F .atoms)
   valid-range st v = stack-range F L (st .stack) (v .open-stack)
 
   -- Its next atom is at most n + 1
   pub valid-next : (st : State) → Valid F st → st .next ≤ suc (F .atoms)
-  valid-next st v = go (decided (isDone (F .atoms) st))
-    where
-      go : Decided (isDone (F .atoms) st) → st .next ≤ suc (F .atoms)
-      go (inl d) = omega (arith, done-place (F .atoms) st d .1)
-      go (inr d) = omega (arith, v .within d)
+  valid-next st v = elim (decided (isDone (F .atoms) st)) [
+    | inl done ↦ let (no-stack, at-end) = done-place (F .atoms) st done in omega arith
+    | inr not-done ↦ omega (arith, v .within not-done)
+  ]
 
   -- Extensions rise by the open words tried
   pub extensions-rise :
@@ -199,6 +196,10 @@ module _ (F : Family) (L : Lawful F) where
 
   -- ---- marks: what is listed from a valid search on, whatever its counts
 
+  -- the front of a list is its first words, as many as it has
+  taken : {all : List (List ℕ)} (front more : List (List ℕ)) → all ≡ front ++ more → front ≡ take (length front) all
+  taken front more e = rw e (sym (take-append-seam front more))
+
   ahead-members : (st : State) → Valid F st → keep (F .member) (ahead F st) ≡ following F st
   ahead-members st v = members-follow F L (st .stack) (st .next) (v .open-stack) (v .low) (valid-next st v)
 
@@ -206,32 +207,30 @@ module _ (F : Family) (L : Lawful F) where
   pub mark-listing :
       (k : ℕ) (st : State) → Valid F st → emitted F k st ≡ take (length (emitted F k st)) (following F st)
   mark-listing k st v =
-      let e : following F st ≡ emitted F k st ++ keep (F .member) (ahead F (steps F k st)) =
-      sym (ahead-members st v) ∙ emitted-front F L k st v in
-      sym (ap (take (length (emitted F k st))) e ∙
-      take-append-seam (emitted F k st) (keep (F .member) (ahead F (steps F k st))))
+      taken (emitted F k st) (keep (F .member) (ahead F (steps F k st)))
+      (sym (ahead-members st v) ∙ emitted-front F L k st v)
 
   -- Once done, exactly the members that follow its place
   pub mark-complete :
       (k : ℕ) (st : State) → Valid F st → isDone (F .atoms) (steps F k st) ≡ true → emitted F k st ≡ following F st
-  mark-complete k st v d = emitted-keep F k st ∙ ap (keep (F .member)) (done-stream F L k st v d) ∙ ahead-members st v
+  mark-complete k st v d = emitted-keep F k st ∙ rw (done-stream F L k st v d) (ahead-members st v)
 
   -- Listed has then risen by their number
   pub mark-listed :
       (k : ℕ) (st : State) → Valid F st → isDone (F .atoms) (steps F k st) ≡ true →
       steps F k st .listed ≡ st .listed + length (following F st)
-  mark-listed k st v d =
-      listed-steps F k st ∙ ap (λ (l : List (List ℕ)). st .listed + length l) (mark-complete k st v d)
+  mark-listed k st v d = listed-steps F k st ∙ rw (mark-complete k st v d)
 
   -- Extensions by the number of open words that follow
   pub mark-extensions :
       (k : ℕ) (st : State) → Valid F st → isDone (F .atoms) (steps F k st) ≡ true →
       steps F k st .extensions ≡ st .extensions + length (keep (follows (reverse (st .stack)) (st .next)) (openWords F))
   mark-extensions k st v d =
-      extensions-steps F L k st
-      ∙ ap (λ (l : List (List ℕ)). st .extensions + length l)
-      (ap (keep (opens F)) (done-stream F L k st v d) ∙
-      opens-follow F L (st .stack) (st .next) (v .open-stack) (v .low) (valid-next st v))
+      extensions-steps F L k st ∙
+      rw (
+        done-stream F L k st v d,
+        opens-follow F L (st .stack) (st .next) (v .open-stack) (v .low) (valid-next st v),
+      )
 
   -- Trials with the extensions: by n for each, and by what was left to try at its beginning
   pub mark-trials :
@@ -257,16 +256,13 @@ module _ (F : Family) (L : Lawful F) where
   -- What k trials list are the first members of the list, as many as `listed` says
   pub fresh-listing : (k : ℕ) → emitted F k fresh ≡ take (steps F k fresh .listed) (members F)
   fresh-listing k =
-      let e : members F ≡ emitted F k fresh ++ keep (F .member) (ahead F (steps F k fresh)) =
-      sym ahead-fresh ∙ emitted-front F L k fresh (valid-fresh F L) in
       rw (fresh-listed k)
-      (sym (ap (take (length (emitted F k fresh))) e ∙
-      take-append-seam (emitted F k fresh) (keep (F .member) (ahead F (steps F k fresh)))))
+      (taken (emitted F k fresh) (keep (F .member) (ahead F (steps F k fresh)))
+      (sym ahead-fresh ∙ emitted-front F L k fresh (valid-fresh F L)))
 
   -- Once done, all of them
   pub fresh-complete : (k : ℕ) → isDone (F .atoms) (steps F k fresh) ≡ true → emitted F k fresh ≡ members F
-  fresh-complete k d =
-      emitted-keep F k fresh ∙ ap (keep (F .member)) (done-stream F L k fresh (valid-fresh F L) d) ∙ ahead-fresh
+  fresh-complete k d = emitted-keep F k fresh ∙ rw (done-stream F L k fresh (valid-fresh F L) d) ahead-fresh
 
   -- Some number of trials ends it
   pub fresh-ends : (k : ℕ) × (isDone (F .atoms) (steps F k fresh) ≡ true)
@@ -287,8 +283,8 @@ module _ (F : Family) (L : Lawful F) where
       (k : ℕ) → isDone (F .atoms) (steps F k fresh) ≡ true → steps F k fresh .extensions ≡ length (openWords F)
   unfolding fresh
   done-extensions k d =
-      let e : keep (opens F) (attempts F k fresh) ≡ openWords F =
-      ap (keep (opens F)) (done-stream F L k fresh (valid-fresh F L) d) ∙ opens-stream F L in
+      let all-tried : attempts F k fresh ≡ ahead F fresh = done-stream F L k fresh (valid-fresh F L) d in
+      let e : keep (opens F) (attempts F k fresh) ≡ openWords F = rw all-tried (opens-stream F L) in
       omega (arith, extensions-steps F L k fresh, ap length e)
 
   -- At most n − 1 of them for each member
@@ -305,13 +301,15 @@ module _ (F : Family) (L : Lawful F) where
   pub open-exactly :
       (q : List ℕ) →
       List·Memᴰ q (openWords F) ↔ ((isEmpty q ≡ false) × (m : List ℕ) × (F .member m ≡ true) × (begins q m ≡ true))
-  open-exactly q = (openWords-sound F q, λ r. openWords-complete F L q (r .1) (r .0) (r .2) (r .3))
+  open-exactly q =
+      (openWords-sound F q, λ (not-empty, m, is-member, begun). openWords-complete F L q m not-empty is-member begun)
 
   -- ---- progress
 
   -- Within 2 × n × n trials a valid search lists a member or is done
   pub progress :
-      (st : State) → Valid F st → (isDone (F .atoms) (steps F (2 * F .atoms * F .atoms) st) ≡ true) ⊎
+      (st : State) → Valid F st →
+      (isDone (F .atoms) (steps F (2 * F .atoms * F .atoms) st) ≡ true) ⊎
       (st .listed < steps F (2 * F .atoms * F .atoms) st .listed)
   progress st v = progresses F L (2 * F .atoms * F .atoms) st v (omega arith)
 

@@ -11,6 +11,8 @@ pub record Lawful (F : Family) : Type 0 where
   pub nonEmpty : (w : List ℕ) → F .member w ≡ true → 1 ≤ length w
   pub short : (w : List ℕ) → F .member w ≡ true → length w ≤ F .atoms
   -- each of them from 1 to n
-  pub inRange : (w : List ℕ) → F .member w ≡ true → (i : ℕ) → i < length w → (1 ≤ getD w i 0) × (getD w i 0 ≤ F .atoms)
+  pub inRange :
+      (w : List ℕ) → F .member w ≡ true → (i : ℕ) → i < length w →
+      (1 ≤ getD w i 0) × (getD w i 0 ≤ F .atoms)
   -- no member is a proper beginning of another
   pub prefixFree : (v w : List ℕ) → F .member v ≡ true → F .member w ≡ true → begins v w ≡ true → ⊥

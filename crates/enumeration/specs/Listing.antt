@@ -1,5 +1,5 @@
--- What is said of lists of words: their order, the members that
--- follow a place (document 01, "Marks"), the beginnings of members.
+-- What is said of lists of words: their order, the members that follow a place (document 01, "Marks"),
+-- the beginnings of members.
 use Prim.Native.Nat.{ℕ}
 use mathlib.Core.Path.{_≡_}
 use mathlib.Core.Bool.{Bool, true, false, _||_, _&&_, not}
@@ -25,8 +25,8 @@ goesOn [] c (b ∷ w) = leb c b
 goesOn (a ∷ p) c [] = false
 goesOn (a ∷ p) c (b ∷ w) = eqb a b && goesOn p c w
 
--- w comes later in dictionary order than every list that begins with
--- p: at their first difference, within p, w has the higher atom
+-- w comes later in dictionary order than every list that begins with p:
+-- at their first difference, within p, w has the higher atom
 unfoldable pub past : List ℕ → List ℕ → Bool
 past [] w = false
 past (a ∷ p) [] = false

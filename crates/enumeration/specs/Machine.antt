@@ -29,24 +29,35 @@ isEmpty (a ∷ rest) = false
 unfoldable pub isDone : ℕ → State → Bool
 isDone n st = isEmpty (st .stack) && eqb (st .next) (suc n)
 
--- Unwinding: as long as the next atom is n + 1 and the beginning is not
--- empty, its last atom is dropped, and the next atom is that atom + 1
+-- Unwinding: as long as the next atom is n + 1 and the beginning is not empty,
+-- its last atom is dropped, and the next atom is that atom + 1
 unfoldable pub unwound : ℕ → List ℕ → ℕ → List ℕ × ℕ
 unwound n [] next = ([], next)
-unwound n (a ∷ stack) next = cond (eqb next (suc n)) (unwound n stack (suc a)) (a ∷ stack, next)
+unwound n (a ∷ stack) next =
+    cond (eqb next (suc n)) (unwound n stack (suc a)) (a ∷ stack, next)
 
 -- a search at a place, with its counts
 abbrev pub placed : List ℕ × ℕ → ℕ → ℕ → ℕ → State
-placed place trials extensions listed =
-    record { stack = place .0; next = place .1; trials = trials; extensions = extensions; listed = listed }
+placed place trials extensions listed = record {
+  stack = place .0;
+  next = place .1;
+  trials = trials;
+  extensions = extensions;
+  listed = listed;
+}
 
--- What a trial does, by whether the word is a member and whether
--- it is open: it is listed, or becomes the beginning, or neither
+-- What a trial does, by whether the word is a member and whether it is open:
+-- it is listed, or becomes the beginning, or neither
 unfoldable pub act : ℕ → Bool → Bool → State → State
 act n true extends st =
-    placed (unwound n (st .stack) (suc (st .next))) (suc (st .trials)) (st .extensions) (suc (st .listed))
-act n false true st = placed (unwound n (st .next ∷ st .stack) 1) (suc (st .trials)) (suc (st .extensions)) (st .listed)
-act n false false st = placed (unwound n (st .stack) (suc (st .next))) (suc (st .trials)) (st .extensions) (st .listed)
+    placed (unwound n (st .stack) (suc (st .next)))
+    (suc (st .trials)) (st .extensions) (suc (st .listed))
+act n false true st =
+    placed (unwound n (st .next ∷ st .stack) 1)
+    (suc (st .trials)) (suc (st .extensions)) (st .listed)
+act n false false st =
+    placed (unwound n (st .stack) (suc (st .next)))
+    (suc (st .trials)) (st .extensions) (st .listed)
 
 -- One trial with the unwinding after it
 unfoldable pub trial : Family → State → State

@@ -44,7 +44,12 @@ stopped st why = record { state = st; stop = why; bytes = []; made = 0 }
 
 -- an outcome with one trial more before it, which wrote `bytes`
 abbrev pub after : List ℕ → Outcome → Outcome
-after bytes o = record { state = o .state; stop = o .stop; bytes = bytes ++ o .bytes; made = suc (o .made) }
+after bytes o = record {
+  state = o .state;
+  stop = o .stop;
+  bytes = bytes ++ o .bytes;
+  made = suc (o .made);
+}
 
 -- A run ends at the first of these, tried before every trial in this order: done, limit, spent, full
 unfoldable pub run : Family → ℕ → ℕ → State → Outcome

@@ -16,14 +16,19 @@ pub record Bounded (st : State) : Type 0 where
   pub extensions-most : st .extensions ≤ limit
   pub listed-most : st .listed ≤ limit
 
--- Why a run stopped: done; a count at the limit; its budget made;
--- or the next trial would list a record longer than the room left
+-- Why a run stopped: done; a count at the limit; its budget made; or the next trial
+-- would list a record longer than the room left
 abbrev pub Why : Family → ℕ → ℕ → Outcome → Stop → Type 0
-Why F budget room o Done = isDone (F .atoms) (o .state) ≡ true
-Why F budget room o Limit = (isDone (F .atoms) (o .state) ≡ false) × (atLimit (o .state) ≡ true)
-Why F budget room o Spent = (isDone (F .atoms) (o .state) ≡ false) × (atLimit (o .state) ≡ false) × (o .made ≡ budget)
+Why F budget room o Done =
+    isDone (F .atoms) (o .state) ≡ true
+Why F budget room o Limit =
+    (isDone (F .atoms) (o .state) ≡ false) × (atLimit (o .state) ≡ true)
+Why F budget room o Spent =
+    (isDone (F .atoms) (o .state) ≡ false) × (atLimit (o .state) ≡ false) ×
+    (o .made ≡ budget)
 Why F budget room o Full =
-    (isDone (F .atoms) (o .state) ≡ false) × (atLimit (o .state) ≡ false) × (o .made < budget) ×
+    (isDone (F .atoms) (o .state) ≡ false) × (atLimit (o .state) ≡ false) ×
+    (o .made < budget) ×
     (room < length (o .bytes) + length (lists F (o .state)))
 
 pub record RunFacts (F : Family) (budget room : ℕ) (st : State) (o : Outcome) : Type 0 where

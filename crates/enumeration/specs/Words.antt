@@ -5,8 +5,8 @@ use mathlib.Core.Bool.{Bool, true, false, _||_, _&&_, cond}
 use mathlib.Core.List.{List, [], _∷_, _++_, map}
 use lib.Dec.{ltb, eqb}
 
--- Dictionary order of atom numbers: at the first difference the
--- lower atom comes first, and a beginning comes before what goes on
+-- Dictionary order of atom numbers: at the first difference the lower atom comes first,
+-- and a beginning comes before what goes on
 unfoldable pub earlier : List ℕ → List ℕ → Bool
 earlier [] [] = false
 earlier [] (b ∷ w) = true

@@ -12,6 +12,8 @@ pub data All (P : ℕ → Type 0) : List ℕ → Type 0 where
   none : All P []
   _◁_ : {x : ℕ} {xs : List ℕ} → P x → All P xs → All P (x ∷ xs)
 
+-- ---- one list
+
 pub all-head : {P : ℕ → Type 0} {x : ℕ} {xs : List ℕ} → All P (x ∷ xs) → P x
 all-head (p ◁ a) = p
 
@@ -38,6 +40,8 @@ pub all-every : {P : ℕ → Type 0} (xs : List ℕ) → ((x : ℕ) → P x) →
 all-every [] f = none
 all-every (x ∷ xs) f = f x ◁ all-every xs f
 
+-- ---- two facts, two lists
+
 -- two facts of every element
 pub all-both : {P Q : ℕ → Type 0} {xs : List ℕ} → All P xs → All Q xs → All (λ x. P x × Q x) xs
 all-both none b = none
@@ -45,12 +49,13 @@ all-both (p ◁ a) b = (p, all-head b) ◁ all-both a (all-tail b)
 
 -- for every x of one list and every y of another, either list first
 pub all-swap :
-    {R : ℕ → ℕ → Type 0} {xs : List ℕ} (ys : List ℕ) → All (λ x. All (λ y. R x y) ys) xs →
-    All (λ y. All (λ x. R x y) xs) ys
+    {R : ℕ → ℕ → Type 0} {xs : List ℕ} (ys : List ℕ) →
+    All (λ x. All (λ y. R x y) ys) xs → All (λ y. All (λ x. R x y) xs) ys
 all-swap [] a = none
 all-swap (y ∷ ys) a = all-map (λ x p. all-head p) a ◁ all-swap ys (all-map (λ x p. all-tail p) a)
 
--- by places
+-- ---- by places
+
 pub all-at : {P : ℕ → Type 0} {xs : List ℕ} → All P xs → (i : ℕ) → i < length xs → P (getD xs i 0)
 all-at none i h = absurd (not-suc-le-zero h)
 all-at (p ◁ a) zero h = p

@@ -10,6 +10,8 @@ use native.Mathlib.Decide.{ℕ-discrete}
 use lib.Dec.{T}
 use Rattle.graph.specs.Every.{allBelow}
 
+-- ---- tests
+
 -- the two answers differ
 pub apart : true ≡ false → ⊥
 apart e = subst T e tt
@@ -38,6 +40,10 @@ pub and-right : (a b : Bool) → a && b ≡ true → b ≡ true
 and-right true b e = e
 and-right false b e = absurd (apart (sym e))
 
+-- the parts of a test of two tests
+pub and-parts : (a b : Bool) → a && b ≡ true → (a ≡ true) × (b ≡ true)
+and-parts a b e = (and-left a b e, and-right a b e)
+
 pub and-both : (a b : Bool) → a ≡ true → b ≡ true → a && b ≡ true
 and-both true b p q = q
 and-both false b p q = absurd (apart (sym p))
@@ -64,39 +70,39 @@ pub not-of : (t : Bool) → t ≡ false → not t ≡ true
 not-of true e = absurd (apart e)
 not-of false e = refl
 
+-- ---- every index below a bound
+
 -- every index below passes
 pub allBelow-at : (k : ℕ) (test : ℕ → Bool) → allBelow k test ≡ true → (i : ℕ) → i < k → test i ≡ true
 allBelow-at zero test e i h = absurd (not-suc-le-zero h)
-allBelow-at (suc k) test e i h = split (allBelow-at k test (and-left (allBelow k test) (test k) e) i) (ℕ-discrete i k)
-  where
-    split : (i < k → test i ≡ true) → Dec (i ≡ k) → test i ≡ true
-    split below (yes q) = rw q (and-right (allBelow k test) (test k) e)
-    split below (no q) = below (omega arith)
+allBelow-at (suc k) test e i h =
+    let (below, last) = and-parts (allBelow k test) (test k) e in
+    elim (ℕ-discrete i k) [
+      | yes q ↦ rw q last
+      | no q ↦ allBelow-at k test below i (omega arith)
+    ]
 
 pub allBelow-of : (k : ℕ) (test : ℕ → Bool) → ((i : ℕ) → i < k → test i ≡ true) → allBelow k test ≡ true
 allBelow-of zero test f = refl
 allBelow-of (suc k) test f =
-    and-both (allBelow k test) (test k) (allBelow-of k test (λ i h. f i (omega arith))) (f k (omega arith))
+    let below = allBelow-of k test (λ i h. f i (omega arith)) in
+    and-both (allBelow k test) (test k) below (f k (omega arith))
 
 -- an index fails
 pub allBelow-fails : (k : ℕ) (test : ℕ → Bool) → allBelow k test ≡ false → (i : ℕ) × (i < k) × (test i ≡ false)
 allBelow-fails zero test e = absurd (apart e)
-allBelow-fails (suc k) test e = split (allBelow-fails k test) (either (allBelow k test)) (either (test k))
-  where
-    split :
-        (allBelow k test ≡ false → (i : ℕ) × (i < k) × (test i ≡ false)) →
-        (allBelow k test ≡ true) ⊎ (allBelow k test ≡ false) → (test k ≡ true) ⊎ (test k ≡ false)
-        → (i : ℕ) × (i < suc k) × (test i ≡ false)
-    split below a (inr q) = (k, omega arith, q)
-    split below (inr p) (inl q) = let r = below p in (r .0, omega arith, r .2)
-    split below (inl p) (inl q) = absurd (clash (allBelow k test && test k) (and-both (allBelow k test) (test k) p q) e)
+allBelow-fails (suc k) test e = elim (either (test k)) [
+  | inr q ↦ (k, omega arith, q)
+  | inl q ↦ elim (either (allBelow k test)) [
+    | inr p ↦ let (i, small, fails) = allBelow-fails k test p in (i, omega arith, fails)
+    | inl p ↦ absurd (clash (allBelow k test && test k) (and-both (allBelow k test) (test k) p q) e)
+  ]
+]
 
 pub allBelow-iff : (k : ℕ) (test : ℕ → Bool) → (allBelow k test ≡ true) ↔ ((i : ℕ) → i < k → test i ≡ true)
 allBelow-iff k test = (allBelow-at k test, allBelow-of k test)
 
--- the parts of a test of two tests
-pub and-parts : (a b : Bool) → a && b ≡ true → (a ≡ true) × (b ≡ true)
-and-parts a b e = (and-left a b e, and-right a b e)
+-- ---- implication
 
 -- a test that is passed where another one passes
 pub implies-elim : (a b : Bool) → not a || b ≡ true → a ≡ true → b ≡ true

@@ -1,6 +1,5 @@
--- `allBelow` as a loop computes it: a number that fails ends it with false,
--- each turn adds one that passes, and the last turn ends it with true.
--- From the laws of `allBelow`.
+-- `allBelow` as a loop computes it: a number that fails ends it with false, each turn adds one that passes,
+-- and the last turn ends it with true. From the laws of `allBelow`.
 use Prim.Native.Nat.{ℕ, _+_, _≤_, _<_}
 use native.Mathlib.Numerals.{add-one}
 use native.Mathlib.Omega.{arith}

@@ -1,29 +1,24 @@
 -- Atom lists place by place: atoms in range, and a path as a ring that never closes.
 -- Both follow from the laws of `allBelow`.
 use Prim.Native.Nat.{ℕ, zero, suc, _≤_, _<_}
-use mathlib.Core.Path.{_≡_, refl, ap, ap₂}
+use mathlib.Core.Path.{_≡_, refl}
 use mathlib.Core.Bool.{Bool, true, _&&_, not, Bool·beq, and-false, or-false}
 use mathlib.Core.List.{List}
 use lib.ListN.{length}
-use lib.Dec.{leb, eqb, eqb·suc-zero}
-use borrow.Author.Tests.{leb-true}
+use lib.Dec.{eqb, eqb·suc-zero}
 use Rattle.graph.specs.Every.{allBelow}
 use Rattle.graph.specs.Chordless.{Adjacency, atomAt, inRange, induces, alongPath, alongRing}
-use Rattle.graph.proofs.Below.{allBelow-at, and-parts}
+use Rattle.graph.proofs.Facts.{inRange-at}
 
 -- an atom of a list that is in range
 pub range-at :
     (n : ℕ) (xs : List ℕ) → inRange n xs ≡ true → (i : ℕ) → i < length xs → (1 ≤ atomAt xs i) × (atomAt xs i ≤ n)
-unfolding inRange
-range-at n xs e i h =
-    let parts = and-parts (leb 1 (atomAt xs i)) (leb (atomAt xs i) n)
-    (allBelow-at (length xs) (λ i. leb 1 (atomAt xs i) && leb (atomAt xs i) n) e i h) in
-    (leb-true 1 (atomAt xs i) (parts .0), leb-true (atomAt xs i) n (parts .1))
+range-at = inRange-at
 
 -- tests that agree below the bound
 pub all-same : (k : ℕ) (p q : ℕ → Bool) → ((i : ℕ) → p i ≡ q i) → allBelow k p ≡ allBelow k q
 all-same zero p q f = refl
-all-same (suc k) p q f = ap₂ (λ a b. a && b) (all-same k p q f) (f k)
+all-same (suc k) p q f = rw (all-same k p q f, f k)
 
 pub induces-same :
     (adj : Adjacency) (p q : ℕ → ℕ → Bool) (xs : List ℕ) → ((i j : ℕ) → p i j ≡ q i j) →
@@ -31,8 +26,7 @@ pub induces-same :
 unfolding induces
 induces-same adj p q xs f =
     all-same (length xs) (λ j. allBelow j (λ i. pair p i j)) (λ j. allBelow j (λ i. pair q i j))
-    (λ j. all-same j (λ i. pair p i j) (λ i. pair q i j)
-    (λ i. ap (λ b. not (eqb (atomAt xs i) (atomAt xs j)) && Bool·beq (adj (atomAt xs i) (atomAt xs j)) b) (f i j)))
+    (λ j. all-same j (λ i. pair p i j) (λ i. pair q i j) (λ i. rw (f i j)))
   where
     pair : (ℕ → ℕ → Bool) → ℕ → ℕ → Bool
     pair joined i j = not (eqb (atomAt xs i) (atomAt xs j)) && Bool·beq (adj (atomAt xs i) (atomAt xs j)) (joined i j)

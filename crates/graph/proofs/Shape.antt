@@ -1,7 +1,5 @@
--- Rings and paths by their shape: a ring is s followed by a chordless
--- list a .. b above s, of which s meets only a and b, with a below b;
--- a path is a chordless list from s to t. The places of the
--- tests are counted here once, so that proofs on lists need not.
+-- A ring is s, then a chordless list a .. b above s of which s meets only a and b, with a below b; a path is a
+-- chordless list from s to t. The places of the tests are counted here once, so that proofs on lists need not.
 use Prim.Native.Nat.{ℕ, zero, suc, _-_, _≤_, _<_}
 use mathlib.Core.Path.{_≡_, refl, sym, ap, _∙_}
 use mathlib.Core.Bool.{Bool, true, false, _&&_, _||_}
@@ -19,11 +17,15 @@ use Rattle.graph.proofs.All.{All, all-head, all-at, all-of}
 use Rattle.graph.proofs.Facts.{Ring, Path, Distinct, Bonds, ring-facts, ring-of-facts, path-facts, path-of-facts}
 use Rattle.graph.proofs.Chain.{Chordless, chordless-facts, chordless-distinct, chordless-bonds}
 
+-- ---- the last atom
+
 pub length-snoc : (q : List ℕ) (b : ℕ) → length (q ++ b ∷ []) ≡ suc (length q)
 length-snoc q b = omega (arith, length-append q (b ∷ []))
 
 pub last-snoc : (q : List ℕ) (b : ℕ) → lastAtom (q ++ b ∷ []) ≡ b
 last-snoc q b = getD-at q b [] 0 (length (q ++ b ∷ []) - 1) (omega (arith, length-snoc q b))
+
+-- ---- rings
 
 -- the ring s ∷ a ∷ m ++ b ∷ []
 pub record RingShape (n : ℕ) (adj : Adjacency) (s a : ℕ) (m : List ℕ) (b : ℕ) : Type 0 where
@@ -72,28 +74,39 @@ module _ (n : ℕ) (adj : Adjacency) (s a : ℕ) (m : List ℕ) (b : ℕ) where
   shape-of : Ring n adj whole → RingShape n adj s a m b
   shape-of r =
       let k : length whole ≡ suc (suc (suc (length m))) = size in
+      let last = suc (suc (length m)) in
       record {
         least = r .range 0 (omega arith) .0;
         above =
             all-of (a ∷ m ++ b ∷ [])
             (λ i h. (r .lowest (suc i) (omega arith) (omega arith), r .range (suc i) (omega arith) .1));
         chain =
-            chordless-facts adj (a ∷ m ++ b ∷ []) (λ i j h g. r .distinct (suc i) (suc j) (omega arith) (omega arith))
+            chordless-facts adj (a ∷ m ++ b ∷ [])
+            (λ i j h g. r .distinct (suc i) (suc j) (omega arith) (omega arith))
             (λ i j h g. r .bonds (suc i) (suc j) (omega arith) (omega arith) ∙ along-tail (length whole) i j);
         opens = r .bonds 0 1 (omega arith) (omega arith) ∙ along-first (length whole) 1 refl;
-        inner =
-            all-of m (λ i h. ap (adj s) (sym (at-inner i h)) ∙ r .bonds 0 (suc (suc i)) (omega arith) (omega arith) ∙
-            along-inner (length whole) (suc (suc i)) (omega arith) (omega arith));
+        inner = all-of m inner;
         closes =
-            ap (adj s) (sym at-last) ∙ r .bonds 0 (suc (suc (length m))) (omega arith) (omega arith) ∙
-            along-last (length whole) (suc (suc (length m))) (omega arith);
+            ap (adj s) (sym at-last) ∙ r .bonds 0 last (omega arith) (omega arith) ∙
+            along-last (length whole) last (omega arith);
         oriented = omega (arith, r .oriented, last-snoc (s ∷ a ∷ m) b);
       }
+    where
+      inner : (i : ℕ) → i < length m → adj s (atomAt m i) ≡ false
+      inner i h =
+          let k : length whole ≡ suc (suc (suc (length m))) = size in
+          ap (adj s) (sym (at-inner i h)) ∙ r .bonds 0 (suc (suc i)) (omega arith) (omega arith) ∙
+          along-inner (length whole) (suc (suc i)) (omega arith) (omega arith)
 
   module _ (r : RingShape n adj s a m b) where
     shape-range : (i : ℕ) → i < length whole → (1 ≤ atomAt whole i) × (atomAt whole i ≤ n)
-    shape-range zero h = let f = all-head (r .above) in let l = r .least in (l, omega arith)
-    shape-range (suc i) h = let f = all-at (r .above) i (le-of-suc-le-suc h) in (omega arith, f .1)
+    shape-range zero h =
+        let (a-above, a-range) = all-head (r .above) in
+        let least = r .least in
+        (least, omega arith)
+    shape-range (suc i) h =
+        let (above, range) = all-at (r .above) i (le-of-suc-le-suc h) in
+        (omega arith, range)
 
     shape-lowest : (i : ℕ) → 0 < i → i < length whole → s < atomAt whole i
     shape-lowest zero h g = absurd (not-suc-le-zero h)
@@ -138,6 +151,8 @@ module _ (n : ℕ) (adj : Adjacency) (s a : ℕ) (m : List ℕ) (b : ℕ) where
   pub ring-shape : (isRing n adj (s ∷ a ∷ m ++ b ∷ []) ≡ true) ↔ RingShape n adj s a m b
   ring-shape = (λ e. shape-of (ring-facts n adj whole e), λ r. ring-of-facts n adj whole (facts-of r))
 
+-- ---- paths
+
 -- the path q ++ b ∷ []
 pub record PathShape (n : ℕ) (adj : Adjacency) (s t : ℕ) (q : List ℕ) (b : ℕ) : Type 0 where
   pub range : All (λ u. (1 ≤ u) × (u ≤ n)) (q ++ b ∷ [])
@@ -172,4 +187,4 @@ module _ (n : ℕ) (adj : Adjacency) (s t : ℕ) (q : List ℕ) (b : ℕ) where
 -- a list that is not empty has a last element
 pub snoc-view : (c : ℕ) (r : List ℕ) → (q : List ℕ) × (b : ℕ) × (c ∷ r ≡ q ++ b ∷ [])
 snoc-view c [] = ([], c, refl)
-snoc-view c (d ∷ r) = let v = snoc-view d r in (c ∷ v .0, v .1, ap {B = List ℕ} (λ l. c ∷ l) (v .2))
+snoc-view c (d ∷ r) = let (q, b, shape) = snoc-view d r in (c ∷ q, b, cc shape)

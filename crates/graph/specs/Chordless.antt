@@ -20,12 +20,13 @@ lastAtom xs = atomAt xs (length xs - 1)
 unfoldable pub inRange : ℕ → List ℕ → Bool
 inRange n xs = allBelow (length xs) (λ i. leb 1 (atomAt xs i) && leb (atomAt xs i) n)
 
--- any two places i < j hold different atoms, and these are bonded exactly when `joined i j` says so
+-- any two places i < j hold different atoms,
+-- and these are bonded exactly when `joined i j` says so
 unfoldable pub induces : Adjacency → (ℕ → ℕ → Bool) → List ℕ → Bool
 induces adj joined xs =
-    allBelow (length xs)
-    (λ j. allBelow j
-    (λ i. not (eqb (atomAt xs i) (atomAt xs j)) && Bool·beq (adj (atomAt xs i) (atomAt xs j)) (joined i j)))
+    allBelow (length xs) (λ j. allBelow j (λ i.
+    not (eqb (atomAt xs i) (atomAt xs j))
+    && Bool·beq (adj (atomAt xs i) (atomAt xs j)) (joined i j)))
 
 -- along a path, places i < j are joined when they are consecutive
 abbrev pub alongPath : ℕ → ℕ → Bool

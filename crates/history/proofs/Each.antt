@@ -2,11 +2,11 @@
 -- Instances of `demand3`: kind 0 keeps rule 16, and kind 1 with s and t that keep rules 10 and 11.
 use Prim.Native.Nat.{ℕ}
 use mathlib.Core.Path.{_≡_, refl}
-use mathlib.Core.Bool.{Bool, true, false, _&&_, not}
+use mathlib.Core.Bool.{Bool, true, _&&_, not}
 use mathlib.Core.List.{List}
 use lib.Dec.{eqb}
 use borrow.Author.Tests.{not-true}
-use Rattle.graph.proofs.Below.{and-left, and-right}
+use Rattle.graph.proofs.Below.{and-parts}
 use Rattle.chordless.specs.Families.{rings, paths}
 use Rattle.molecule.specs.declared.Molecule.{Molecule}
 use Rattle.molecule.specs.Record.{wellFormed, bonded, isAtom}
@@ -15,6 +15,8 @@ use Rattle.search.specs.Entries.{acceptedSearch, startRings, startPaths}
 use Rattle.history.specs.Calls.{Call, start, standing, History}
 use Rattle.history.specs.Demand.{Demand}
 use Rattle.history.proofs.Demand3.{demand3}
+
+-- ---- lists and starts
 
 -- The list of kind 0 is the rings of the record, that of kind 1 its paths from s to t
 pub rings-listed : (R : Molecule) (s t : ℕ) → familyOf R 0 s t ≡ rings (R .atoms) (bonded (R .atoms) (R .rows))
@@ -36,9 +38,10 @@ pub paths-start :
 unfolding startPaths start endsKept
 paths-start R s t good ends =
     let a : Bool = isAtom (R .atoms) s && isAtom (R .atoms) t in
-    let atoms : a ≡ true = and-left a (not (eqb s t)) ends in
-    let differ : eqb s t ≡ false = not-true (eqb s t) (and-right a (not (eqb s t)) ends) in
-    rw (good, atoms, differ)
+    let (atoms, not-same) = and-parts a (not (eqb s t)) ends in
+    rw (good, atoms, not-true (eqb s t) not-same)
+
+-- ---- demand 3
 
 pub rings-kept : (n : ℕ) → kindKept n 0 0 0 ≡ true
 unfolding kindKept
@@ -49,12 +52,13 @@ unfolding kindKept
 paths-kept n s t ends = rw ends
 
 pub rings-demand3 :
-    (R : Molecule) → wellFormed R ≡ true → (calls : List Call) → History R (start 0 0 0) calls →
+    (R : Molecule) → wellFormed R ≡ true →
+    (calls : List Call) → History R (start 0 0 0) calls →
     Demand R 0 0 0 calls (standing (start 0 0 0) calls)
 rings-demand3 R good = demand3 R 0 0 0 good (rings-kept (R .atoms))
 
 pub paths-demand3 :
-    (R : Molecule) (s t : ℕ) → wellFormed R ≡ true → endsKept (R .atoms) s t ≡ true → (calls : List Call) →
-    History R (start 1 s t) calls →
+    (R : Molecule) (s t : ℕ) → wellFormed R ≡ true → endsKept (R .atoms) s t ≡ true →
+    (calls : List Call) → History R (start 1 s t) calls →
     Demand R 1 s t calls (standing (start 1 s t) calls)
 paths-demand3 R s t good ends = demand3 R 1 s t good (paths-kept (R .atoms) s t ends)

@@ -1,11 +1,11 @@
 -- What runs, saves and restores answer when they are handed the search at a state: a run is the run of that state.
 -- From the definitions, rules 9 and 12 being kept.
-use Prim.Native.Nat.{ℕ, _+_, _-_, _≤_}
+use Prim.Native.Nat.{ℕ, _+_, _≤_}
 use native.Mathlib.Omega.{arith}
 use mathlib.Core.Path.{_≡_, refl, ap, _∙_}
 use mathlib.Core.Bool.{Bool, true, false, _&&_, cond}
-use mathlib.Core.List.{List, _++_, reverse}
-use lib.ListN.{length, take, drop, replicate, length-append, length-replicate, length-reverse}
+use mathlib.Core.List.{List, _++_}
+use lib.ListN.{length, take, drop, length-append, length-replicate, length-reverse}
 use lib.Seq.{take-append-seam}
 use lib.Dec.{leb, eqb}
 use borrow.Author.Tests.{leb-true, le-leb}
@@ -27,18 +27,22 @@ use Rattle.history.specs.Calls.{Standing}
 
 -- what the run of a state returns for a search of a kind, s and t
 abbrev pub ranAt : ℕ → ℕ → ℕ → Outcome → Ran
-ranAt kind s t o =
-    record {
-      ended = Stopped (o .stop);
-      search = searchAt kind s t (o .state);
-      used = length (o .bytes);
-      made = o .made;
-    }
+ranAt kind s t o = record {
+  ended = Stopped (o .stop);
+  search = searchAt kind s t (o .state);
+  used = length (o .bytes);
+  made = o .made;
+}
 
 -- what stands after it
 abbrev pub movedBy : ℕ → ℕ → ℕ → Standing → Outcome → Standing
-movedBy kind s t x o =
-    record { search = searchAt kind s t (o .state); sheet = x .sheet ++ o .bytes; made = x .made + o .made }
+movedBy kind s t x o = record {
+  search = searchAt kind s t (o .state);
+  sheet = x .sheet ++ o .bytes;
+  made = x .made + o .made;
+}
+
+-- ---- sizes
 
 pub atoms-most : (mol : Molecule) → wellFormed mol ≡ true → mol .atoms ≤ 128
 unfolding wellFormed
@@ -48,10 +52,10 @@ atoms-most mol e =
     let c = symmetric (mol .rows) in
     let d = loopless (mol .rows) in
     let w = within (mol .atoms) (mol .rows) in
-    leb-true (mol .atoms) 128
-    (and-left a b
-    (and-left (a && b) c
-    (and-left (a && b && c) d (and-left (a && b && c && d) w (and-left (a && b && c && d && w) _ e)))))
+    let to-w = and-left (a && b && c && d && w) _ e in
+    let to-d = and-left (a && b && c && d) w to-w in
+    let to-c = and-left (a && b && c) d to-d in
+    leb-true (mol .atoms) 128 (and-left a b (and-left (a && b) c to-c))
 
 pub family-atoms : (mol : Molecule) (kind s t : ℕ) → familyOf mol kind s t .atoms ≡ mol .atoms
 unfolding familyOf
@@ -59,8 +63,8 @@ family-atoms mol kind s t = go (eqb kind 0)
   where
     go :
         (b : Bool) →
-        cond b (rings (mol .atoms) (bonded (mol .atoms) (mol .rows)))
-        (paths (mol .atoms) (bonded (mol .atoms) (mol .rows)) s t) .atoms ≡ mol .atoms
+        let adj = bonded (mol .atoms) (mol .rows) in
+        cond b (rings (mol .atoms) adj) (paths (mol .atoms) adj s t) .atoms ≡ mol .atoms
     go true = refl
     go false = refl
 
@@ -68,12 +72,9 @@ family-atoms mol kind s t = go (eqb kind 0)
 pub prefix-size : (kind s t : ℕ) (st : State) → length (st .stack) ≤ 128 → length (searchAt kind s t st .prefix) ≡ 128
 unfolding searchAt held
 prefix-size kind s t st h =
-    omega (
-      arith,
-      length-append (reverse (st .stack)) (replicate (128 - length (reverse (st .stack))) 0),
-      length-replicate {A = ℕ} (128 - length (reverse (st .stack))) 0,
-      length-reverse (st .stack),
-    )
+    simp (length-append, length-replicate, length-reverse) (omega arith)
+
+-- ---- answers
 
 module _ (R : Molecule) (good : wellFormed R ≡ true) where
   run-answers :
@@ -87,13 +88,13 @@ module _ (R : Molecule) (good : wellFormed R ≡ true) where
       take (length (outcome R q budget out .bytes)) (runOutput R q budget out) ≡ outcome R q budget out .bytes
   unfolding runOutput
   run-wrote q budget out e =
-      rw (good, e)
-      (take-append-seam (outcome R q budget out .bytes) (drop (length (outcome R q budget out .bytes)) out))
+      let bytes = outcome R q budget out .bytes in
+      rw (good, e) (take-append-seam bytes (drop (length bytes) out))
 
   pub save-at :
       (q : Search) (buffer : List ℕ) → restorable R q ≡ true →
-      saveAnswer R q buffer ≡ cond (leb (length (markText R q)) (length buffer)) (Written (length (markText R q)))
-      (Refused refusal.MarkRoom)
+      saveAnswer R q buffer ≡
+      cond (leb (length (markText R q)) (length buffer)) (Written (length (markText R q))) (Refused refusal.MarkRoom)
   unfolding saveAnswer
   save-at q buffer e = rw (good, e)
 
@@ -106,8 +107,8 @@ module _ (R : Molecule) (good : wellFormed R ≡ true) where
   module _ (kind s t : ℕ) (st : State) (back : stateOf (searchAt kind s t st) ≡ st)
       (passes : restorable R (searchAt kind s t st) ≡ true) where
     outcome-at :
-        (budget : ℕ) (out : List ℕ) → outcome R (searchAt kind s t st) budget out ≡ run (familyOf R kind s t) budget
-        (length out) st
+        (budget : ℕ) (out : List ℕ) →
+        outcome R (searchAt kind s t st) budget out ≡ run (familyOf R kind s t) budget (length out) st
     unfolding searchAt
     outcome-at budget out = ap (run (familyOf R kind s t) budget (length out)) back
 
@@ -116,15 +117,16 @@ module _ (R : Molecule) (good : wellFormed R ≡ true) where
     ran-at o = refl
 
     pub run-at :
-        (budget : ℕ) (out : List ℕ) → runSearch R (searchAt kind s t st) budget out ≡
+        (budget : ℕ) (out : List ℕ) →
+        runSearch R (searchAt kind s t st) budget out ≡
         ranAt kind s t (run (familyOf R kind s t) budget (length out) st)
     run-at budget out =
-        run-answers (searchAt kind s t st) budget out passes
-        ∙ ran-at (outcome R (searchAt kind s t st) budget out)
-        ∙ ap (ranAt kind s t) (outcome-at budget out)
+        run-answers (searchAt kind s t st) budget out passes ∙
+        ran-at (outcome R (searchAt kind s t st) budget out) ∙
+        ap (ranAt kind s t) (outcome-at budget out)
 
     pub wrote-at :
         (budget : ℕ) (out : List ℕ) →
-        take (length (run (familyOf R kind s t) budget (length out) st .bytes))
-        (runOutput R (searchAt kind s t st) budget out) ≡ run (familyOf R kind s t) budget (length out) st .bytes
+        let o = run (familyOf R kind s t) budget (length out) st in
+        take (length (o .bytes)) (runOutput R (searchAt kind s t st) budget out) ≡ o .bytes
     wrote-at budget out = rw (outcome-at budget out) at (run-wrote (searchAt kind s t st) budget out passes)

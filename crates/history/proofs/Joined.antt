@@ -12,8 +12,9 @@ standing-joined [] more x = refl
 standing-joined (call ∷ calls) more x = standing-joined calls more (afterCall x call)
 
 pub history-joined :
-    (R : Molecule) (calls more : List Call) (x : Standing) → History R x calls → History R (standing x calls) more →
-    History R x (calls ++ more)
+    (R : Molecule) (calls more : List Call) (x : Standing) →
+    History R x calls → History R (standing x calls) more → History R x (calls ++ more)
 unfolding standing
 history-joined R [] more x h g = g
-history-joined R (call ∷ calls) more x h g = (h .0, history-joined R calls more (afterCall x call) (h .1) g)
+history-joined R (call ∷ calls) more x (allowed, later) g =
+    (allowed, history-joined R calls more (afterCall x call) later g)

@@ -1,10 +1,8 @@
--- What stands after any list of calls is the search that they began with
--- after as many trials as were made, and the sheet what those trials list.
--- By induction on the list: a run makes some number of trials more, every other call
--- leaves all as it was. The fresh search is one beginning, what a mark restores another.
+-- What stands after any list of calls is the search that they began with after as many trials as were made, and the
+-- sheet what those trials list. By induction on the list: a run makes trials, every other call leaves all as it was.
 use Prim.Native.Nat.{ℕ, _+_, _≤_}
 use native.Mathlib.Omega.{arith}
-use mathlib.Core.Path.{_≡_, refl, sym, ap, _∙_, subst}
+use mathlib.Core.Path.{_≡_, refl, sym, ap, _∙_}
 use mathlib.Core.Logic.{_⊎_, inl, inr}
 use mathlib.Core.Bool.{Bool, true, false, _||_, cond, or-false, or-assoc}
 use mathlib.Core.List.{List, [], _∷_}
@@ -48,6 +46,8 @@ pub record Reached (R : Molecule) (kind s t : ℕ) (origin : State) (said : Bool
   pub bounded : Bounded (stateAt R kind s t origin k)
   pub finished : said ≡ true → isDone (familyOf R kind s t .atoms) (stateAt R kind s t origin k) ≡ true
 
+-- ---- calls that change nothing
+
 -- a run that says done is not refused
 done-accepted : (e : Ended) → endedDone e ≡ true → runRefused e ≡ true → ⊥
 done-accepted (ended.Stopped why) d r = clash false r refl
@@ -74,10 +74,12 @@ after-save x mol q buffer = cond-same (refused (saves mol q buffer)) x
 refused-says : (call : Call) → refused call ≡ true → saysDone call ≡ false
 unfolding refused saysDone
 refused-says (runs mol q budget out) e =
-    false-of (endedDone (runSearch mol q budget out .ended))
-    (λ d. done-accepted (runSearch mol q budget out .ended) d e)
+    let answer = runSearch mol q budget out .ended in
+    false-of (endedDone answer) (λ d. done-accepted answer d e)
 refused-says (saves mol q buffer) e = refl
 refused-says (restores mol mark) e = refl
+
+-- ---- searches begun at a valid state
 
 module _ (R : Molecule) (kind s t : ℕ) (good : wellFormed R ≡ true) (kept : kindKept (R .atoms) kind s t ≡ true)
     (origin : State) (sound : Valid (familyOf R kind s t) origin) where
@@ -110,8 +112,11 @@ module _ (R : Molecule) (kind s t : ℕ) (good : wellFormed R ≡ true) (kept : 
       })
 
   module _ (said : Bool) (k : ℕ) (x : Standing) (r : Reached R kind s t origin said k x) where
+    abbrev now : State
+    now = stateAt R kind s t origin k
+
     pub passes-at : restorable R (searchAt kind s t (stateAt R kind s t origin k)) ≡ true
-    passes-at = valid-restorable R kind s t good kept (stateAt R kind s t origin k) (valid-at k) (r .bounded)
+    passes-at = valid-restorable R kind s t good kept now (valid-at k) (r .bounded)
 
     -- the search passes rule 12, and its mark restores it
     pub reached-restorable : restorable R (x .search) ≡ true
@@ -119,12 +124,11 @@ module _ (R : Molecule) (kind s t : ℕ) (good : wellFormed R ≡ true) (kept : 
 
     pub reached-restores : restoreMark R (markText R (x .search)) ≡ acceptedSearch (x .search)
     reached-restores =
-        saved-restores R (x .search) good reached-restorable
-        (rw (r .search-is)
-        (prefix-size kind s t (stateAt R kind s t origin k) (short-of (stateAt R kind s t origin k) (valid-at k))))
+        let size = prefix-size kind s t now (short-of now (valid-at k)) in
+        saved-restores R (x .search) good reached-restorable (rw (r .search-is) size)
 
     pub reached-state : stateOf (x .search) ≡ stateAt R kind s t origin k
-    reached-state = rw (r .search-is) (back-of (stateAt R kind s t origin k) (valid-at k))
+    reached-state = rw (r .search-is) (back-of now (valid-at k))
 
     -- a run of it is the run of the state
     pub reached-runs :
@@ -132,22 +136,18 @@ module _ (R : Molecule) (kind s t : ℕ) (good : wellFormed R ≡ true) (kept : 
         runSearch R (x .search) budget out ≡
         ranAt kind s t (run (familyOf R kind s t) budget (length out) (stateAt R kind s t origin k))
     reached-runs budget out =
-        rw (r .search-is)
-        (run-at R good kind s t (stateAt R kind s t origin k)
-        (back-of (stateAt R kind s t origin k) (valid-at k)) passes-at budget out)
+        rw (r .search-is) (run-at R good kind s t now (back-of now (valid-at k)) passes-at budget out)
 
     reached-wrote :
         (budget : ℕ) (out : List ℕ) →
-        take (length (run (familyOf R kind s t) budget (length out) (stateAt R kind s t origin k) .bytes))
-        (runOutput R (x .search) budget out)
-        ≡ run (familyOf R kind s t) budget (length out) (stateAt R kind s t origin k) .bytes
+        let o = run (familyOf R kind s t) budget (length out) now in
+        take (length (o .bytes)) (runOutput R (x .search) budget out) ≡ o .bytes
     reached-wrote budget out =
-        rw (r .search-is)
-        (wrote-at R good kind s t (stateAt R kind s t origin k)
-        (back-of (stateAt R kind s t origin k) (valid-at k)) passes-at budget out)
+        rw (r .search-is) (wrote-at R good kind s t now (back-of now (valid-at k)) passes-at budget out)
 
     pub after-run :
-        (budget : ℕ) (out : List ℕ) → afterCall x (runs R (x .search) budget out) ≡
+        (budget : ℕ) (out : List ℕ) →
+        afterCall x (runs R (x .search) budget out) ≡
         movedBy kind s t x (run (familyOf R kind s t) budget (length out) (stateAt R kind s t origin k))
     unfolding afterCall refused afterAccepted
     after-run budget out = rw (reached-runs budget out, reached-wrote budget out)
@@ -159,64 +159,55 @@ module _ (R : Molecule) (kind s t : ℕ) (good : wellFormed R ≡ true) (kept : 
 
     -- the outcome of a run is reached too
     moved-reached :
-        (budget room : ℕ) (o : Outcome) → RunFacts (familyOf R kind s t) budget room (stateAt R kind s t origin k) o →
+        (budget room : ℕ) (o : Outcome) → RunFacts (familyOf R kind s t) budget room now o →
         Bounded (o .state) → (o .stop ≡ Done → isDone (familyOf R kind s t .atoms) (o .state) ≡ true) →
         Reached R kind s t origin (said || isDoneStop (o .stop)) (k + o .made) (movedBy kind s t x o)
-    moved-reached budget room o w b d = record {
+    moved-reached budget room o w b done = record {
       search-is = ap (searchAt kind s t) state-is;
       sheet-is = rw (emitted-composed (familyOf R kind s t) k (o .made) origin, records-append, r .sheet-is, w .wrote);
       made-is = omega (arith, r .made-is);
       counted = omega (arith, ap (λ (st : State). st .trials) state-is, w .counted, r .counted);
-      bounded = subst Bounded state-is b;
-      finished = λ e. by (or-either said (isDoneStop (o .stop)) e);
+      bounded = rw state-is at b;
+      finished = λ e. rw (← state-is) (done-by (or-either said (isDoneStop (o .stop)) e));
     }
       where
         state-is : o .state ≡ stateAt R kind s t origin (k + o .made)
         state-is = w .stepped ∙ sym (steps-composed (familyOf R kind s t) k (o .made) origin)
 
-        by :
-            (said ≡ true) ⊎ (isDoneStop (o .stop) ≡ true) →
-            isDone (familyOf R kind s t .atoms) (stateAt R kind s t origin (k + o .made)) ≡ true
-        by (inl e) =
-            rw (
-              ← state-is,
-              w .stepped,
-              steps-stay (familyOf R kind s t) (o .made) (stateAt R kind s t origin k)
-                  (r .finished e),
-            ) (r .finished e)
-        by (inr e) = rw (← state-is) (d (stop-done (o .stop) e))
+        -- done before the run, and so unchanged by it, or done by it
+        done-by : (said ≡ true) ⊎ (isDoneStop (o .stop) ≡ true) → isDone (familyOf R kind s t .atoms) (o .state) ≡ true
+        done-by (inl e) =
+            let was-done = r .finished e in
+            rw (w .stepped, steps-stay (familyOf R kind s t) (o .made) now was-done) was-done
+        done-by (inr e) = done (stop-done (o .stop) e)
 
-    -- so is what stands after a run handed the search as it stands
-    run-reached :
-        (budget : ℕ) (out : List ℕ) →
-        (k′ : ℕ) × Reached R kind s t origin (said || saysDone (runs R (x .search) budget out)) k′
-        (afterCall x (runs R (x .search) budget out))
+    -- what stands after a call is reached too
+    abbrev Goes : Call → Type 0
+    Goes call = (k′ : ℕ) × Reached R kind s t origin (said || saysDone call) k′ (afterCall x call)
+
+    -- a run handed the search as it stands
+    run-reached : (budget : ℕ) (out : List ℕ) → Goes (runs R (x .search) budget out)
     unfolding saysDone
-    run-reached budget out = (
-      k + run (familyOf R kind s t) budget (length out) (stateAt R kind s t origin k) .made,
-      rw (after-run budget out, reached-runs budget out)
-          (moved-reached budget (length out)
-          (run (familyOf R kind s t) budget (length out) (stateAt R kind s t origin k))
-          (run-outcome (familyOf R kind s t) budget (length out) (stateAt R kind s t origin k))
-          (run-keeps-bounded (familyOf R kind s t) budget (length out) (stateAt R kind s t origin k) (r .bounded))
-          (run-done (familyOf R kind s t) budget (length out) (stateAt R kind s t origin k))),
-    )
+    run-reached budget out =
+        let F = familyOf R kind s t in
+        let o = run F budget (length out) now in
+        let facts = run-outcome F budget (length out) now in
+        let bounded = run-keeps-bounded F budget (length out) now (r .bounded) in
+        let moved = moved-reached budget (length out) o facts bounded (run-done F budget (length out) now) in
+        (k + o .made, rw (after-run budget out, reached-runs budget out) moved)
 
-    same-reached :
-        (call : Call) → afterCall x call ≡ x → saysDone call ≡ false →
-        (k′ : ℕ) × Reached R kind s t origin (said || saysDone call) k′ (afterCall x call)
+    -- a call that leaves all as it was
+    same-reached : (call : Call) → afterCall x call ≡ x → saysDone call ≡ false → Goes call
     same-reached call e f = (k, rw (e, f, or-false said) r)
 
-    handed-reached :
-        (call : Call) → Handed R (x .search) call →
-        (k′ : ℕ) × Reached R kind s t origin (said || saysDone call) k′ (afterCall x call)
+    handed-reached : (call : Call) → Handed R (x .search) call → Goes call
     unfolding saysDone
-    handed-reached (runs mol p budget out) h = rw (h .0, h .1) (run-reached budget out)
+    handed-reached (runs mol p budget out) (same-mol, same-search) = rw (same-mol, same-search) (run-reached budget out)
     handed-reached (saves mol p buffer) h = same-reached (saves mol p buffer) (after-save x mol p buffer) refl
-    handed-reached (restores mol mark) h =
-        rw (h .0, h .1) (same-reached (restores R (markText R (x .search))) after-restore refl)
+    handed-reached (restores mol mark) (same-mol, same-mark) =
+        rw (same-mol, same-mark) (same-reached (restores R (markText R (x .search))) after-restore refl)
 
-    -- and what stands after any call that is allowed
+    -- any call that is allowed
     pub allowed-reached :
         (call : Call) → Allowed R x call →
         (k′ : ℕ) × Reached R kind s t origin (said || saysDone call) k′ (afterCall x call)
@@ -224,12 +215,12 @@ module _ (R : Molecule) (kind s t : ℕ) (good : wellFormed R ≡ true) (kept : 
     allowed-reached call (inr h) = handed-reached call h
 
   pub list-reached :
-      (calls : List Call) (x : Standing) → History R x calls → (said : Bool) (k : ℕ) →
-      Reached R kind s t origin said k x →
+      (calls : List Call) (x : Standing) → History R x calls →
+      (said : Bool) (k : ℕ) → Reached R kind s t origin said k x →
       (k′ : ℕ) × Reached R kind s t origin (said || saidDone calls) k′ (standing x calls)
   unfolding standing saidDone
   list-reached [] x h said k r = (k, rw (or-false said) r)
-  list-reached (call ∷ calls) x h said k r =
-      let next = allowed-reached said k x r call (h .0) in
+  list-reached (call ∷ calls) x (allowed, later) said k r =
+      let (k′, next) = allowed-reached said k x r call allowed in
       rw (← or-assoc said (saysDone call) (saidDone calls))
-      (list-reached calls (afterCall x call) (h .1) (said || saysDone call) (next .0) (next .1))
+      (list-reached calls (afterCall x call) later (said || saysDone call) k′ next)

@@ -1,6 +1,5 @@
 -- What holds of what stands whatever the calls began with: its parts, when it is done, and that calls handed it go on.
--- What stands is the search that they began with after the trials
--- made (`Reached`), and of that the theory of a search says the rest.
+-- It is the search that they began with after the trials made (`Reached`): the theory of a search says the rest.
 use Prim.Native.Nat.{ℕ, _+_, _*_, _≤_}
 use native.Mathlib.Omega.{arith}
 use mathlib.Core.Path.{_≡_, refl, sym, ap, _∙_}
@@ -9,7 +8,9 @@ use mathlib.Core.Bool.{Bool, true}
 use mathlib.Core.List.{List}
 use lib.ListN.{length}
 use Rattle.enumeration.specs.declared.Stop.the-variants.{Done, Limit}
+use Rattle.enumeration.specs.Words.{Family}
 use Rattle.enumeration.specs.Machine.{State, isDone}
+use Rattle.enumeration.specs.Lawful.{Lawful}
 use Rattle.enumeration.specs.Run.{Outcome, atLimit, run}
 use Rattle.enumeration.specs.Trials.{Valid, steps, emitted}
 use Rattle.enumeration.specs.RunFacts.{RunFacts}
@@ -26,6 +27,8 @@ use Rattle.history.specs.Demand.{Progress, GoesOn}
 use Rattle.history.proofs.Entered.{ranAt, family-atoms, save-at, save-wrote}
 use Rattle.history.proofs.Reached.{Reached, stateAt, lawful, valid-at, back-of, reached-restorable, reached-restores, reached-state, reached-runs}
 
+-- ---- what is said
+
 -- the parts of a search at a state
 pub record Parts (kind s t : ℕ) (st : State) (q : Search) : Type 0 where
   pub kind-is : q .kind ≡ kind
@@ -37,8 +40,27 @@ pub record Parts (kind s t : ℕ) (st : State) (q : Search) : Type 0 where
 
 parts : (kind s t : ℕ) (st : State) → Parts kind s t st (searchAt kind s t st)
 unfolding searchAt
-parts kind s t st =
-    record { kind-is = refl; s-is = refl; t-is = refl; trials-is = refl; extensions-is = refl; listed-is = refl }
+parts kind s t st = record {
+  kind-is = refl;
+  s-is = refl;
+  t-is = refl;
+  trials-is = refl;
+  extensions-is = refl;
+  listed-is = refl;
+}
+
+-- all that holds of x where it is reached
+pub record Stood (R : Molecule) (kind s t : ℕ) (origin : State) (said : Bool) (k : ℕ) (x : Standing) : Type 0 where
+  pub parts : Parts kind s t (stateAt R kind s t origin k) (x .search)
+  pub search-is : x .search ≡ searchAt kind s t (steps (familyOf R kind s t) (x .made) origin)
+  pub trials-are : x .search .trials ≡ origin .trials + x .made
+  pub done-at :
+      isDone (R .atoms) (stateOf (x .search)) ≡ true →
+      isDone (familyOf R kind s t .atoms) (stateAt R kind s t origin k) ≡ true
+  pub said-done : said ≡ true → isDone (R .atoms) (stateOf (x .search)) ≡ true
+  pub goes-on : GoesOn R x
+
+-- ---- where it is reached
 
 module _ (R : Molecule) (kind s t : ℕ) (good : wellFormed R ≡ true) (kept : kindKept (R .atoms) kind s t ≡ true)
     (origin : State) (sound : Valid (familyOf R kind s t) origin) where
@@ -65,39 +87,77 @@ module _ (R : Molecule) (kind s t : ℕ) (good : wellFormed R ≡ true) (kept : 
     pub said-stands : said ≡ true → isDone (R .atoms) (stateOf (x .search)) ≡ true
     said-stands e = done-is ∙ r .finished e
 
+    -- a run of it is the run of the state
+    runs-as :
+        (budget : ℕ) (out : List ℕ) →
+        runSearch R (x .search) budget out ≡
+        ranAt kind s t (run (familyOf R kind s t) budget (length out) (stateAt R kind s t origin k))
+    runs-as = reached-runs R kind s t good kept origin sound said k x r
+
     progresses :
         (budget : ℕ) (out : List ℕ) → 2 * R .atoms * R .atoms ≤ budget → R .atoms + 1 ≤ length out →
         Progress (x .search) (runSearch R (x .search) budget out)
-    progresses budget out b l =
-        let st : State = stateAt R kind s t origin k in
-        let v : Valid (familyOf R kind s t) st = valid-at R kind s t good kept origin sound k in
-        rw (reached-runs R kind s t good kept origin sound said k x r budget out)
-        (by (run (familyOf R kind s t) budget (length out) st)
-        (run-outcome (familyOf R kind s t) budget (length out) st)
-        (run-keeps-valid (familyOf R kind s t) (lawful R kind s t good kept origin sound) budget (length out) st v)
-        (λ e. run-limit (familyOf R kind s t) budget (length out) st e .1)
-        (run-lists (familyOf R kind s t) (lawful R kind s t good kept origin sound) budget (length out) st v
-        (rw (family-atoms R kind s t) b) (rw (family-atoms R kind s t) l)))
+    progresses budget out enough room = rw (runs-as budget out) (by o facts valid at-limit listing)
       where
+        F : Family
+        F = familyOf R kind s t
+
+        st : State
+        st = stateAt R kind s t origin k
+
+        o : Outcome
+        o = run F budget (length out) st
+
+        facts : RunFacts F budget (length out) st o
+        facts = run-outcome F budget (length out) st
+
+        L : Lawful F
+        L = lawful R kind s t good kept origin sound
+
+        v : Valid F st
+        v = valid-at R kind s t good kept origin sound k
+
+        valid : Valid F (o .state)
+        valid = run-keeps-valid F L budget (length out) st v
+
+        at-limit : o .stop ≡ Limit → atLimit (o .state) ≡ true
+        at-limit e = run-limit F budget (length out) st e .1
+
+        listing : (1 ≤ length (emitted F (o .made) st)) ⊎ ((o .stop ≡ Done) ⊎ (o .stop ≡ Limit))
+        listing =
+            let atoms = family-atoms R kind s t in
+            run-lists F L budget (length out) st v (rw atoms enough) (rw atoms room)
+
         by :
-            (o : Outcome) → RunFacts (familyOf R kind s t) budget (length out) (stateAt R kind s t origin k) o →
-            Valid (familyOf R kind s t) (o .state) → (o .stop ≡ Limit → atLimit (o .state) ≡ true) →
-            (1 ≤ length (emitted (familyOf R kind s t) (o .made) (stateAt R kind s t origin k))) ⊎
-            ((o .stop ≡ Done) ⊎ (o .stop ≡ Limit)) → Progress (x .search) (ranAt kind s t o)
-        by o w v a (inl e) = inl (omega (arith, parts-of .listed-is, parts kind s t (o .state) .listed-is, w .listing))
-        by o w v a (inr (inl e)) = inr (inl (ap Stopped e))
-        by o w v a (inr (inr e)) =
-            inr (inr (ap Stopped e, rw (back-of R kind s t good kept origin sound (o .state) v) (a e)))
+            (o : Outcome) → RunFacts F budget (length out) st o → Valid F (o .state) →
+            (o .stop ≡ Limit → atLimit (o .state) ≡ true) →
+            (1 ≤ length (emitted F (o .made) st)) ⊎ ((o .stop ≡ Done) ⊎ (o .stop ≡ Limit)) →
+            Progress (x .search) (ranAt kind s t o)
+        by o w v limit (inl more) =
+            inl (omega (arith, parts-of .listed-is, parts kind s t (o .state) .listed-is, w .listing))
+        by o w v limit (inr (inl done)) = inr (inl (ap Stopped done))
+        by o w v limit (inr (inr stops)) =
+            let back = back-of R kind s t good kept origin sound (o .state) v in
+            inr (inr (ap Stopped stops, rw back (limit stops)))
 
     pub goes-on : GoesOn R x
     goes-on =
         let passes = reached-restorable R kind s t good kept origin sound said k x r in
         record {
-          run-accepted =
-              λ budget out.
-              (_, ap (λ (a : Ran). a .ended) (reached-runs R kind s t good kept origin sound said k x r budget out));
+          run-accepted = λ budget out. (_, ap (λ (a : Ran). a .ended) (runs-as budget out));
           restore-accepted = reached-restores R kind s t good kept origin sound said k x r;
           save-answers = λ buffer. save-at R good (x .search) buffer passes;
           save-writes = λ buffer. save-wrote R good (x .search) buffer passes;
           progress = progresses;
         }
+
+    -- all that holds of it
+    pub stood : Stood R kind s t origin said k x
+    stood = record {
+      parts = parts-of;
+      search-is = search-stands;
+      trials-are = trials-stand;
+      done-at = done-state;
+      said-done = said-stands;
+      goes-on = goes-on;
+    }

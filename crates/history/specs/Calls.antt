@@ -1,6 +1,6 @@
--- Lists of runs, saves and restores (document 01, "Marks"): which calls are
--- refused, what stands after a list of them, which lists demand 3 speaks of.
--- What a call answers is `runSearch`, `saveAnswer` or `restoreMark`, as the contracts of the entries say.
+-- Lists of runs, saves and restores (document 01, "Marks"): which calls are refused, what stands after a list of them,
+-- which lists demand 3 speaks of. What a call answers is `runSearch`, `saveAnswer` or `restoreMark`, as the contracts
+-- of the entries say.
 use Prim.Native.Nat.{ℕ, _+_}
 use mathlib.Core.Path.{_≡_}
 use mathlib.Core.Logic.{_⊎_}
@@ -21,14 +21,15 @@ use Rattle.search.specs.Place.{freshSearch}
 use Rattle.search.specs.Entries.{runSearch, runOutput}
 use Rattle.search.specs.Mark.{markText, saveAnswer, restoreMark}
 
--- A call, handed anything at all: a run with its budget and output,
--- a save with its buffer, a restore with the bytes of a mark
+-- A call, handed anything at all: a run with its budget and output, a save with its buffer,
+-- a restore with the bytes of a mark
 pub data Call : Type 0 where
   runs : Molecule → Search → ℕ → List ℕ → Call
   saves : Molecule → Search → List ℕ → Call
   restores : Molecule → List ℕ → Call
 
--- What stands: the search, the ring sheet (the records of the runs so far, joined), and the sum of the trials made
+-- What stands: the search, the ring sheet (the records of the runs so far, joined),
+-- and the sum of the trials made
 pub record Standing : Type 0 where
   pub search : Search
   pub sheet : List ℕ
@@ -60,9 +61,8 @@ refused (restores mol mark) = restoreRefused (restoreMark mol mark .answer)
 
 -- ---- what stands after calls
 
--- After an accepted call: a run moves the search, adds the bytes
--- that it used to the sheet and the trials that it made to the sum;
--- a save leaves all as it is; a restore puts the restored search in place
+-- After an accepted call: a run moves the search, adds the bytes that it used to the sheet and the trials that it made
+-- to the sum; a save leaves all as it is; a restore puts the restored search in place
 unfoldable pub afterAccepted : Standing → Call → Standing
 afterAccepted x (runs mol q budget out) =
     let r = runSearch mol q budget out in
@@ -72,7 +72,8 @@ afterAccepted x (runs mol q budget out) =
       made = x .made + r .made;
     }
 afterAccepted x (saves mol q buffer) = x
-afterAccepted x (restores mol mark) = record { search = restoreMark mol mark .search; sheet = x .sheet; made = x .made }
+afterAccepted x (restores mol mark) =
+    record { search = restoreMark mol mark .search; sheet = x .sheet; made = x .made }
 
 -- After any call: a refused one changes nothing
 unfoldable pub afterCall : Standing → Call → Standing
@@ -85,13 +86,15 @@ standing x (call ∷ calls) = standing (afterCall x call) calls
 
 -- ---- the lists that demand 3 speaks of
 
--- The call was handed the record R and the search q; a restore: R and the very bytes that a save of q writes
+-- The call was handed the record R and the search q;
+-- a restore: R and the very bytes that a save of q writes
 abbrev pub Handed : Molecule → Search → Call → Type 0
 Handed R q (runs mol p budget out) = (mol ≡ R) × (p ≡ q)
 Handed R q (saves mol p buffer) = (mol ≡ R) × (p ≡ q)
 Handed R q (restores mol mark) = (mol ≡ R) × (mark ≡ markText R q)
 
--- A call that is refused, whatever it was handed, or that was handed the record and the search as it stands
+-- A call that is refused, whatever it was handed,
+-- or that was handed the record and the search as it stands
 abbrev pub Allowed : Molecule → Standing → Call → Type 0
 Allowed R x call = (refused call ≡ true) ⊎ Handed R (x .search) call
 

@@ -33,7 +33,8 @@ pub record OneList (F : Family) : Type 0 where
   pub beginnings-once : NoRepeats (openWords F)
   pub beginnings-exactly :
       (p : List ℕ) →
-      List·Memᴰ p (openWords F) ↔ ((isEmpty p ≡ false) × (w : List ℕ) × (F .member w ≡ true) × (begins p w ≡ true))
+      List·Memᴰ p (openWords F) ↔
+      ((isEmpty p ≡ false) × (w : List ℕ) × (F .member w ≡ true) × (begins p w ≡ true))
 
 -- Once the search is done, on n atoms
 pub record Whole (n : ℕ) (F : Family) (x : Standing) : Type 0 where
@@ -49,7 +50,8 @@ pub record Whole (n : ℕ) (F : Family) (x : Standing) : Type 0 where
 -- A run of the search q lists a member, or says done, or a count stands at its limit
 abbrev pub Progress : Search → Ran → Type 0
 Progress q r =
-    (q .listed < r .search .listed) ⊎ (r .ended ≡ Stopped Done) ⊎
+    (q .listed < r .search .listed) ⊎
+    (r .ended ≡ Stopped Done) ⊎
     ((r .ended ≡ Stopped Limit) × (atLimit (stateOf (r .search)) ≡ true))
 
 -- Calls handed the record and the search as it stands
@@ -57,22 +59,27 @@ pub record GoesOn (R : Molecule) (x : Standing) : Type 0 where
   -- no run is refused, nor is a restore of the mark of that search: it returns that search;
   -- a save of it is refused only where the buffer is shorter than the mark, and otherwise writes the mark
   pub run-accepted :
-      (budget : ℕ) (out : List ℕ) → (why : Stop) × (runSearch R (x .search) budget out .ended ≡ Stopped why)
+      (budget : ℕ) (out : List ℕ) →
+      (why : Stop) × (runSearch R (x .search) budget out .ended ≡ Stopped why)
   pub restore-accepted : restoreMark R (markText R (x .search)) ≡ acceptedSearch (x .search)
   pub save-answers :
       (buffer : List ℕ) →
-      saveAnswer R (x .search) buffer ≡ cond (leb (length (markText R (x .search))) (length buffer))
-      (Written (length (markText R (x .search)))) (Refused refusal.MarkRoom)
+      saveAnswer R (x .search) buffer ≡
+      cond (leb (length (markText R (x .search))) (length buffer))
+      (Written (length (markText R (x .search))))
+      (Refused refusal.MarkRoom)
   pub save-writes :
       (buffer : List ℕ) → length (markText R (x .search)) ≤ length buffer →
-      saveOutput R (x .search) buffer ≡ markText R (x .search) ++ drop (length (markText R (x .search))) buffer
+      saveOutput R (x .search) buffer ≡
+      markText R (x .search) ++ drop (length (markText R (x .search))) buffer
   -- within 2 × n × n trials and n + 1 bytes a run lists a member or says done, unless a count stands at its limit
   pub progress :
-      (budget : ℕ) (out : List ℕ) → 2 * R .atoms * R .atoms ≤ budget → R .atoms + 1 ≤ length out →
+      (budget : ℕ) (out : List ℕ) →
+      2 * R .atoms * R .atoms ≤ budget → R .atoms + 1 ≤ length out →
       Progress (x .search) (runSearch R (x .search) budget out)
 
--- What demand 3 says of what stands, x, after the calls on the
--- record R that began with the fresh search of a kind, s and t
+-- What demand 3 says of what stands, x, after the calls on the record R
+-- that began with the fresh search of a kind, s and t
 pub record Demand (R : Molecule) (kind s t : ℕ) (calls : List Call) (x : Standing) : Type 0 where
   -- the search is the fresh one after as many trials as were made, still of that kind, s and t
   pub search-is : x .search ≡ searchAt kind s t (steps (familyOf R kind s t) (x .made) fresh)

@@ -1,6 +1,5 @@
--- Calls from an accepted mark (document 01, "Marks"): what holds of
--- the search, the ring sheet and the trials after any list of them.
--- The counts of the mark are taken as they are.
+-- Calls from an accepted mark (document 01, "Marks"): what holds of the search, the ring sheet and the trials after any
+-- list of them. The counts of the mark are taken as they are.
 use Prim.Native.Nat.{ℕ, _+_, _-_, _≤_}
 use mathlib.Core.Path.{_≡_}
 use mathlib.Core.Logic.{_↔_, _⊎_}
@@ -21,12 +20,15 @@ use Rattle.history.specs.Demand.{GoesOn}
 unfoldable pub restoredStart : Search → Standing
 restoredStart q = record { search = q; sheet = []; made = 0 }
 
--- w begins with p and its next atom is at least c, or it comes
--- later in dictionary order than every list beginning with p
+-- w begins with p and its next atom is at least c,
+-- or it comes later in dictionary order than every list beginning with p
 abbrev pub Follows : List ℕ → ℕ → List ℕ → Type 0
-Follows p c w = ((b : ℕ) × (v : List ℕ) × (w ≡ p ++ b ∷ v) × (c ≤ b)) ⊎ ((v : List ℕ) → earlier (p ++ v) w ≡ true)
+Follows p c w =
+    ((b : ℕ) × (v : List ℕ) × (w ≡ p ++ b ∷ v) × (c ≤ b)) ⊎
+    ((v : List ℕ) → earlier (p ++ v) w ≡ true)
 
--- The members that follow the place of a search, its beginning p and next atom c, in their order
+-- The members that follow the place of a search, its beginning p and next atom c,
+-- in their order
 unfoldable pub followers : Molecule → Search → List (List ℕ)
 followers R q = keep (follows (beginning q) (q .next)) (members (family R q))
 
@@ -35,7 +37,8 @@ pub record FollowingList (R : Molecule) (q : Search) : Type 0 where
   pub ascending : Ascending (followers R q)
   pub once : NoRepeats (followers R q)
   pub exactly :
-      (w : List ℕ) → List·Memᴰ w (followers R q) ↔ ((family R q .member w ≡ true) × Follows (beginning q) (q .next) w)
+      (w : List ℕ) →
+      List·Memᴰ w (followers R q) ↔ ((family R q .member w ≡ true) × Follows (beginning q) (q .next) w)
 
 -- Once the search is done
 pub record WholeRest (R : Molecule) (q : Search) (x : Standing) : Type 0 where
@@ -44,7 +47,8 @@ pub record WholeRest (R : Molecule) (q : Search) (x : Standing) : Type 0 where
   -- listed has risen by their number, extensions by that of the non-empty proper beginnings of members that follow
   pub whole-listed : x .search .listed ≡ q .listed + length (followers R q)
   pub whole-extensions :
-      x .search .extensions ≡ q .extensions + length (keep (follows (beginning q) (q .next)) (openWords (family R q)))
+      x .search .extensions ≡
+      q .extensions + length (keep (follows (beginning q) (q .next)) (openWords (family R q)))
 
 -- What holds of what stands, x, after the calls on the record R that began with the search q of a mark
 pub record FromMark (R : Molecule) (q : Search) (calls : List Call) (x : Standing) : Type 0 where
