@@ -4,7 +4,7 @@
 use Prim.Native.Nat.{ℕ, _≤_}
 use native.Mathlib.Omega.{arith}
 use mathlib.Core.Path.{_≡_, ap, _∙_}
-use mathlib.Core.Bool.{true, false, _&&_}
+use mathlib.Core.Bool.{Bool, true, false, _&&_, not}
 use mathlib.Core.List.{List}
 use lib.ListN.{length, length-take}
 use lib.Dec.{eqb}
@@ -16,6 +16,7 @@ use Rattle.refusal.specs.declared.Refusal.{Refusal}
 use Rattle.refusal.specs.declared.Answer.the-variants.{Accepted, Refused}
 use Rattle.refusal.specs.Number.{numberOf}
 use Rattle.molecule.specs.declared.Molecule.{Molecule}
+use Rattle.molecule.proofs.Passed.{refuted, confirmed}
 use Rattle.search.specs.declared.Search.{Search}
 use Rattle.search.specs.declared.Made.{Made}
 use Rattle.search.specs.declared.Ran.{Ran}
@@ -28,48 +29,47 @@ use Rattle.search.specs.Entries.{runSearch, runOutput, endedNumber}
 use Rattle.search.specs.Mark.{saveAnswer, saveOutput}
 use Rattle.search.proofs.MarkLaws.{mark-length, save-written, restorable-facts}
 use Rattle.flat.specs.Codes.{wrongLength, answerCode, molecule}
-use Rattle.flat.specs.Searches.{sizesKept, SearchSize, searchFrom, numbersOf, Packed, sized, savedCode}
+use Rattle.flat.specs.Searches.{sizesKept, SizesTold, SearchSize, searchFrom, numbersOf, Packed, sized, savedCode}
 use Rattle.flat.specs.Searches.{madeNumbers, madePrefix, MadeStored, MadeLeft}
 use Rattle.flat.specs.Searches.{ranNumbers, ranPrefix, RanStored, RunLeft, SaveLeft}
 
--- ---- the lengths of the buffers
+-- ---- the lengths of the buffers, by the branch on their test
 
--- they are kept
-pub record Kept (rows numbers prefix : List ℕ) : Type 0 where
-  pub holds : sizesKept (length rows) (length numbers) (length prefix) ≡ true
+module _ {rows numbers prefix : List ℕ} {answer : Bool} (test : SizesTold rows numbers prefix answer) where
+  -- one of them has not its length
+  module _ (taken : not answer ≡ true) {A : Type 0} (new other : A) where
+    sized-not : other ≡ sized rows numbers prefix new other
+    unfolding sized
+    sized-not = rw (refuted (test .told) taken)
 
--- one is not
-pub record Unkept (rows numbers prefix : List ℕ) : Type 0 where
-  pub fails : sizesKept (length rows) (length numbers) (length prefix) ≡ false
+  -- all have
+  module _ (left : not answer ≡ false) where
+    sized-is : {A : Type 0} {x new : A} → x ≡ new → (other : A) → x ≡ sized rows numbers prefix new other
+    unfolding sized
+    sized-is same other = rw (confirmed (test .told) left) same
 
-module _ {rows numbers prefix : List ℕ} (kept : Kept rows numbers prefix) where
-  abbrev two : Type 0
-  two = (eqb (length rows) 2048 && eqb (length numbers) 10) ≡ true
+    abbrev rows-test : Bool
+    rows-test = eqb (length rows) 2048
 
-  parts : two × (eqb (length prefix) 128 ≡ true)
-  unfolding sizesKept
-  parts = and-parts (eqb (length rows) 2048 && eqb (length numbers) 10) (eqb (length prefix) 128) (kept .holds)
+    abbrev numbers-test : Bool
+    numbers-test = eqb (length numbers) 10
 
-  pub rows-size : length rows ≡ 2048
-  rows-size = eqb-true (length rows) 2048 (and-parts (eqb (length rows) 2048) (eqb (length numbers) 10) (parts .0) .0)
+    abbrev prefix-test : Bool
+    prefix-test = eqb (length prefix) 128
 
-  pub search-size : SearchSize numbers prefix
-  search-size =
-      let first = and-parts (eqb (length rows) 2048) (eqb (length numbers) 10) (parts .0) in
-      record {
-        words = eqb-true (length numbers) 10 (first .1);
-        array = eqb-true (length prefix) 128 (parts .1);
-      }
+    tests : ((rows-test && numbers-test) ≡ true) × (prefix-test ≡ true)
+    unfolding sizesKept
+    tests = and-parts (rows-test && numbers-test) prefix-test (confirmed (test .told) left)
 
-module _ {rows numbers prefix : List ℕ} {A : Type 0} where
-  sized-is :
-      Kept rows numbers prefix → {x answer : A} → x ≡ answer → (other : A) → x ≡ sized rows numbers prefix answer other
-  unfolding sized
-  sized-is kept same other = rw (kept .holds) same
+    pub rows-size : length rows ≡ 2048
+    rows-size = eqb-true (length rows) 2048 (and-parts rows-test numbers-test (tests .0) .0)
 
-  sized-not : Unkept rows numbers prefix → (answer other : A) → other ≡ sized rows numbers prefix answer other
-  unfolding sized
-  sized-not unkept answer other = rw (unkept .fails)
+    pub search-size : SearchSize numbers prefix
+    search-size =
+        record {
+          words = eqb-true (length numbers) 10 (and-parts rows-test numbers-test (tests .0) .1);
+          array = eqb-true (length prefix) 128 (tests .1);
+        }
 
 -- ---- an entry that makes a search
 
@@ -90,25 +90,26 @@ module _ {made : Made} {numbers prefix : List ℕ} {code : ℕ} where
   unfolding madeNumbers madePrefix
   made-refused e is = record { code-is = rw e is; numbers-are = rw e; prefix-is = rw e }
 
-module _ {rows numbers prefix : List ℕ} {made : Made} where
-  pub made-unsized : Unkept rows numbers prefix → MadeLeft rows numbers prefix made wrongLength numbers prefix
-  made-unsized unkept =
+module _ {rows numbers prefix : List ℕ} {answer : Bool} (test : SizesTold rows numbers prefix answer)
+    {made : Made} where
+  pub made-unsized : not answer ≡ true → MadeLeft rows numbers prefix made wrongLength numbers prefix
+  made-unsized taken =
       record {
-        code-is = sized-not unkept (answerCode (made .answer)) wrongLength;
-        numbers-are = sized-not unkept (madeNumbers made numbers) numbers;
-        prefix-is = sized-not unkept (madePrefix made prefix) prefix;
+        code-is = sized-not test taken (answerCode (made .answer)) wrongLength;
+        numbers-are = sized-not test taken (madeNumbers made numbers) numbers;
+        prefix-is = sized-not test taken (madePrefix made prefix) prefix;
       }
 
   -- the code called an entry that made m, and stored it
   pub made-stored :
-      Kept rows numbers prefix → {m : Made} → m ≡ made → {code : ℕ} {words bytes : List ℕ} →
+      not answer ≡ false → {m : Made} → m ≡ made → {code : ℕ} {words bytes : List ℕ} →
       MadeStored m numbers prefix code words bytes → MadeLeft rows numbers prefix made code words bytes
-  made-stored kept same stored =
+  made-stored left same stored =
       let here = rw same at stored in
       record {
-        code-is = sized-is kept (here .code-is) wrongLength;
-        numbers-are = sized-is kept (here .numbers-are) numbers;
-        prefix-is = sized-is kept (here .prefix-is) prefix;
+        code-is = sized-is test left (here .code-is) wrongLength;
+        numbers-are = sized-is test left (here .numbers-are) numbers;
+        prefix-is = sized-is test left (here .prefix-is) prefix;
       }
 
 -- ---- a run
@@ -131,60 +132,61 @@ module _ {ran : Ran} {numbers prefix : List ℕ} {code : ℕ} where
   unfolding ranNumbers ranPrefix
   ran-refused e is = record { code-is = rw e is; numbers-are = rw e; prefix-is = rw e }
 
-module _ {atoms bonds : ℕ} {rows numbers prefix : List ℕ} {budget : ℕ} {out : List ℕ} where
+module _ {rows numbers prefix : List ℕ} {answer : Bool} (test : SizesTold rows numbers prefix answer)
+    {atoms bonds budget : ℕ} {out : List ℕ} where
   pub run-unsized :
-      Unkept rows numbers prefix →
-      RunLeft atoms bonds rows numbers prefix budget out wrongLength numbers prefix out
-  run-unsized unkept =
+      not answer ≡ true → RunLeft atoms bonds rows numbers prefix budget out wrongLength numbers prefix out
+  run-unsized taken =
       let mol = molecule atoms bonds rows in
       let q = searchFrom numbers prefix in
       let ran = runSearch mol q budget out in
       record {
-        code-is = sized-not unkept (endedNumber (ran .ended)) wrongLength;
-        numbers-are = sized-not unkept (ranNumbers ran numbers) numbers;
-        prefix-is = sized-not unkept (ranPrefix ran prefix) prefix;
-        out-is = sized-not unkept (runOutput mol q budget out) out;
+        code-is = sized-not test taken (endedNumber (ran .ended)) wrongLength;
+        numbers-are = sized-not test taken (ranNumbers ran numbers) numbers;
+        prefix-is = sized-not test taken (ranPrefix ran prefix) prefix;
+        out-is = sized-not test taken (runOutput mol q budget out) out;
       }
 
   -- the code ran the search x on the molecule m, and stored what came of it
   pub run-stored :
-      Kept rows numbers prefix → {m : Molecule} → m ≡ molecule atoms bonds rows →
+      not answer ≡ false → {m : Molecule} → m ≡ molecule atoms bonds rows →
       {x : Search} → x ≡ searchFrom numbers prefix →
       {ran : Ran} {output : List ℕ} → (ran ≡ runSearch m x budget out) × (output ≡ runOutput m x budget out) →
       {code : ℕ} {words bytes : List ℕ} → RanStored ran numbers prefix code words bytes →
       RunLeft atoms bonds rows numbers prefix budget out code words bytes output
-  run-stored kept same-mol same-q run stored =
+  run-stored left same-mol same-q run stored =
       let here = rw (rw (same-mol, same-q) at (run .0)) at stored in
       record {
-        code-is = sized-is kept (here .code-is) wrongLength;
-        numbers-are = sized-is kept (here .numbers-are) numbers;
-        prefix-is = sized-is kept (here .prefix-is) prefix;
-        out-is = sized-is kept (rw (same-mol, same-q) at (run .1)) out;
+        code-is = sized-is test left (here .code-is) wrongLength;
+        numbers-are = sized-is test left (here .numbers-are) numbers;
+        prefix-is = sized-is test left (here .prefix-is) prefix;
+        out-is = sized-is test left (rw (same-mol, same-q) at (run .1)) out;
       }
 
 -- ---- a save
 
-module _ {atoms bonds : ℕ} {rows numbers prefix mark : List ℕ} where
-  pub save-unsized : Unkept rows numbers prefix → SaveLeft atoms bonds rows numbers prefix mark wrongLength mark
-  save-unsized unkept =
+module _ {rows numbers prefix : List ℕ} {answer : Bool} (test : SizesTold rows numbers prefix answer)
+    {atoms bonds : ℕ} {mark : List ℕ} where
+  pub save-unsized : not answer ≡ true → SaveLeft atoms bonds rows numbers prefix mark wrongLength mark
+  save-unsized taken =
       let mol = molecule atoms bonds rows in
       let q = searchFrom numbers prefix in
       record {
-        code-is = sized-not unkept (savedCode (saveAnswer mol q mark)) wrongLength;
-        mark-is = sized-not unkept (saveOutput mol q mark) mark;
+        code-is = sized-not test taken (savedCode (saveAnswer mol q mark)) wrongLength;
+        mark-is = sized-not test taken (saveOutput mol q mark) mark;
       }
 
   -- the code saved the search x on the molecule m
   pub save-stored :
-      Kept rows numbers prefix → {m : Molecule} → m ≡ molecule atoms bonds rows →
+      not answer ≡ false → {m : Molecule} → m ≡ molecule atoms bonds rows →
       {x : Search} → x ≡ searchFrom numbers prefix →
-      {answer : Saved} {output : List ℕ} → (answer ≡ saveAnswer m x mark) × (output ≡ saveOutput m x mark) →
-      {code : ℕ} → code ≡ savedCode answer →
+      {saved : Saved} {output : List ℕ} → (saved ≡ saveAnswer m x mark) × (output ≡ saveOutput m x mark) →
+      {code : ℕ} → code ≡ savedCode saved →
       SaveLeft atoms bonds rows numbers prefix mark code output
-  save-stored kept same-mol same-q saved is =
+  save-stored left same-mol same-q save is =
       record {
-        code-is = sized-is kept (is ∙ ap savedCode (rw (same-mol, same-q) at (saved .0))) wrongLength;
-        mark-is = sized-is kept (rw (same-mol, same-q) at (saved .1)) mark;
+        code-is = sized-is test left (is ∙ ap savedCode (rw (same-mol, same-q) at (save .0))) wrongLength;
+        mark-is = sized-is test left (rw (same-mol, same-q) at (save .1)) mark;
       }
 
 -- a mark has at most 91 + 4 × 127 bytes

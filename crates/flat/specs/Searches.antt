@@ -22,8 +22,12 @@ use Rattle.search.specs.Mark.{saveAnswer, saveOutput}
 use Rattle.flat.specs.Codes.{wrongLength, answerCode, ifAccepted, molecule}
 
 -- the rows, the numbers and the array have their lengths
-unfoldable pub sizesKept : ℕ → ℕ → ℕ → Bool
-sizesKept rows numbers prefix = eqb rows 2048 && eqb numbers 10 && eqb prefix 128
+unfoldable pub sizesKept : List ℕ → List ℕ → List ℕ → Bool
+sizesKept rows numbers prefix = eqb (length rows) 2048 && eqb (length numbers) 10 && eqb (length prefix) 128
+
+-- the answer says whether they have
+pub record SizesTold (rows numbers prefix : List ℕ) (answer : Bool) : Type 0 where
+  pub told : answer ≡ sizesKept rows numbers prefix
 
 -- the numbers and the array of a search have their lengths
 pub record SearchSize (numbers prefix : List ℕ) : Type 0 where
@@ -57,7 +61,7 @@ pub record Packed (q : Search) (used made : ℕ) (numbers prefix : List ℕ) : T
 
 -- an answer where the buffers have their lengths, and another where one of them has not
 unfoldable pub sized : {A : Type 0} → List ℕ → List ℕ → List ℕ → A → A → A
-sized rows numbers prefix answer other = cond (sizesKept (length rows) (length numbers) (length prefix)) answer other
+sized rows numbers prefix answer other = cond (sizesKept rows numbers prefix) answer other
 
 -- A made search is written over the buffers where it was accepted
 unfoldable pub madeNumbers : Made → List ℕ → List ℕ

@@ -8,7 +8,7 @@ ghost use Rattle.search.specs.Entries.{startRings, startPaths};
 ghost use Rattle.search.specs.Mark.{restoreMark};
 ghost use Rattle.flat.specs.Codes.{verdictCode, fieldCode, headBytes, flatBytes, molecule};
 ghost use Rattle.flat.specs.Codes.{readCode, readOutput, checkCode, ringCode, pathCode};
-ghost use Rattle.flat.specs.Searches.{sizesKept, SearchSize, searchFrom, Packed, MadeStored, RanStored};
+ghost use Rattle.flat.specs.Searches.{SizesTold, SearchSize, searchFrom, Packed, MadeStored, RanStored};
 ghost use Rattle.flat.specs.Searches.{MadeLeft, RunLeft, SaveLeft};
 use fields::Number;
 use judge::Verdict;
@@ -151,16 +151,16 @@ pub extern "C" fn flat_write_field(field: &mut [u8], value: u64)
 // ---- searches
 
 // Whether the rows, the numbers and the array have their lengths.
-fn sizes_kept(rows: usize, numbers: usize, prefix: usize) -> bool
-    ensures { λ r. ⌜ r ≡ sizesKept rows numbers prefix ⌝ }
+fn sizes_kept(rows: &[u8], numbers: &[u64], prefix: &[u8]) -> bool
+    ensures { λ r. ⌜ SizesTold (now (rows .entry)) (now (numbers .entry)) (now (prefix .entry)) r ⌝ }
 {
-    if rows != 2048 {
+    if rows.len() != 2048 {
         return false;
     }
-    if numbers != 10 {
+    if numbers.len() != 10 {
         return false;
     }
-    prefix == 128
+    prefix.len() == 128
 }
 
 fn copy_words(src: &[u64], dst: &mut [u64])
@@ -272,7 +272,7 @@ pub extern "C" fn flat_start_rings(
         (startRings (molecule atoms bonds (now (rows .entry))))
         r (now (numbers .exit)) (now (prefix .exit)) ⌝ }
 {
-    if !sizes_kept(rows.len(), numbers.len(), prefix.len()) {
+    if !sizes_kept(rows, numbers, prefix) {
         return 200;
     }
     let made = start::start_rings(assemble(atoms, bonds, rows));
@@ -295,7 +295,7 @@ pub extern "C" fn flat_start_paths(
         (startPaths (molecule atoms bonds (now (rows .entry))) s t)
         r (now (numbers .exit)) (now (prefix .exit)) ⌝ }
 {
-    if !sizes_kept(rows.len(), numbers.len(), prefix.len()) {
+    if !sizes_kept(rows, numbers, prefix) {
         return 200;
     }
     let made = start::start_paths(assemble(atoms, bonds, rows), s, t);
@@ -317,7 +317,7 @@ pub extern "C" fn flat_run(
         RunLeft atoms bonds (now (rows .entry)) (now (numbers .entry)) (now (prefix .entry)) budget (now (out .entry))
         r (now (numbers .exit)) (now (prefix .exit)) (now (out .exit)) ⌝ }
 {
-    if !sizes_kept(rows.len(), numbers.len(), prefix.len()) {
+    if !sizes_kept(rows, numbers, prefix) {
         return 200;
     }
     let q = unpack(numbers, prefix);
@@ -339,7 +339,7 @@ pub extern "C" fn flat_save(
         SaveLeft atoms bonds (now (rows .entry)) (now (numbers .entry)) (now (prefix .entry)) (now (mark .entry))
         r (now (mark .exit)) ⌝ }
 {
-    if !sizes_kept(rows.len(), numbers.len(), prefix.len()) {
+    if !sizes_kept(rows, numbers, prefix) {
         return 200;
     }
     let q = unpack(numbers, prefix);
@@ -365,7 +365,7 @@ pub extern "C" fn flat_restore(
         (restoreMark (molecule atoms bonds (now (rows .entry))) (now (mark .entry)))
         r (now (numbers .exit)) (now (prefix .exit)) ⌝ }
 {
-    if !sizes_kept(rows.len(), numbers.len(), prefix.len()) {
+    if !sizes_kept(rows, numbers, prefix) {
         return 200;
     }
     let made = marks::restore(assemble(atoms, bonds, rows), mark);
