@@ -29,7 +29,7 @@ use Rattle.search.specs.Entries.{runSearch, runOutput, endedNumber}
 use Rattle.search.specs.Mark.{saveAnswer, saveOutput}
 use Rattle.search.proofs.MarkLaws.{mark-length, save-written, restorable-facts}
 use Rattle.flat.specs.Codes.{wrongLength, answerCode, molecule}
-use Rattle.flat.specs.Searches.{sizesKept, SizesTold, SearchSize, searchFrom, numbersOf, Packed, sized, savedCode}
+use Rattle.flat.specs.Searches.{sizesKept, SizesTold, SearchSize, searchFrom, Packed, sized, savedCode}
 use Rattle.flat.specs.Searches.{madeNumbers, madePrefix, MadeStored, MadeLeft}
 use Rattle.flat.specs.Searches.{ranNumbers, ranPrefix, RanStored, RunLeft, SaveLeft}
 

@@ -90,8 +90,9 @@ module _ {mol : Molecule} {s t : ℕ} (ends : TwoEnds mol s t) (xs : List ℕ) w
   unfolding judgePath
   path-same-ends same = rw (ends .formed, ends .first, ends .last, eq-eqb s t same)
 
+  -- the code found whether the list is a path
   pub path-judged :
-      (s ≡ t → ⊥) → (b : Bool) → isPath (mol .atoms) (bonded (mol .atoms) (mol .rows)) s t xs ≡ b →
-      answer b ≡ judgePath mol s t xs
+      (s ≡ t → ⊥) → {found : Bool} → found ≡ isPath (mol .atoms) (bonded (mol .atoms) (mol .rows)) s t xs →
+      (b : Bool) → found ≡ b → answer b ≡ judgePath mol s t xs
   unfolding judgePath
-  path-judged apart b is = rw (ends .formed, ends .first, ends .last, ne-eqb s t apart, is)
+  path-judged apart told b is = rw (ends .formed, ends .first, ends .last, ne-eqb s t apart, ← told, is)

@@ -126,29 +126,13 @@ module _ (xs : List ℕ) (i : ℕ) where
   unfolding aboveFirst
   above h = lt-ltb (atomAt xs 0) (atomAt xs (suc i)) (rw (add-one i) at h)
 
--- the definition of a path, test by test
-module _ (n : ℕ) (adj : Adjacency) (s t : ℕ) (xs : List ℕ) where
-  pub path-short : length xs < 1 → false ≡ isPath n adj s t xs
-  unfolding isPath
-  path-short short = rw (lt-leb 1 (length xs) short)
-
-  module _ (long : 1 ≤ length xs) where
-    pub path-out : inRange n xs ≡ false → false ≡ isPath n adj s t xs
-    unfolding isPath
-    path-out out = rw (le-leb 1 (length xs) long, out)
-
-    pub path-start :
-        inRange n xs ≡ true → {a : ℕ} → a ≡ atomAt xs 0 → (a ≡ s → ⊥) → false ≡ isPath n adj s t xs
-    unfolding isPath
-    path-start range {a} first differ = rw (le-leb 1 (length xs) long, range, ← first, ne-eqb a s differ)
-
 -- a list of atoms that begins with s
 pub record Begun (n s : ℕ) (xs : List ℕ) : Type 0 where
   pub long : 1 ≤ length xs
   pub range : inRange n xs ≡ true
   pub first : atomAt xs 0 ≡ s
 
--- the last atom is b
+-- the last atom of such a list is b
 module _ {n s : ℕ} {xs : List ℕ} (begun : Begun n s xs) (adj : Adjacency) (t : ℕ) {b : ℕ} (last : b ≡ lastAtom xs) where
   pub path-end : (b ≡ t → ⊥) → false ≡ isPath n adj s t xs
   unfolding isPath

@@ -25,11 +25,20 @@ pub none-passed : {bound : ℕ} {test : ℕ → Bool} → Passed bound test 0
 none-passed = record { inside = omega arith; all = refl }
 
 module _ {bound : ℕ} {test : ℕ → Bool} {i : ℕ} (passed : Passed bound test i) where
-  pub one-fails : i < bound → test i ≡ false → false ≡ allBelow bound test
-  one-fails more fails = sym (all-fails bound test i more fails)
+  module _ (more : i < bound) where
+    pub one-fails : test i ≡ false → false ≡ allBelow bound test
+    one-fails fails = sym (all-fails bound test i more fails)
 
-  pub one-more : i < bound → test i ≡ true → Passed bound test (i + 1)
-  one-more more passes = record { inside = omega arith; all = all-more i test (passed .all) passes }
+    pub one-more : test i ≡ true → Passed bound test (i + 1)
+    one-more passes = record { inside = omega arith; all = all-more i test (passed .all) passes }
+
+    -- the same by the code's answer and the branch on its negation
+    module _ {answer : Bool} (told : answer ≡ test i) where
+      pub told-fails : not answer ≡ true → false ≡ allBelow bound test
+      told-fails taken = one-fails (refuted told taken)
+
+      pub told-more : not answer ≡ false → Passed bound test (i + 1)
+      told-more left = one-more (confirmed told left)
 
   pub all-passed : bound ≤ i → true ≡ allBelow bound test
   all-passed end = sym (all-done i bound test (passed .inside) end (passed .all))

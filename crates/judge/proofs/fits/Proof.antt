@@ -5,7 +5,7 @@ use mathlib.Core.Path.{_∙_}
 use native.Mathlib.Omega.{arith}
 use lib.ListN.{length}
 use Rattle.molecule.specs.Record.{bonded}
-use Rattle.molecule.proofs.Passed.{Passed, none-passed, one-fails, one-more, all-passed, refuted, confirmed}
+use Rattle.molecule.proofs.Passed.{Passed, none-passed, told-fails, told-more, all-passed}
 use Rattle.judge.specs.Parts.{fitsBefore}
 use Rattle.judge.proofs.Tests.{induces-is}
 use Rattle.judge.proofs.fits.Statement.{statement}
@@ -32,15 +32,14 @@ returns : tie.Need-returns Inv-loop μ-loop
 returns c =
     let loop : Place tie.At-loop = search in
     let turn : Place tie.In-loop = search in
-    let fails = refuted (c .before .fits-before .ensures) (c .if1 .taken) in
-    one-fails (loop .loop .inv) (turn .loop-test .taken) fails ∙ induces-is _ _ _
+    told-fails (loop .loop .inv) (turn .loop-test .taken) (c .before .fits-before .ensures) (c .if1 .taken)
+    ∙ induces-is _ _ _
 
 loop-again : tie.Need-loop-again Inv-loop μ-loop
 loop-again c =
     let loop : Place tie.At-loop = search in
     let turn : Place tie.In-loop = search in
-    let passes = confirmed (c .before .fits-before .ensures) (c .if1 .left) in
-    one-more (loop .loop .inv) (turn .loop-test .taken) passes
+    told-more (loop .loop .inv) (turn .loop-test .taken) (c .before .fits-before .ensures) (c .if1 .left)
 
 returns-2 : tie.Need-returns-2 Inv-loop μ-loop
 returns-2 c = all-passed (c .before .loop .inv) (c .loop-test .left) ∙ induces-is _ _ _

@@ -3,7 +3,7 @@
 use Prim.Native.Nat.{_-_}
 use native.Mathlib.Omega.{arith}
 use Rattle.molecule.specs.Record.{bonded}
-use Rattle.molecule.proofs.Passed.{Passed, none-passed, one-fails, one-more, all-passed, refuted, confirmed}
+use Rattle.molecule.proofs.Passed.{Passed, none-passed, told-fails, told-more, all-passed}
 use Rattle.judge.specs.Parts.{pairFits, fitsBefore}
 use Rattle.judge.proofs.fits_before.Statement.{statement}
 use Rattle.judge.proofs.fits_before.Tie as tie
@@ -30,13 +30,13 @@ unfolding fitsBefore
 returns c =
     let loop : Place tie.At-loop = search in
     let turn : Place tie.In-loop = search in
-    one-fails (loop .loop .inv) (turn .loop-test .taken) (refuted (c .before .pair-fits .ensures) (c .if1 .taken))
+    told-fails (loop .loop .inv) (turn .loop-test .taken) (c .before .pair-fits .ensures) (c .if1 .taken)
 
 loop-again : tie.Need-loop-again Inv-loop μ-loop
 loop-again c =
     let loop : Place tie.At-loop = search in
     let turn : Place tie.In-loop = search in
-    one-more (loop .loop .inv) (turn .loop-test .taken) (confirmed (c .before .pair-fits .ensures) (c .if1 .left))
+    told-more (loop .loop .inv) (turn .loop-test .taken) (c .before .pair-fits .ensures) (c .if1 .left)
 
 returns-2 : tie.Need-returns-2 Inv-loop μ-loop
 unfolding fitsBefore

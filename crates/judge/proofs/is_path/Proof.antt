@@ -1,10 +1,12 @@
 -- Whether a list is a path from s to t.
 -- Each return by the tests of `isPath` in their order.
 use mathlib.Core.Path.{sym, _∙_}
+use borrow.Author.Needs.{needs}
+use borrow.Author.Tests.{le-leb, lt-leb, ne-eqb}
+use Rattle.graph.specs.Chordless.{isPath}
 use Rattle.molecule.proofs.Passed.{refuted, confirmed}
 use Rattle.judge.specs.Parts.{Atoms}
-use Rattle.judge.proofs.Tests.{Begun, path-short, path-out, path-start, path-end, path-fits}
-use borrow.Author.Needs.{needs}
+use Rattle.judge.proofs.Tests.{Begun, path-end, path-fits}
 use Rattle.judge.proofs.is_path.Statement.{statement}
 use Rattle.judge.proofs.is_path.Tie as tie
 
@@ -38,17 +40,21 @@ begun c =
 -- ---- the needs
 
 returns : tie.Need-returns
-returns c = path-short _ _ _ _ _ (c .if1 .taken)
+unfolding isPath
+returns c = rw (lt-leb 1 _ (c .if1 .taken))
 
 returns-2 : tie.Need-returns-2
+unfolding isPath
 returns-2 c =
-    path-out _ _ _ _ _ (c .before .before .if1 .left) (refuted (c .before .in-range .ensures) (c .if2 .taken))
+    let long : tie.Else1 = search in
+    rw (le-leb 1 _ (long .if1 .left), refuted (c .before .in-range .ensures) (c .if2 .taken))
 
 returns-3 : tie.Need-returns-3
+unfolding isPath
 returns-3 c =
     let long : tie.Else1 = search in
-    path-start _ _ _ _ _ (long .if1 .left) (atoms (search) .range) (c .before .u8-usize .ensures .same)
-    (c .if3 .taken)
+    let first = c .before .u8-usize .ensures .same in
+    rw (le-leb 1 _ (long .if1 .left), atoms (search) .range, ne-eqb _ _ (λ e. c .if3 .taken (first ∙ e)))
 
 returns-4 : tie.Need-returns-4
 returns-4 c = path-end (begun (search)) _ _ (c .before .u8-usize2 .ensures .same) (c .if4 .taken)

@@ -1,6 +1,6 @@
 -- A list judged as a path from s to t.
 -- Rules 9, 10 and 11 first, then the definition.
-use mathlib.Core.Path.{_≡_, sym, _∙_}
+use mathlib.Core.Path.{_≡_}
 use mathlib.Core.Bool.{true, false}
 use Rattle.molecule.specs.Record.{wellFormed, isAtom}
 use Rattle.molecule.proofs.Bonds.{rule9}
@@ -63,14 +63,12 @@ is-path-requires c κs = rule9 _ (formed (search)) .atoms-high
 returns-5 : tie.Need-returns-5
 returns-5 c =
     let apart : tie.Else4 = search in
-    path-judged (ends (search)) _ (apart .if4 .left) true
-    (sym (c .before .is-path .ensures) ∙ c .if5 .taken)
+    path-judged (ends (search)) _ (apart .if4 .left) (c .before .is-path .ensures) true (c .if5 .taken)
 
 returns-6 : tie.Need-returns-6
 returns-6 c =
     let apart : tie.Else4 = search in
-    path-judged (ends (search)) _ (apart .if4 .left) false
-    (sym (c .before .is-path .ensures) ∙ c .if5 .left)
+    path-judged (ends (search)) _ (apart .if4 .left) (c .before .is-path .ensures) false (c .if5 .left)
 
 pub judge-path-spec : {M : Type 1} → statement M
 judge-path-spec =

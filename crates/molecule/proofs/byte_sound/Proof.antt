@@ -6,7 +6,7 @@ use native.Mathlib.Omega.{arith}
 use borrow.Author.Needs.{needs}
 use Rattle.molecule.specs.Parts.{bitSound, byteSound}
 use Rattle.molecule.proofs.Checks.{zero-byte}
-use Rattle.molecule.proofs.Passed.{Passed, none-passed, one-fails, one-more, all-passed, refuted, confirmed}
+use Rattle.molecule.proofs.Passed.{Passed, none-passed, told-fails, told-more, all-passed}
 use Rattle.molecule.proofs.byte_sound.Statement.{statement}
 use Rattle.molecule.proofs.byte_sound.Tie as tie
 
@@ -30,13 +30,13 @@ unfolding byteSound
 returns-2 c =
     let loop : Place tie.At-loop = search in
     let turn : Place tie.In-loop = search in
-    one-fails (loop .loop .inv) (turn .loop-test .taken) (refuted (c .before .bit-sound .ensures) (c .if2 .taken))
+    told-fails (loop .loop .inv) (turn .loop-test .taken) (c .before .bit-sound .ensures) (c .if2 .taken)
 
 loop-again : tie.Need-loop-again Inv-loop μ-loop
 loop-again c =
     let loop : Place tie.At-loop = search in
     let turn : Place tie.In-loop = search in
-    one-more (loop .loop .inv) (turn .loop-test .taken) (confirmed (c .before .bit-sound .ensures) (c .if2 .left))
+    told-more (loop .loop .inv) (turn .loop-test .taken) (c .before .bit-sound .ensures) (c .if2 .left)
 
 returns-3 : tie.Need-returns-3 Inv-loop μ-loop
 unfolding byteSound

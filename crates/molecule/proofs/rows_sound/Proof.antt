@@ -3,7 +3,7 @@
 use Prim.Native.Nat.{_-_}
 use native.Mathlib.Omega.{arith}
 use Rattle.molecule.specs.Parts.{byteSound, rowsSound}
-use Rattle.molecule.proofs.Passed.{Passed, none-passed, one-fails, one-more, all-passed, refuted, confirmed}
+use Rattle.molecule.proofs.Passed.{Passed, none-passed, told-fails, told-more, all-passed}
 use Rattle.molecule.proofs.rows_sound.Statement.{statement}
 use Rattle.molecule.proofs.rows_sound.Tie as tie
 
@@ -24,13 +24,13 @@ unfolding rowsSound
 returns c =
     let loop : Place tie.At-loop = search in
     let turn : Place tie.In-loop = search in
-    one-fails (loop .loop .inv) (turn .loop-test .taken) (refuted (c .before .byte-sound .ensures) (c .if1 .taken))
+    told-fails (loop .loop .inv) (turn .loop-test .taken) (c .before .byte-sound .ensures) (c .if1 .taken)
 
 loop-again : tie.Need-loop-again Inv-loop μ-loop
 loop-again c =
     let loop : Place tie.At-loop = search in
     let turn : Place tie.In-loop = search in
-    one-more (loop .loop .inv) (turn .loop-test .taken) (confirmed (c .before .byte-sound .ensures) (c .if1 .left))
+    told-more (loop .loop .inv) (turn .loop-test .taken) (c .before .byte-sound .ensures) (c .if1 .left)
 
 returns-2 : tie.Need-returns-2 Inv-loop μ-loop
 unfolding rowsSound
