@@ -14,13 +14,13 @@ pub record Atoms (n : ℕ) (xs : List ℕ) : Type 0 where
   pub range : inRange n xs ≡ true
 
 -- and j is a place of it
-pub record Place (n : ℕ) (xs : List ℕ) (j : ℕ) : Type 0 where
+pub record OnePlace (n : ℕ) (xs : List ℕ) (j : ℕ) : Type 0 where
   pub atoms : Atoms n xs
   pub inside : j < length xs
 
 -- and i is a place before j
 pub record TwoPlaces (n : ℕ) (xs : List ℕ) (i j : ℕ) : Type 0 where
-  pub later : Place n xs j
+  pub later : OnePlace n xs j
   pub before : i < j
 
 unfoldable pub pairFits : Adjacency → ℕ → List ℕ → ℕ → ℕ → Bool

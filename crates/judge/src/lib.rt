@@ -5,7 +5,7 @@ ghost use lib.ListN.{length};
 ghost use Rattle.graph.specs.Chordless.{inRange, induces, alongRing, isPath};
 ghost use Rattle.molecule.specs.Record.{bonded};
 ghost use Rattle.judge.specs.Verdict.{judgeRing, judgePath};
-ghost use Rattle.judge.specs.Parts.{Atoms, Place, TwoPlaces, pairFits, fitsBefore, lowestFirst};
+ghost use Rattle.judge.specs.Parts.{Atoms, OnePlace, TwoPlaces, pairFits, fitsBefore, lowestFirst};
 use molecule::Molecule;
 use refusal::Refusal;
 use widen::u8_usize;
@@ -69,7 +69,7 @@ fn pair_fits(rows: &[u8; 2048], n: usize, k: usize, xs: &[u8], i: usize, j: usiz
 
 // The same of place j with every place before it.
 fn fits_before(rows: &[u8; 2048], n: usize, k: usize, xs: &[u8], j: usize) -> bool
-    requires { ⌜ Place n (now xs) j ⌝ }
+    requires { ⌜ OnePlace n (now xs) j ⌝ }
     ensures { λ r. ⌜ r ≡ fitsBefore (bonded n (now (rows .entry))) k (now (xs .entry)) j ⌝ }
 {
     let mut i: usize = 0;

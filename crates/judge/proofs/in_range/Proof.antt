@@ -26,22 +26,25 @@ returns : tie.Need-returns Inv-loop μ-loop
 returns c =
     let loop : Place tie.At-loop = search in
     let turn : Place tie.In-loop = search in
-    let low = out-low _ _ _ (c .before .u8-usize .ensures .same) (c .if1 .taken) in
+    let read : Place tie.After-u8-usize = search in
+    let low = out-low _ _ _ (read .u8-usize .ensures .same) (c .if1 .taken) in
     one-fails (loop .loop .inv) (turn .loop-test .taken) low ∙ in-range-is _ _
 
 returns-2 : tie.Need-returns-2 Inv-loop μ-loop
 returns-2 c =
     let loop : Place tie.At-loop = search in
     let turn : Place tie.In-loop = search in
-    let high = out-high _ _ _ (c .before .before .u8-usize .ensures .same) (c .before .if1 .left) (c .if2 .taken) in
+    let read : Place tie.After-u8-usize = search in
+    let high = out-high _ _ _ (read .u8-usize .ensures .same) (c .before .if1 .left) (c .if2 .taken) in
     one-fails (loop .loop .inv) (turn .loop-test .taken) high ∙ in-range-is _ _
 
 loop-again : tie.Need-loop-again Inv-loop μ-loop
 loop-again c =
     let loop : Place tie.At-loop = search in
     let turn : Place tie.In-loop = search in
+    let read : Place tie.After-u8-usize = search in
     one-more (loop .loop .inv) (turn .loop-test .taken)
-    (inside _ _ _ (c .before .before .u8-usize .ensures .same) (c .before .if1 .left) (c .if2 .left))
+    (inside _ _ _ (read .u8-usize .ensures .same) (c .before .if1 .left) (c .if2 .left))
 
 returns-3 : tie.Need-returns-3 Inv-loop μ-loop
 returns-3 c = all-passed (c .before .loop .inv) (c .loop-test .left) ∙ in-range-is _ _
