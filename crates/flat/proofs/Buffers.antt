@@ -5,19 +5,20 @@ use native.Mathlib.Numerals.{add-one}
 use native.Mathlib.Omega.{arith}
 use mathlib.Core.Path.{_≡_, refl, ap, ap₂, sym, _∙_}
 use mathlib.Core.List.{List, [], _∷_, _++_, append-nil}
-use lib.ListN.{length, take, drop, getD, set, length-take, length-append, drop-of-length-le}
+use lib.ListN.{length, take, drop, getD, set, length-take, length-append, length-set, drop-of-length-le}
 use lib.Seq.{take-all, take-at, drop-at, take-suc, take-suc-set}
 use borrow.Author.Tests.{eq-eqb, ne-eqb}
 use borrow.Rule.Slice.PartMut.{putMid, postOf}
 use Rattle.refusal.specs.declared.Refusal.{Refusal}
 use Rattle.refusal.specs.declared.Answer.the-variants.{Accepted, Refused}
 use Rattle.refusal.specs.Number.{numberOf}
+use Rattle.sheet.specs.declared.SheetAnswer.{SheetAnswer}
 use Rattle.sheet.specs.Read.{readSheet}
 use Rattle.flat.specs.Codes.{flatBytes, readCode, readOutput}
 
 pub four-set :
-    (xs : List ℕ) (a b c d : ℕ) → 4 ≤ length xs → set (set (set (set xs 0 a) 1 b) 2 c) 3 d ≡
-    (a ∷ b ∷ c ∷ d ∷ []) ++ drop 4 xs
+    (xs : List ℕ) (a b c d : ℕ) → 4 ≤ length xs →
+    set (set (set (set xs 0 a) 1 b) 2 c) 3 d ≡ (a ∷ b ∷ c ∷ d ∷ []) ++ drop 4 xs
 four-set [] a b c d h = absurd (omega arith)
 four-set (x ∷ []) a b c d h = absurd (omega arith)
 four-set (x ∷ y ∷ []) a b c d h = absurd (omega arith)
@@ -27,19 +28,34 @@ four-set (x ∷ y ∷ z ∷ w ∷ xs) a b c d h = refl
 -- a source as long as the target fills it
 pub filled :
     (src dst out : List ℕ) → length dst ≤ length src → out ≡ take (length src) src ++ drop (length src) dst → out ≡ src
-filled src dst out h e =
-    e ∙ ap₂ (λ a b. a ++ b) (take-all (length src) src (omega arith)) (drop-of-length-le dst h) ∙ append-nil src
+filled src dst out h copied =
+    let whole = take-all (length src) src (omega arith) in
+    let nothing = drop-of-length-le dst h in
+    copied ∙ ap₂ (λ a b. a ++ b) whole nothing ∙ append-nil src
 
--- one word more of a source is in the target
-pub word-copied :
-    (src dst : List ℕ) (i : ℕ) → i < length src → i < length dst → take i dst ≡ take i src →
-    take (i + 1) (set dst i (getD src i 0)) ≡ take (i + 1) src
-word-copied src dst i in-src in-dst e =
-    rw (add-one, take-suc-set dst i (getD src i 0) in-dst, take-suc src i 0 in-src, e)
+-- the first i words of a source are in the target dst, which was old
+pub record Copied (src old dst : List ℕ) (i : ℕ) : Type 0 where
+  pub inside : i ≤ length src
+  pub size : length dst ≡ length old
+  pub same : take i dst ≡ take i src
 
-pub all-copied :
-    (src dst : List ℕ) (i : ℕ) → length dst ≡ length src → length src ≤ i → take i dst ≡ take i src → dst ≡ src
-all-copied src dst i same past e = sym (take-all i dst (omega arith)) ∙ e ∙ take-all i src past
+pub copied-none : {src old : List ℕ} → Copied src old old 0
+copied-none = record { inside = omega arith; size = refl; same = refl }
+
+module _ {src old dst : List ℕ} {i : ℕ} (copied : Copied src old dst i) (sizes : length old ≡ length src) where
+  pub copied-more : i < length src → Copied src old (set dst i (getD src i 0)) (i + 1)
+  copied-more more =
+      let room : i < length dst = omega (arith, copied .size) in
+      record {
+        inside = omega arith;
+        size = length-set dst i (getD src i 0) ∙ copied .size;
+        same = rw (add-one, take-suc-set dst i (getD src i 0) room, take-suc src i 0 more, copied .same);
+      }
+
+  pub copied-all : length src ≤ i → dst ≡ src
+  copied-all end =
+      let short : length dst ≤ i = omega (arith, copied .size) in
+      sym (take-all i dst short) ∙ copied .same ∙ take-all i src end
 
 -- rows behind a head of four bytes
 pub behind-head :
@@ -47,19 +63,22 @@ pub behind-head :
     part ≡ take (length rows) rows ++ drop (length rows) (take (length out - 4) (drop 4 out)) →
     putMid 4 (length out - 4) out part ≡ head ++ rows
 behind-head head rest rows out part four same whole copied =
-    ap₂ (λ a b. a ++ b) (ap (take 4) whole ∙ take-at head rest 4 four)
-    (ap₂ (λ a b. a ++ b) part-is post-is ∙ append-nil rows)
+    ap₂ (λ a b. a ++ b) head-is (ap₂ (λ a b. a ++ b) part-is post-is ∙ append-nil rows)
   where
+    head-is : take 4 out ≡ head
+    head-is = ap (take 4) whole ∙ take-at head rest 4 four
+
     tail-is : drop 4 out ≡ rest
     tail-is = ap (drop 4) whole ∙ drop-at head rest 4 four
 
     size : length out ≡ 4 + length rest
     size = ap length whole ∙ length-append head rest ∙ ap (λ k. k + length rest) four
 
+    room : length (take (length out - 4) (drop 4 out)) ≤ length rows
+    room = let whole-size = size in rw (tail-is, length-take (length out - 4) rest) (omega arith)
+
     part-is : part ≡ rows
-    part-is =
-        filled rows (take (length out - 4) (drop 4 out)) part
-        (let whole-size = size in rw (tail-is, length-take (length out - 4) rest) (omega arith)) copied
+    part-is = filled rows (take (length out - 4) (drop 4 out)) part room copied
 
     short : length (drop 4 out) ≤ length out - 4
     short = let whole-size = size in rw tail-is (omega arith)
@@ -69,19 +88,23 @@ behind-head head rest rows out part four same whole copied =
 
 -- what reading a sheet returns and writes, by its answer
 module _ (sheet out : List ℕ) where
-  pub read-wrong-length : (length out ≡ 2052 → ⊥) → (200 ≡ readCode sheet out) × (out ≡ readOutput sheet out)
+  abbrev Left : ℕ → List ℕ → Type 0
+  Left code out′ = (code ≡ readCode sheet out) × (out′ ≡ readOutput sheet out)
+
+  pub read-wrong-length : (length out ≡ 2052 → ⊥) → Left 200 out
   unfolding readCode readOutput
-  read-wrong-length h = (rw (ne-eqb (length out) 2052 h), rw (ne-eqb (length out) 2052 h))
+  read-wrong-length wrong = (rw (ne-eqb (length out) 2052 wrong), rw (ne-eqb (length out) 2052 wrong))
 
-  module _ (size : length out ≡ 2052) where
-    pub read-accepted :
-        readSheet sheet .answer ≡ Accepted →
-        (0 ≡ readCode sheet out) × (flatBytes (readSheet sheet .molecule) ≡ readOutput sheet out)
+  -- the code read the sheet
+  module _ (size : length out ≡ 2052) {read : SheetAnswer} (same : read ≡ readSheet sheet) where
+    pub read-accepted : read .answer ≡ Accepted → {out′ : List ℕ} → out′ ≡ flatBytes (read .molecule) → Left 0 out′
     unfolding readCode readOutput
-    read-accepted e = (rw (eq-eqb (length out) 2052 size, e), rw (eq-eqb (length out) 2052 size, e))
+    read-accepted accepted written =
+        let answer = rw same at accepted in
+        (rw (eq-eqb (length out) 2052 size, answer), rw (eq-eqb (length out) 2052 size, answer) (rw same at written))
 
-    pub read-refused :
-        (r : Refusal) → readSheet sheet .answer ≡ Refused r → (numberOf r ≡ readCode sheet out) ×
-        (out ≡ readOutput sheet out)
+    pub read-refused : {r : Refusal} → read .answer ≡ Refused r → {code : ℕ} → code ≡ numberOf r → Left code out
     unfolding readCode readOutput
-    read-refused r e = (rw (eq-eqb (length out) 2052 size, e), rw (eq-eqb (length out) 2052 size, e))
+    read-refused refused is =
+        let answer = rw same at refused in
+        (rw (eq-eqb (length out) 2052 size, answer) is, rw (eq-eqb (length out) 2052 size, answer))

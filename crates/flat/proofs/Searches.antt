@@ -3,8 +3,8 @@
 -- The definitions go by the test of the lengths, and then by the cases of the answer.
 use Prim.Native.Nat.{ℕ, _≤_}
 use native.Mathlib.Omega.{arith}
-use mathlib.Core.Path.{_≡_, ap, ap₂, _∙_, subst}
-use mathlib.Core.Bool.{Bool, true, false, _&&_}
+use mathlib.Core.Path.{_≡_, ap, _∙_}
+use mathlib.Core.Bool.{Bool, true, false, _&&_, not}
 use mathlib.Core.List.{List}
 use lib.ListN.{length, length-take}
 use lib.Dec.{eqb}
@@ -16,6 +16,7 @@ use Rattle.refusal.specs.declared.Refusal.{Refusal}
 use Rattle.refusal.specs.declared.Answer.the-variants.{Accepted, Refused}
 use Rattle.refusal.specs.Number.{numberOf}
 use Rattle.molecule.specs.declared.Molecule.{Molecule}
+use Rattle.molecule.proofs.Passed.{refuted, confirmed}
 use Rattle.search.specs.declared.Search.{Search}
 use Rattle.search.specs.declared.Made.{Made}
 use Rattle.search.specs.declared.Ran.{Ran}
@@ -24,131 +25,169 @@ use Rattle.search.specs.declared.Ended.the-variants as ended
 use Rattle.search.specs.declared.Saved.{Saved}
 use Rattle.search.specs.declared.Saved.the-variants.{Written}
 use Rattle.search.specs.Place.{beginning}
-use Rattle.search.specs.Entries.{endedNumber}
+use Rattle.search.specs.Entries.{runSearch, runOutput, endedNumber}
 use Rattle.search.specs.Mark.{saveAnswer, saveOutput}
 use Rattle.search.proofs.MarkLaws.{mark-length, save-written, restorable-facts}
-use Rattle.flat.specs.Codes.{wrongLength, answerCode}
-use Rattle.flat.specs.Searches.{sizesKept, numbersOf, sized, madeNumbers, madePrefix, ranNumbers, ranPrefix, savedCode}
+use Rattle.flat.specs.Codes.{wrongLength, answerCode, molecule}
+use Rattle.flat.specs.Searches.{sizesKept, SizesTold, SearchSize, searchFrom, Packed, sized, savedCode}
+use Rattle.flat.specs.Searches.{madeNumbers, madePrefix, MadeStored, MadeLeft}
+use Rattle.flat.specs.Searches.{ranNumbers, ranPrefix, RanStored, RunLeft, SaveLeft}
 
-module _ (rows numbers prefix : List ℕ) where
-  abbrev Kept : Bool
-  Kept = sizesKept (length rows) (length numbers) (length prefix)
+-- ---- the lengths of the buffers, by the branch on their test
 
-  pub sizes-of : Kept ≡ true → (length rows ≡ 2048) × (length numbers ≡ 10) × (length prefix ≡ 128)
-  unfolding sizesKept
-  sizes-of e =
-      let both = and-parts (eqb (length rows) 2048 && eqb (length numbers) 10) (eqb (length prefix) 128) e in
-      let first = and-parts (eqb (length rows) 2048) (eqb (length numbers) 10) (both .0) in (
-        eqb-true (length rows) 2048 (first .0),
-        eqb-true (length numbers) 10 (first .1),
-        eqb-true (length prefix) 128 (both .1),
-      )
-
-  module _ {A : Type 0} (answer other : A) where
-    pub sized-is : (x : A) → Kept ≡ true → x ≡ answer → x ≡ sized rows numbers prefix answer other
+module _ {rows numbers prefix : List ℕ} {answer : Bool} (test : SizesTold rows numbers prefix answer) where
+  -- one of them has not its length
+  module _ (taken : not answer ≡ true) {A : Type 0} (new other : A) where
+    sized-not : other ≡ sized rows numbers prefix new other
     unfolding sized
-    sized-is x e same = rw e same
+    sized-not = rw (refuted (test .told) taken)
 
-    pub sized-not : Kept ≡ false → other ≡ sized rows numbers prefix answer other
+  -- all have
+  module _ (left : not answer ≡ false) where
+    sized-is : {A : Type 0} {x new : A} → x ≡ new → (other : A) → x ≡ sized rows numbers prefix new other
     unfolding sized
-    sized-not e = rw e
+    sized-is same other = rw (confirmed (test .told) left) same
 
-  -- a code, and the numbers and the array after a call: what they are where the lengths are kept
-  abbrev Answered : ℕ → List ℕ → List ℕ → ℕ → List ℕ → List ℕ → Type 0
-  Answered code words bytes code′ words′ bytes′ =
-      (code ≡ sized rows numbers prefix code′ wrongLength) ×
-      ((words ≡ sized rows numbers prefix words′ numbers) × (bytes ≡ sized rows numbers prefix bytes′ prefix))
+    abbrev rows-test : Bool
+    rows-test = eqb (length rows) 2048
 
-  unsized : (code : ℕ) (words bytes : List ℕ) → Kept ≡ false → Answered wrongLength numbers prefix code words bytes
-  unsized code words bytes e = (sized-not code wrongLength e, (sized-not words numbers e, sized-not bytes prefix e))
+    abbrev numbers-test : Bool
+    numbers-test = eqb (length numbers) 10
 
-  stored :
-      (code code′ : ℕ) (words words′ bytes bytes′ : List ℕ) → Kept ≡ true → (code ≡ code′) × (words ≡ words′) ×
-      (bytes ≡ bytes′) → Answered code words bytes code′ words′ bytes′
-  stored code code′ words words′ bytes bytes′ e same = (
-    sized-is code′ wrongLength code e (same .0),
-    (sized-is words′ numbers words e (same .1), sized-is bytes′ prefix bytes e (same .2)),
-  )
+    abbrev prefix-test : Bool
+    prefix-test = eqb (length prefix) 128
 
-  -- an entry that makes a search
-  module _ (made : Made) where
-    pub made-unsized :
-        Kept ≡ false → Answered wrongLength numbers prefix (answerCode (made .answer)) (madeNumbers made numbers)
-        (madePrefix made prefix)
-    made-unsized e = unsized (answerCode (made .answer)) (madeNumbers made numbers) (madePrefix made prefix) e
+    tests : ((rows-test && numbers-test) ≡ true) × (prefix-test ≡ true)
+    unfolding sizesKept
+    tests = and-parts (rows-test && numbers-test) prefix-test (confirmed (test .told) left)
 
-    pub made-stored :
-        Kept ≡ true → (m : Made) → m ≡ made → (code : ℕ) (words bytes : List ℕ) → (code ≡ answerCode (m .answer)) ×
-        (words ≡ madeNumbers m numbers) × (bytes ≡ madePrefix m prefix) →
-        Answered code words bytes (answerCode (made .answer)) (madeNumbers made numbers) (madePrefix made prefix)
-    made-stored e m same code words bytes h =
-        stored code (answerCode (made .answer)) words (madeNumbers made numbers) bytes (madePrefix made prefix) e
-        (subst (λ (x : Made). (code ≡ answerCode (x .answer)) × (words ≡ madeNumbers x numbers) ×
-        (bytes ≡ madePrefix x prefix)) same h)
+    pub rows-size : length rows ≡ 2048
+    rows-size = eqb-true (length rows) 2048 (and-parts rows-test numbers-test (tests .0) .0)
 
-  -- a run
-  module _ (ran : Ran) where
-    pub ran-unsized :
-        Kept ≡ false → Answered wrongLength numbers prefix (endedNumber (ran .ended)) (ranNumbers ran numbers)
-        (ranPrefix ran prefix)
-    ran-unsized e = unsized (endedNumber (ran .ended)) (ranNumbers ran numbers) (ranPrefix ran prefix) e
+    pub search-size : SearchSize numbers prefix
+    search-size =
+        record {
+          words = eqb-true (length numbers) 10 (and-parts rows-test numbers-test (tests .0) .1);
+          array = eqb-true (length prefix) 128 (tests .1);
+        }
 
-    pub ran-stored :
-        Kept ≡ true → (r : Ran) → r ≡ ran → (code : ℕ) (words bytes : List ℕ) → (code ≡ endedNumber (r .ended)) ×
-        (words ≡ ranNumbers r numbers) × (bytes ≡ ranPrefix r prefix) →
-        Answered code words bytes (endedNumber (ran .ended)) (ranNumbers ran numbers) (ranPrefix ran prefix)
-    ran-stored e r same code words bytes h =
-        stored code (endedNumber (ran .ended)) words (ranNumbers ran numbers) bytes (ranPrefix ran prefix) e
-        (subst (λ (x : Ran). (code ≡ endedNumber (x .ended)) × (words ≡ ranNumbers x numbers) ×
-        (bytes ≡ ranPrefix x prefix)) same h)
+-- ---- an entry that makes a search
 
-  -- a save
-  module _ (mol : Molecule) (q : Search) (mark : List ℕ) where
-    pub save-unsized :
-        Kept ≡ false → (wrongLength ≡ sized rows numbers prefix (savedCode (saveAnswer mol q mark)) wrongLength) ×
-        (mark ≡ sized rows numbers prefix (saveOutput mol q mark) mark)
-    save-unsized e =
-        (sized-not (savedCode (saveAnswer mol q mark)) wrongLength e, sized-not (saveOutput mol q mark) mark e)
-
-    pub save-stored :
-        Kept ≡ true → (m : Molecule) → m ≡ mol → (x : Search) → x ≡ q → (answer : Saved) (out : List ℕ) →
-        (answer ≡ saveAnswer m x mark) × (out ≡ saveOutput m x mark) → (code : ℕ) → code ≡ savedCode answer →
-        (code ≡ sized rows numbers prefix (savedCode (saveAnswer mol q mark)) wrongLength) ×
-        (out ≡ sized rows numbers prefix (saveOutput mol q mark) mark)
-    save-stored e m same-mol x same-q answer out saved code is = (
-      sized-is (savedCode (saveAnswer mol q mark)) wrongLength code e
-          (is ∙ ap savedCode (saved .0 ∙ ap₂ (λ a b. saveAnswer a b mark) same-mol same-q)),
-      sized-is (saveOutput mol q mark) mark out e (saved .1 ∙ ap₂ (λ a b. saveOutput a b mark) same-mol same-q),
-    )
-
--- a made search, by its answer
-module _ (made : Made) (numbers prefix : List ℕ) where
+module _ {made : Made} {numbers prefix : List ℕ} {code : ℕ} where
   pub made-accepted :
-      made .answer ≡ Accepted → (0 ≡ answerCode (made .answer)) ×
-      (numbersOf (made .search) 0 0 ≡ madeNumbers made numbers) × (made .search .prefix ≡ madePrefix made prefix)
+      {words bytes : List ℕ} → made .answer ≡ Accepted → code ≡ 0 → Packed (made .search) 0 0 words bytes →
+      MadeStored made numbers prefix code words bytes
   unfolding madeNumbers madePrefix
-  made-accepted e = (rw e, rw e, rw e)
+  made-accepted e is packed =
+      record {
+        code-is = rw e is;
+        numbers-are = rw e (packed .words-are);
+        prefix-is = rw e (packed .array-is);
+      }
 
   pub made-refused :
-      (r : Refusal) → made .answer ≡ Refused r → (numberOf r ≡ answerCode (made .answer)) ×
-      (numbers ≡ madeNumbers made numbers) × (prefix ≡ madePrefix made prefix)
+      {r : Refusal} → made .answer ≡ Refused r → code ≡ numberOf r → MadeStored made numbers prefix code numbers prefix
   unfolding madeNumbers madePrefix
-  made-refused r e = (rw e, rw e, rw e)
+  made-refused e is = record { code-is = rw e is; numbers-are = rw e; prefix-is = rw e }
 
--- a run, by its end
-module _ (ran : Ran) (numbers prefix : List ℕ) where
+module _ {rows numbers prefix : List ℕ} {answer : Bool} (test : SizesTold rows numbers prefix answer)
+    {made : Made} where
+  pub made-unsized : not answer ≡ true → MadeLeft rows numbers prefix made wrongLength numbers prefix
+  made-unsized taken =
+      record {
+        code-is = sized-not test taken (answerCode (made .answer)) wrongLength;
+        numbers-are = sized-not test taken (madeNumbers made numbers) numbers;
+        prefix-is = sized-not test taken (madePrefix made prefix) prefix;
+      }
+
+  -- the code called an entry that made m, and stored it
+  pub made-stored :
+      not answer ≡ false → {m : Made} → m ≡ made → {code : ℕ} {words bytes : List ℕ} →
+      MadeStored m numbers prefix code words bytes → MadeLeft rows numbers prefix made code words bytes
+  made-stored left same stored =
+      let here = rw same at stored in
+      record {
+        code-is = sized-is test left (here .code-is) wrongLength;
+        numbers-are = sized-is test left (here .numbers-are) numbers;
+        prefix-is = sized-is test left (here .prefix-is) prefix;
+      }
+
+-- ---- a run
+
+module _ {ran : Ran} {numbers prefix : List ℕ} {code : ℕ} where
   pub ran-stopped :
-      (why : Stop) → ran .ended ≡ Stopped why → (stopNumber why ≡ endedNumber (ran .ended)) ×
-      (numbersOf (ran .search) (ran .used) (ran .made) ≡ ranNumbers ran numbers) ×
-      (ran .search .prefix ≡ ranPrefix ran prefix)
+      {why : Stop} {words bytes : List ℕ} → ran .ended ≡ Stopped why → code ≡ stopNumber why →
+      Packed (ran .search) (ran .used) (ran .made) words bytes → RanStored ran numbers prefix code words bytes
   unfolding ranNumbers ranPrefix
-  ran-stopped why e = (rw e, rw e, rw e)
+  ran-stopped e is packed =
+      record {
+        code-is = rw e is;
+        numbers-are = rw e (packed .words-are);
+        prefix-is = rw e (packed .array-is);
+      }
 
   pub ran-refused :
-      (r : Refusal) → ran .ended ≡ ended.Refused r → (numberOf r ≡ endedNumber (ran .ended)) ×
-      (numbers ≡ ranNumbers ran numbers) × (prefix ≡ ranPrefix ran prefix)
+      {r : Refusal} → ran .ended ≡ ended.Refused r → code ≡ numberOf r →
+      RanStored ran numbers prefix code numbers prefix
   unfolding ranNumbers ranPrefix
-  ran-refused r e = (rw e, rw e, rw e)
+  ran-refused e is = record { code-is = rw e is; numbers-are = rw e; prefix-is = rw e }
+
+module _ {rows numbers prefix : List ℕ} {answer : Bool} (test : SizesTold rows numbers prefix answer)
+    {atoms bonds budget : ℕ} {out : List ℕ} where
+  pub run-unsized :
+      not answer ≡ true → RunLeft atoms bonds rows numbers prefix budget out wrongLength numbers prefix out
+  run-unsized taken =
+      let mol = molecule atoms bonds rows in
+      let q = searchFrom numbers prefix in
+      let ran = runSearch mol q budget out in
+      record {
+        code-is = sized-not test taken (endedNumber (ran .ended)) wrongLength;
+        numbers-are = sized-not test taken (ranNumbers ran numbers) numbers;
+        prefix-is = sized-not test taken (ranPrefix ran prefix) prefix;
+        out-is = sized-not test taken (runOutput mol q budget out) out;
+      }
+
+  -- the code ran the search x on the molecule m, and stored what came of it
+  pub run-stored :
+      not answer ≡ false → {m : Molecule} → m ≡ molecule atoms bonds rows →
+      {x : Search} → x ≡ searchFrom numbers prefix →
+      {ran : Ran} {output : List ℕ} → (ran ≡ runSearch m x budget out) × (output ≡ runOutput m x budget out) →
+      {code : ℕ} {words bytes : List ℕ} → RanStored ran numbers prefix code words bytes →
+      RunLeft atoms bonds rows numbers prefix budget out code words bytes output
+  run-stored left same-mol same-q run stored =
+      let here = rw (rw (same-mol, same-q) at (run .0)) at stored in
+      record {
+        code-is = sized-is test left (here .code-is) wrongLength;
+        numbers-are = sized-is test left (here .numbers-are) numbers;
+        prefix-is = sized-is test left (here .prefix-is) prefix;
+        out-is = sized-is test left (rw (same-mol, same-q) at (run .1)) out;
+      }
+
+-- ---- a save
+
+module _ {rows numbers prefix : List ℕ} {answer : Bool} (test : SizesTold rows numbers prefix answer)
+    {atoms bonds : ℕ} {mark : List ℕ} where
+  pub save-unsized : not answer ≡ true → SaveLeft atoms bonds rows numbers prefix mark wrongLength mark
+  save-unsized taken =
+      let mol = molecule atoms bonds rows in
+      let q = searchFrom numbers prefix in
+      record {
+        code-is = sized-not test taken (savedCode (saveAnswer mol q mark)) wrongLength;
+        mark-is = sized-not test taken (saveOutput mol q mark) mark;
+      }
+
+  -- the code saved the search x on the molecule m
+  pub save-stored :
+      not answer ≡ false → {m : Molecule} → m ≡ molecule atoms bonds rows →
+      {x : Search} → x ≡ searchFrom numbers prefix →
+      {saved : Saved} {output : List ℕ} → (saved ≡ saveAnswer m x mark) × (output ≡ saveOutput m x mark) →
+      {code : ℕ} → code ≡ savedCode saved →
+      SaveLeft atoms bonds rows numbers prefix mark code output
+  save-stored left same-mol same-q save is =
+      record {
+        code-is = sized-is test left (is ∙ ap savedCode (rw (same-mol, same-q) at (save .0))) wrongLength;
+        mark-is = sized-is test left (rw (same-mol, same-q) at (save .1)) mark;
+      }
 
 -- a mark has at most 91 + 4 × 127 bytes
 pub mark-small : (mol : Molecule) (q : Search) (out : List ℕ) (k : ℕ) → saveAnswer mol q out ≡ Written k → k ≤ 599

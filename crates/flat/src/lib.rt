@@ -4,10 +4,12 @@ ghost use Prim.Native.Nat.{_≤_};
 ghost use mathlib.Core.List.{_++_};
 ghost use lib.ListN.{length, drop};
 ghost use Rattle.fields.specs.Field.{readField, fieldText};
-ghost use Rattle.search.specs.Entries.{startRings, startPaths, runSearch, runOutput, endedNumber};
-ghost use Rattle.search.specs.Mark.{saveAnswer, saveOutput, restoreMark};
-ghost use Rattle.flat.specs.Codes.{wrongLength, answerCode, verdictCode, fieldCode, headBytes, flatBytes, molecule, readCode, readOutput, checkCode, ringCode, pathCode};
-ghost use Rattle.flat.specs.Searches.{sizesKept, searchFrom, numbersOf, sized, madeNumbers, madePrefix, ranNumbers, ranPrefix, savedCode};
+ghost use Rattle.search.specs.Entries.{startRings, startPaths};
+ghost use Rattle.search.specs.Mark.{restoreMark};
+ghost use Rattle.flat.specs.Codes.{verdictCode, fieldCode, headBytes, flatBytes, molecule};
+ghost use Rattle.flat.specs.Codes.{readCode, readOutput, checkCode, ringCode, pathCode};
+ghost use Rattle.flat.specs.Searches.{SizesTold, SearchSize, searchFrom, Packed, MadeStored, RanStored};
+ghost use Rattle.flat.specs.Searches.{MadeLeft, RunLeft, SaveLeft};
 use fields::Number;
 use judge::Verdict;
 use molecule::Molecule;
@@ -149,16 +151,16 @@ pub extern "C" fn flat_write_field(field: &mut [u8], value: u64)
 // ---- searches
 
 // Whether the rows, the numbers and the array have their lengths.
-fn sizes_kept(rows: usize, numbers: usize, prefix: usize) -> bool
-    ensures { λ r. ⌜ r ≡ sizesKept rows numbers prefix ⌝ }
+fn sizes_kept(rows: &[u8], numbers: &[u64], prefix: &[u8]) -> bool
+    ensures { λ r. ⌜ SizesTold (now (rows .entry)) (now (numbers .entry)) (now (prefix .entry)) r ⌝ }
 {
-    if rows != 2048 {
+    if rows.len() != 2048 {
         return false;
     }
-    if numbers != 10 {
+    if numbers.len() != 10 {
         return false;
     }
-    prefix == 128
+    prefix.len() == 128
 }
 
 fn copy_words(src: &[u64], dst: &mut [u64])
@@ -180,7 +182,7 @@ fn size(x: u64) -> usize
 
 // The search that numbers and an array name.
 fn unpack(numbers: &[u64], prefix: &[u8]) -> Search
-    requires { ⌜ (length (now numbers) ≡ 10) × (length (now prefix) ≡ 128) ⌝ }
+    requires { ⌜ SearchSize (now numbers) (now prefix) ⌝ }
     ensures { λ r. ⌜ r ≡ searchFrom (now (numbers .entry)) (now (prefix .entry)) ⌝ }
 {
     let mut local = [0u8; 128];
@@ -200,8 +202,8 @@ fn unpack(numbers: &[u64], prefix: &[u8]) -> Search
 
 // Writes a search, used and made over the buffers.
 fn pack(q: Search, used: usize, made: u64, numbers: &mut [u64], prefix: &mut [u8])
-    requires { ⌜ (length (now numbers) ≡ 10) × (length (now prefix) ≡ 128) ⌝ }
-    ensures { λ _. ⌜ (now (numbers .exit) ≡ numbersOf q used made) × (now (prefix .exit) ≡ q .prefix) ⌝ }
+    requires { ⌜ SearchSize (now numbers) (now prefix) ⌝ }
+    ensures { λ _. ⌜ Packed q used made (now (numbers .exit)) (now (prefix .exit)) ⌝ }
 {
     let local = q.prefix;
     let all = [
@@ -222,8 +224,10 @@ fn pack(q: Search, used: usize, made: u64, numbers: &mut [u64], prefix: &mut [u8
 
 // Writes a made search where it was accepted.
 fn store_made(made: Made, numbers: &mut [u64], prefix: &mut [u8]) -> u32
-    requires { ⌜ (length (now numbers) ≡ 10) × (length (now prefix) ≡ 128) ⌝ }
-    ensures { λ r. ⌜ (r ≡ answerCode (made .answer)) × (now (numbers .exit) ≡ madeNumbers made (now (numbers .entry))) × (now (prefix .exit) ≡ madePrefix made (now (prefix .entry))) ⌝ }
+    requires { ⌜ SearchSize (now numbers) (now prefix) ⌝ }
+    ensures { λ r. ⌜
+        MadeStored made (now (numbers .entry)) (now (prefix .entry))
+        r (now (numbers .exit)) (now (prefix .exit)) ⌝ }
 {
     let answer = made.answer;
     let q = made.search;
@@ -238,8 +242,10 @@ fn store_made(made: Made, numbers: &mut [u64], prefix: &mut [u8]) -> u32
 
 // Writes a run's search, used and made where it stopped.
 fn store_ran(ran: Ran, numbers: &mut [u64], prefix: &mut [u8]) -> u32
-    requires { ⌜ (length (now numbers) ≡ 10) × (length (now prefix) ≡ 128) ⌝ }
-    ensures { λ r. ⌜ (r ≡ endedNumber (ran .ended)) × (now (numbers .exit) ≡ ranNumbers ran (now (numbers .entry))) × (now (prefix .exit) ≡ ranPrefix ran (now (prefix .entry))) ⌝ }
+    requires { ⌜ SearchSize (now numbers) (now prefix) ⌝ }
+    ensures { λ r. ⌜
+        RanStored ran (now (numbers .entry)) (now (prefix .entry))
+        r (now (numbers .exit)) (now (prefix .exit)) ⌝ }
 {
     let ended = ran.ended;
     let q = ran.search;
@@ -261,11 +267,12 @@ pub extern "C" fn flat_start_rings(
     numbers: &mut [u64],
     prefix: &mut [u8],
 ) -> u32
-    ensures { λ r. ⌜ r ≡ sized (now (rows .entry)) (now (numbers .entry)) (now (prefix .entry)) (answerCode (startRings (molecule atoms bonds (now (rows .entry))) .answer)) wrongLength ⌝ }
-    ensures { λ _. ⌜ now (numbers .exit) ≡ sized (now (rows .entry)) (now (numbers .entry)) (now (prefix .entry)) (madeNumbers (startRings (molecule atoms bonds (now (rows .entry)))) (now (numbers .entry))) (now (numbers .entry)) ⌝ }
-    ensures { λ _. ⌜ now (prefix .exit) ≡ sized (now (rows .entry)) (now (numbers .entry)) (now (prefix .entry)) (madePrefix (startRings (molecule atoms bonds (now (rows .entry)))) (now (prefix .entry))) (now (prefix .entry)) ⌝ }
+    ensures { λ r. ⌜
+        MadeLeft (now (rows .entry)) (now (numbers .entry)) (now (prefix .entry))
+        (startRings (molecule atoms bonds (now (rows .entry))))
+        r (now (numbers .exit)) (now (prefix .exit)) ⌝ }
 {
-    if !sizes_kept(rows.len(), numbers.len(), prefix.len()) {
+    if !sizes_kept(rows, numbers, prefix) {
         return 200;
     }
     let made = start::start_rings(assemble(atoms, bonds, rows));
@@ -283,11 +290,12 @@ pub extern "C" fn flat_start_paths(
     numbers: &mut [u64],
     prefix: &mut [u8],
 ) -> u32
-    ensures { λ r. ⌜ r ≡ sized (now (rows .entry)) (now (numbers .entry)) (now (prefix .entry)) (answerCode (startPaths (molecule atoms bonds (now (rows .entry))) s t .answer)) wrongLength ⌝ }
-    ensures { λ _. ⌜ now (numbers .exit) ≡ sized (now (rows .entry)) (now (numbers .entry)) (now (prefix .entry)) (madeNumbers (startPaths (molecule atoms bonds (now (rows .entry))) s t) (now (numbers .entry))) (now (numbers .entry)) ⌝ }
-    ensures { λ _. ⌜ now (prefix .exit) ≡ sized (now (rows .entry)) (now (numbers .entry)) (now (prefix .entry)) (madePrefix (startPaths (molecule atoms bonds (now (rows .entry))) s t) (now (prefix .entry))) (now (prefix .entry)) ⌝ }
+    ensures { λ r. ⌜
+        MadeLeft (now (rows .entry)) (now (numbers .entry)) (now (prefix .entry))
+        (startPaths (molecule atoms bonds (now (rows .entry))) s t)
+        r (now (numbers .exit)) (now (prefix .exit)) ⌝ }
 {
-    if !sizes_kept(rows.len(), numbers.len(), prefix.len()) {
+    if !sizes_kept(rows, numbers, prefix) {
         return 200;
     }
     let made = start::start_paths(assemble(atoms, bonds, rows), s, t);
@@ -305,12 +313,11 @@ pub extern "C" fn flat_run(
     budget: u64,
     out: &mut [u8],
 ) -> u32
-    ensures { λ r. ⌜ r ≡ sized (now (rows .entry)) (now (numbers .entry)) (now (prefix .entry)) (endedNumber (runSearch (molecule atoms bonds (now (rows .entry))) (searchFrom (now (numbers .entry)) (now (prefix .entry))) budget (now (out .entry)) .ended)) wrongLength ⌝ }
-    ensures { λ _. ⌜ now (numbers .exit) ≡ sized (now (rows .entry)) (now (numbers .entry)) (now (prefix .entry)) (ranNumbers (runSearch (molecule atoms bonds (now (rows .entry))) (searchFrom (now (numbers .entry)) (now (prefix .entry))) budget (now (out .entry))) (now (numbers .entry))) (now (numbers .entry)) ⌝ }
-    ensures { λ _. ⌜ now (prefix .exit) ≡ sized (now (rows .entry)) (now (numbers .entry)) (now (prefix .entry)) (ranPrefix (runSearch (molecule atoms bonds (now (rows .entry))) (searchFrom (now (numbers .entry)) (now (prefix .entry))) budget (now (out .entry))) (now (prefix .entry))) (now (prefix .entry)) ⌝ }
-    ensures { λ _. ⌜ now (out .exit) ≡ sized (now (rows .entry)) (now (numbers .entry)) (now (prefix .entry)) (runOutput (molecule atoms bonds (now (rows .entry))) (searchFrom (now (numbers .entry)) (now (prefix .entry))) budget (now (out .entry))) (now (out .entry)) ⌝ }
+    ensures { λ r. ⌜
+        RunLeft atoms bonds (now (rows .entry)) (now (numbers .entry)) (now (prefix .entry)) budget (now (out .entry))
+        r (now (numbers .exit)) (now (prefix .exit)) (now (out .exit)) ⌝ }
 {
-    if !sizes_kept(rows.len(), numbers.len(), prefix.len()) {
+    if !sizes_kept(rows, numbers, prefix) {
         return 200;
     }
     let q = unpack(numbers, prefix);
@@ -328,10 +335,11 @@ pub extern "C" fn flat_save(
     prefix: &[u8],
     mark: &mut [u8],
 ) -> u32
-    ensures { λ r. ⌜ r ≡ sized (now (rows .entry)) (now (numbers .entry)) (now (prefix .entry)) (savedCode (saveAnswer (molecule atoms bonds (now (rows .entry))) (searchFrom (now (numbers .entry)) (now (prefix .entry))) (now (mark .entry)))) wrongLength ⌝ }
-    ensures { λ _. ⌜ now (mark .exit) ≡ sized (now (rows .entry)) (now (numbers .entry)) (now (prefix .entry)) (saveOutput (molecule atoms bonds (now (rows .entry))) (searchFrom (now (numbers .entry)) (now (prefix .entry))) (now (mark .entry))) (now (mark .entry)) ⌝ }
+    ensures { λ r. ⌜
+        SaveLeft atoms bonds (now (rows .entry)) (now (numbers .entry)) (now (prefix .entry)) (now (mark .entry))
+        r (now (mark .exit)) ⌝ }
 {
-    if !sizes_kept(rows.len(), numbers.len(), prefix.len()) {
+    if !sizes_kept(rows, numbers, prefix) {
         return 200;
     }
     let q = unpack(numbers, prefix);
@@ -352,11 +360,12 @@ pub extern "C" fn flat_restore(
     numbers: &mut [u64],
     prefix: &mut [u8],
 ) -> u32
-    ensures { λ r. ⌜ r ≡ sized (now (rows .entry)) (now (numbers .entry)) (now (prefix .entry)) (answerCode (restoreMark (molecule atoms bonds (now (rows .entry))) (now (mark .entry)) .answer)) wrongLength ⌝ }
-    ensures { λ _. ⌜ now (numbers .exit) ≡ sized (now (rows .entry)) (now (numbers .entry)) (now (prefix .entry)) (madeNumbers (restoreMark (molecule atoms bonds (now (rows .entry))) (now (mark .entry))) (now (numbers .entry))) (now (numbers .entry)) ⌝ }
-    ensures { λ _. ⌜ now (prefix .exit) ≡ sized (now (rows .entry)) (now (numbers .entry)) (now (prefix .entry)) (madePrefix (restoreMark (molecule atoms bonds (now (rows .entry))) (now (mark .entry))) (now (prefix .entry))) (now (prefix .entry)) ⌝ }
+    ensures { λ r. ⌜
+        MadeLeft (now (rows .entry)) (now (numbers .entry)) (now (prefix .entry))
+        (restoreMark (molecule atoms bonds (now (rows .entry))) (now (mark .entry)))
+        r (now (numbers .exit)) (now (prefix .exit)) ⌝ }
 {
-    if !sizes_kept(rows.len(), numbers.len(), prefix.len()) {
+    if !sizes_kept(rows, numbers, prefix) {
         return 200;
     }
     let made = marks::restore(assemble(atoms, bonds, rows), mark);

@@ -1,47 +1,98 @@
 -- The judge's answers, by the tests that lead to each.
--- The definitions go by `cond`, so each answer follows by rewriting the tests.
-use Prim.Native.Nat.{ℕ}
+-- The definitions go by `cond` and `&&`, so each answer follows by rewriting the tests.
+use Prim.Native.Nat.{ℕ, _≤_, _<_}
 use mathlib.Core.Path.{_≡_}
 use mathlib.Core.Bool.{Bool, true, false}
 use mathlib.Core.List.{List}
-use borrow.Author.Tests.{eq-eqb, ne-eqb}
+use lib.ListN.{length}
+use borrow.Author.Tests.{eq-eqb, ne-eqb, lt-leb, le-leb, lt-ltb, le-ltb}
 use Rattle.refusal.specs.declared.Refusal.the-variants.{Record, PathEnd, SameEnds}
 use Rattle.molecule.specs.declared.Molecule.{Molecule}
 use Rattle.molecule.specs.Record.{wellFormed, isAtom, bonded}
-use Rattle.graph.specs.Chordless.{isRing, isPath}
-use Rattle.judge.specs.declared.Verdict.the-variants.{Refused}
+use Rattle.molecule.proofs.Bonds.{rule9}
+use Rattle.graph.specs.Chordless.{atomAt, lastAtom, inRange, induces, alongRing, isRing, isPath}
+use Rattle.judge.specs.declared.Verdict.the-variants.{Yes, No, Refused}
 use Rattle.judge.specs.Verdict.{answer, judgeRing, judgePath}
+use Rattle.judge.specs.Parts.{Atoms, lowestFirst, aboveFirst}
 
 -- rule 9 comes first
-pub refused-record :
-    (mol : Molecule) → wellFormed mol ≡ false → ((xs : List ℕ) → judgeRing mol xs ≡ Refused Record) ×
-    ((s t : ℕ) (xs : List ℕ) → judgePath mol s t xs ≡ Refused Record)
-unfolding judgeRing judgePath
-refused-record mol e = (λ xs. rw e, λ s t xs. rw e)
+module _ (mol : Molecule) (wrong : wellFormed mol ≡ false) (xs : List ℕ) where
+  pub ring-no-record : Refused Record ≡ judgeRing mol xs
+  unfolding judgeRing
+  ring-no-record = rw wrong
 
-pub ring-judged :
-    (mol : Molecule) (xs : List ℕ) → wellFormed mol ≡ true → (b : Bool) →
-    isRing (mol .atoms) (bonded (mol .atoms) (mol .rows)) xs ≡ b → judgeRing mol xs ≡ answer b
-unfolding judgeRing
-ring-judged mol xs ok b e = rw (ok, e)
-
-module _ (mol : Molecule) (s t : ℕ) (xs : List ℕ) (ok : wellFormed mol ≡ true) where
-  pub path-no-start : isAtom (mol .atoms) s ≡ false → judgePath mol s t xs ≡ Refused PathEnd
+  pub path-no-record : (s t : ℕ) → Refused Record ≡ judgePath mol s t xs
   unfolding judgePath
-  path-no-start e = rw (ok, e)
+  path-no-record s t = rw wrong
 
-  module _ (start : isAtom (mol .atoms) s ≡ true) where
-    pub path-no-end : isAtom (mol .atoms) t ≡ false → judgePath mol s t xs ≡ Refused PathEnd
-    unfolding judgePath
-    path-no-end e = rw (ok, start, e)
+-- the molecule is well formed, and the list has three of its atoms or more
+pub record Listed (mol : Molecule) (xs : List ℕ) : Type 0 where
+  pub formed : wellFormed mol ≡ true
+  pub long : 3 ≤ length xs
+  pub range : inRange (mol .atoms) xs ≡ true
 
-    module _ (end : isAtom (mol .atoms) t ≡ true) where
-      pub path-same-ends : s ≡ t → judgePath mol s t xs ≡ Refused SameEnds
-      unfolding judgePath
-      path-same-ends e = rw (ok, start, end, eq-eqb s t e)
+pub atoms-of : {mol : Molecule} {xs : List ℕ} → Listed mol xs → Atoms (mol .atoms) xs
+atoms-of {mol} listed = record { few = rule9 mol (listed .formed) .atoms-high; range = listed .range }
 
-      pub path-judged :
-          (s ≡ t → ⊥) → (b : Bool) → isPath (mol .atoms) (bonded (mol .atoms) (mol .rows)) s t xs ≡ b →
-          judgePath mol s t xs ≡ answer b
-      unfolding judgePath
-      path-judged n b e = rw (ok, start, end, ne-eqb s t n, e)
+module _ (mol : Molecule) (xs : List ℕ) where
+  pub ring-short : wellFormed mol ≡ true → length xs < 3 → No ≡ judgeRing mol xs
+  unfolding judgeRing isRing
+  ring-short formed short = rw (formed, lt-leb 3 (length xs) short)
+
+  pub ring-out : wellFormed mol ≡ true → 3 ≤ length xs → inRange (mol .atoms) xs ≡ false → No ≡ judgeRing mol xs
+  unfolding judgeRing isRing
+  ring-out formed long out = rw (formed, le-leb 3 (length xs) long, out)
+
+module _ {mol : Molecule} {xs : List ℕ} (listed : Listed mol xs) where
+  abbrev Fits : Bool → Type 0
+  Fits b = induces (bonded (mol .atoms) (mol .rows)) (alongRing (length xs)) xs ≡ b
+
+  pub ring-chord : Fits false → No ≡ judgeRing mol xs
+  unfolding judgeRing isRing
+  ring-chord chord = rw (listed .formed, le-leb 3 (length xs) (listed .long), listed .range, chord)
+
+  module _ (fits : Fits true) where
+    pub ring-low : lowestFirst xs ≡ false → No ≡ judgeRing mol xs
+    unfolding judgeRing isRing lowestFirst aboveFirst
+    ring-low low = rw (listed .formed, le-leb 3 (length xs) (listed .long), listed .range, fits, low)
+
+    module _ (lowest : lowestFirst xs ≡ true) where
+      pub ring-yes : atomAt xs 1 < lastAtom xs → Yes ≡ judgeRing mol xs
+      unfolding judgeRing isRing lowestFirst aboveFirst
+      ring-yes turn =
+          rw (listed .formed, le-leb 3 (length xs) (listed .long), listed .range, fits, lowest)
+          (rw (lt-ltb (atomAt xs 1) (lastAtom xs) turn))
+
+      pub ring-no : lastAtom xs ≤ atomAt xs 1 → No ≡ judgeRing mol xs
+      unfolding judgeRing isRing lowestFirst aboveFirst
+      ring-no turn =
+          rw (listed .formed, le-leb 3 (length xs) (listed .long), listed .range, fits, lowest)
+          (rw (le-ltb (atomAt xs 1) (lastAtom xs) turn))
+
+module _ (mol : Molecule) (s t : ℕ) (xs : List ℕ) (formed : wellFormed mol ≡ true) where
+  pub path-no-start : isAtom (mol .atoms) s ≡ false → Refused PathEnd ≡ judgePath mol s t xs
+  unfolding judgePath
+  path-no-start wrong = rw (formed, wrong)
+
+  pub path-no-end :
+      isAtom (mol .atoms) s ≡ true → isAtom (mol .atoms) t ≡ false → Refused PathEnd ≡ judgePath mol s t xs
+  unfolding judgePath
+  path-no-end first wrong = rw (formed, first, wrong)
+
+-- the molecule is well formed, and s and t are atoms of it
+pub record TwoEnds (mol : Molecule) (s t : ℕ) : Type 0 where
+  pub formed : wellFormed mol ≡ true
+  pub first : isAtom (mol .atoms) s ≡ true
+  pub last : isAtom (mol .atoms) t ≡ true
+
+module _ {mol : Molecule} {s t : ℕ} (ends : TwoEnds mol s t) (xs : List ℕ) where
+  pub path-same-ends : s ≡ t → Refused SameEnds ≡ judgePath mol s t xs
+  unfolding judgePath
+  path-same-ends same = rw (ends .formed, ends .first, ends .last, eq-eqb s t same)
+
+  -- the code found whether the list is a path
+  pub path-judged :
+      (s ≡ t → ⊥) → {found : Bool} → found ≡ isPath (mol .atoms) (bonded (mol .atoms) (mol .rows)) s t xs →
+      (b : Bool) → found ≡ b → answer b ≡ judgePath mol s t xs
+  unfolding judgePath
+  path-judged apart told b is = rw (ends .formed, ends .first, ends .last, ne-eqb s t apart, ← told, is)

@@ -8,75 +8,113 @@ use mathlib.Core.Bool.{Bool, true, false, not, Bool·beq, and-false}
 use mathlib.Core.List.{List}
 use lib.ListN.{length}
 use Rattle.graph.specs.Every.{allBelow}
-use lib.Dec.{ltb, eqb, eqb·suc-suc, eqb·suc-zero}
+use lib.Dec.{eqb, eqb·suc-suc, eqb·suc-zero}
 use borrow.Author.Tests.{eq-eqb, ne-eqb, lt-leb, le-leb, lt-ltb, le-ltb}
-use Rattle.graph.proofs.Places.{induces-same, never-closes}
-use Rattle.graph.specs.Chordless.{Adjacency, atomAt, lastAtom, inRange, induces, alongPath, alongRing, isPath, isRing}
-use Rattle.judge.specs.Parts.{pairFits, fitsBefore, inRangeAt, aboveFirst, lowestFirst}
+use Rattle.graph.proofs.Places.{induces-same, never-closes, range-at}
+use Rattle.graph.specs.Chordless.{Adjacency, atomAt, lastAtom, inRange, induces, alongPath, alongRing, isPath}
+use Rattle.molecule.specs.Record.{cell, bonded}
+use Rattle.molecule.proofs.Bonds.{bonded-cell}
+use Rattle.judge.specs.Parts.{TwoPlaces, pairFits, fitsBefore, inRangeAt, aboveFirst}
 
+-- two places along a ring of k atoms, or along a path where k is 0
 module _ (k i j : ℕ) where
-  pub joined-next : j ≡ i + 1 → alongRing k i j ≡ true
+  pub joined-next : j ≡ i + 1 → true ≡ alongRing k i j
   joined-next e = rw (eq-eqb j (suc i) (omega arith))
 
   module _ (apart : j ≡ i + 1 → ⊥) where
-    pub joined-inner : (i ≡ 0 → ⊥) → alongRing k i j ≡ false
+    pub joined-inner : (i ≡ 0 → ⊥) → false ≡ alongRing k i j
     joined-inner h = rw (ne-eqb j (suc i) (λ e. apart (omega arith)), ne-eqb i 0 h)
 
-    pub joined-open : i ≡ 0 → k ≡ 0 → alongRing k i j ≡ false
-    joined-open z c = rw (ne-eqb j (suc i) (λ e. apart (omega arith)), c, eqb·suc-zero j, and-false (eqb i 0))
+    pub joined-open : k ≡ 0 → false ≡ alongRing k i j
+    joined-open none = rw (ne-eqb j (suc i) (λ e. apart (omega arith)), none, eqb·suc-zero j, and-false (eqb i 0))
 
-    pub joined-close : i ≡ 0 → (k ≡ 0 → ⊥) → alongRing k i j ≡ eqb j (k - 1)
-    joined-close z c =
+    pub joined-close : i ≡ 0 → (k ≡ 0 → ⊥) → eqb j (k - 1) ≡ alongRing k i j
+    joined-close first some =
         let back : k ≡ suc (k - 1) = omega arith in
-        rw (ne-eqb j (suc i) (λ e. apart (omega arith)), eq-eqb i 0 z)
-        (ap (λ x. eqb (suc j) x) back ∙ eqb·suc-suc j (k - 1))
+        rw (ne-eqb j (suc i) (λ e. apart (omega arith)), eq-eqb i 0 first)
+        (sym (ap (λ x. eqb (suc j) x) back ∙ eqb·suc-suc j (k - 1)))
 
-module _ (adj : Adjacency) (k : ℕ) (xs : List ℕ) (i j : ℕ) where
-  pub pair-equal : atomAt xs i ≡ atomAt xs j → pairFits adj k xs j i ≡ false
-  unfolding pairFits
-  pair-equal e = rw (eq-eqb (atomAt xs i) (atomAt xs j) e)
+-- a and b are the atoms at two places i < j of the list
+pub record PairRead (n : ℕ) (xs : List ℕ) (i j a b : ℕ) : Type 0 where
+  pub places : TwoPlaces n xs i j
+  pub left : a ≡ atomAt xs i
+  pub right : b ≡ atomAt xs j
 
-  module _ (differ : atomAt xs i ≡ atomAt xs j → ⊥) where
-    pub pair-bonded : adj (atomAt xs i) (atomAt xs j) ≡ true → pairFits adj k xs j i ≡ alongRing k i j
+-- two numbers from 1 to n
+pub record TwoAtoms (n a b : ℕ) : Type 0 where
+  pub left-low : 1 ≤ a
+  pub left-high : a ≤ n
+  pub right-low : 1 ≤ b
+  pub right-high : b ≤ n
+
+module _ {n : ℕ} {xs : List ℕ} {i j a b : ℕ} (pair : PairRead n xs i j a b) where
+  pub two-atoms : TwoAtoms n a b
+  two-atoms =
+      let range = pair .places .later .atoms .range in
+      let left = range-at n xs range i (omega arith) in
+      let right = range-at n xs range j (pair .places .later .inside) in
+      record {
+        left-low = omega arith;
+        left-high = omega arith;
+        right-low = omega arith;
+        right-high = omega arith;
+      }
+
+  module _ (rows : List ℕ) (k : ℕ) where
+    pub pair-equal : a ≡ b → false ≡ pairFits (bonded n rows) k xs j i
     unfolding pairFits
-    pair-bonded b = rw (ne-eqb (atomAt xs i) (atomAt xs j) differ, b) (when-true (alongRing k i j))
-      where
-        when-true : (t : Bool) → Bool·beq true t ≡ t
-        when-true true = refl
-        when-true false = refl
+    pair-equal e = rw (← pair .left, ← pair .right, eq-eqb a b e)
 
-    pub pair-not-bonded : adj (atomAt xs i) (atomAt xs j) ≡ false → pairFits adj k xs j i ≡ not (alongRing k i j)
-    unfolding pairFits
-    pair-not-bonded b = rw (ne-eqb (atomAt xs i) (atomAt xs j) differ, b) (when-false (alongRing k i j))
-      where
-        when-false : (t : Bool) → Bool·beq false t ≡ not t
-        when-false true = refl
-        when-false false = refl
+    bond-is : {linked : Bool} → linked ≡ cell rows (a - 1) (b - 1) → bonded n rows a b ≡ linked
+    bond-is told =
+        let both = two-atoms in
+        bonded-cell n rows a b (both .left-low) (both .left-high) (both .right-low) (both .right-high) ∙ sym told
+
+    -- they differ; the code found whether they are bonded, and whether the places are joined
+    module _ (differ : a ≡ b → ⊥) {linked joined : Bool}
+        (told : linked ≡ cell rows (a - 1) (b - 1)) (along : joined ≡ alongRing k i j) where
+      pub pair-bonded : linked ≡ true → joined ≡ pairFits (bonded n rows) k xs j i
+      unfolding pairFits
+      pair-bonded set =
+          rw (← pair .left, ← pair .right, ne-eqb a b differ, bond-is told, set, ← along) (when-true joined)
+        where
+          when-true : (t : Bool) → t ≡ Bool·beq true t
+          when-true true = refl
+          when-true false = refl
+
+      pub pair-not-bonded : linked ≡ false → not joined ≡ pairFits (bonded n rows) k xs j i
+      unfolding pairFits
+      pair-not-bonded clear =
+          rw (← pair .left, ← pair .right, ne-eqb a b differ, bond-is told, clear, ← along) (when-false joined)
+        where
+          when-false : (t : Bool) → not t ≡ Bool·beq false t
+          when-false true = refl
+          when-false false = refl
 
 -- the tests over a whole list
-pub in-range-is : (n : ℕ) (xs : List ℕ) → inRange n xs ≡ allBelow (length xs) (inRangeAt n xs)
+pub in-range-is : (n : ℕ) (xs : List ℕ) → allBelow (length xs) (inRangeAt n xs) ≡ inRange n xs
 unfolding inRange inRangeAt
 in-range-is n xs = refl
 
 pub induces-is :
-    (adj : Adjacency) (k : ℕ) (xs : List ℕ) → induces adj (alongRing k) xs ≡ allBelow (length xs) (fitsBefore adj k xs)
+    (adj : Adjacency) (k : ℕ) (xs : List ℕ) →
+    allBelow (length xs) (fitsBefore adj k xs) ≡ induces adj (alongRing k) xs
 unfolding induces fitsBefore pairFits
 induces-is adj k xs = refl
 
--- one atom in range, or not
-module _ (n : ℕ) (xs : List ℕ) (i : ℕ) where
-  pub out-low : atomAt xs i < 1 → inRangeAt n xs i ≡ false
+-- the atom a at place i, in range or not
+module _ (n : ℕ) (xs : List ℕ) (i : ℕ) {a : ℕ} (at-i : a ≡ atomAt xs i) where
+  pub out-low : a < 1 → inRangeAt n xs i ≡ false
   unfolding inRangeAt
-  out-low h = rw (lt-leb 1 (atomAt xs i) h)
+  out-low low = rw (← at-i, lt-leb 1 a low)
 
-  module _ (low : 1 ≤ atomAt xs i) where
-    pub out-high : n < atomAt xs i → inRangeAt n xs i ≡ false
-    unfolding inRangeAt
-    out-high h = rw (le-leb 1 (atomAt xs i) low, lt-leb (atomAt xs i) n h)
+  pub out-high : 1 ≤ a → n < a → inRangeAt n xs i ≡ false
+  unfolding inRangeAt
+  out-high low high = rw (← at-i, le-leb 1 a low, lt-leb a n high)
 
-    pub inside : atomAt xs i ≤ n → inRangeAt n xs i ≡ true
-    unfolding inRangeAt
-    inside h = rw (le-leb 1 (atomAt xs i) low, le-leb (atomAt xs i) n h)
+  pub inside : 1 ≤ a → a ≤ n → inRangeAt n xs i ≡ true
+  unfolding inRangeAt
+  inside low high = rw (← at-i, le-leb 1 a low, le-leb a n high)
 
 -- one atom against the first
 module _ (xs : List ℕ) (i : ℕ) where
@@ -88,52 +126,22 @@ module _ (xs : List ℕ) (i : ℕ) where
   unfolding aboveFirst
   above h = lt-ltb (atomAt xs 0) (atomAt xs (suc i)) (rw (add-one i) at h)
 
--- the definitions, test by test
-module _ (n : ℕ) (adj : Adjacency) (s t : ℕ) (xs : List ℕ) where
-  pub path-short : length xs < 1 → isPath n adj s t xs ≡ false
+-- a list of atoms that begins with s
+pub record Begun (n s : ℕ) (xs : List ℕ) : Type 0 where
+  pub long : 1 ≤ length xs
+  pub range : inRange n xs ≡ true
+  pub first : atomAt xs 0 ≡ s
+
+-- the last atom of such a list is b
+module _ {n s : ℕ} {xs : List ℕ} (begun : Begun n s xs) (adj : Adjacency) (t : ℕ) {b : ℕ} (last : b ≡ lastAtom xs) where
+  pub path-end : (b ≡ t → ⊥) → false ≡ isPath n adj s t xs
   unfolding isPath
-  path-short h = rw (lt-leb 1 (length xs) h)
+  path-end differ =
+      rw (le-leb 1 (length xs) (begun .long), begun .range, eq-eqb (atomAt xs 0) s (begun .first))
+      (rw (← last, ne-eqb b t differ))
 
-  module _ (long : 1 ≤ length xs) where
-    pub path-out : inRange n xs ≡ false → isPath n adj s t xs ≡ false
-    unfolding isPath
-    path-out r = rw (le-leb 1 (length xs) long, r)
-
-    module _ (range : inRange n xs ≡ true) where
-      pub path-start : (atomAt xs 0 ≡ s → ⊥) → isPath n adj s t xs ≡ false
-      unfolding isPath
-      path-start f = rw (le-leb 1 (length xs) long, range, ne-eqb (atomAt xs 0) s f)
-
-      pub path-end : atomAt xs 0 ≡ s → (lastAtom xs ≡ t → ⊥) → isPath n adj s t xs ≡ false
-      unfolding isPath
-      path-end f e = rw (le-leb 1 (length xs) long, range, eq-eqb (atomAt xs 0) s f, ne-eqb (lastAtom xs) t e)
-
-      pub path-fits : atomAt xs 0 ≡ s → lastAtom xs ≡ t → isPath n adj s t xs ≡ induces adj (alongRing 0) xs
-      unfolding isPath
-      path-fits f e =
-          rw (le-leb 1 (length xs) long, range, eq-eqb (atomAt xs 0) s f, eq-eqb (lastAtom xs) t e)
-          (sym (induces-same adj (alongRing 0) alongPath xs never-closes))
-
-module _ (n : ℕ) (adj : Adjacency) (xs : List ℕ) where
-  pub ring-short : length xs < 3 → isRing n adj xs ≡ false
-  unfolding isRing
-  ring-short h = rw (lt-leb 3 (length xs) h)
-
-  module _ (long : 3 ≤ length xs) where
-    pub ring-out : inRange n xs ≡ false → isRing n adj xs ≡ false
-    unfolding isRing
-    ring-out r = rw (le-leb 3 (length xs) long, r)
-
-    module _ (range : inRange n xs ≡ true) where
-      pub ring-chord : induces adj (alongRing (length xs)) xs ≡ false → isRing n adj xs ≡ false
-      unfolding isRing
-      ring-chord i = rw (le-leb 3 (length xs) long, range, i)
-
-      module _ (fits : induces adj (alongRing (length xs)) xs ≡ true) where
-        pub ring-low : lowestFirst xs ≡ false → isRing n adj xs ≡ false
-        unfolding isRing lowestFirst aboveFirst
-        ring-low l = rw (le-leb 3 (length xs) long, range, fits, l)
-
-        pub ring-turn : lowestFirst xs ≡ true → isRing n adj xs ≡ ltb (atomAt xs 1) (lastAtom xs)
-        unfolding isRing lowestFirst aboveFirst
-        ring-turn l = rw (le-leb 3 (length xs) long, range, fits, l)
+  pub path-fits : b ≡ t → induces adj (alongRing 0) xs ≡ isPath n adj s t xs
+  unfolding isPath
+  path-fits ends =
+      rw (le-leb 1 (length xs) (begun .long), begun .range, eq-eqb (atomAt xs 0) s (begun .first))
+      (rw (← last, eq-eqb b t ends) (induces-same adj (alongRing 0) alongPath xs never-closes))

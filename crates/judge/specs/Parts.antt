@@ -1,11 +1,27 @@
--- What the parts of the judge decide. Nothing to believe: they are parts of `induces` and `isRing`.
-use Prim.Native.Nat.{ℕ, suc, _-_}
-use mathlib.Core.Bool.{Bool, _&&_, not, Bool·beq}
+-- What the parts of the judge ask and decide. Nothing to believe: they are parts of `induces` and `isRing`.
+use Prim.Native.Nat.{ℕ, suc, _-_, _≤_, _<_}
+use mathlib.Core.Path.{_≡_}
+use mathlib.Core.Bool.{Bool, true, _&&_, not, Bool·beq}
 use mathlib.Core.List.{List}
 use lib.ListN.{length}
 use lib.Dec.{leb, ltb, eqb}
 use Rattle.graph.specs.Every.{allBelow}
-use Rattle.graph.specs.Chordless.{Adjacency, atomAt, alongRing}
+use Rattle.graph.specs.Chordless.{Adjacency, atomAt, inRange, alongRing}
+
+-- the list xs has atoms of a molecule of n atoms
+pub record Atoms (n : ℕ) (xs : List ℕ) : Type 0 where
+  pub few : n ≤ 128
+  pub range : inRange n xs ≡ true
+
+-- and j is a place of it
+pub record OnePlace (n : ℕ) (xs : List ℕ) (j : ℕ) : Type 0 where
+  pub atoms : Atoms n xs
+  pub inside : j < length xs
+
+-- and i is a place before j
+pub record TwoPlaces (n : ℕ) (xs : List ℕ) (i j : ℕ) : Type 0 where
+  pub later : OnePlace n xs j
+  pub before : i < j
 
 unfoldable pub pairFits : Adjacency → ℕ → List ℕ → ℕ → ℕ → Bool
 pairFits adj k xs j i =

@@ -1,25 +1,19 @@
 // The judge of document 01: whether an atom list is a ring, or a path from s to t.
 ghost use mathlib.Core.Path.{_≡_};
-ghost use mathlib.Core.Bool.{true};
 ghost use Prim.Native.Nat.{_≤_, _<_};
 ghost use lib.ListN.{length};
 ghost use Rattle.graph.specs.Chordless.{inRange, induces, alongRing, isPath};
 ghost use Rattle.molecule.specs.Record.{bonded};
 ghost use Rattle.judge.specs.Verdict.{judgeRing, judgePath};
-ghost use Rattle.judge.specs.Parts.{pairFits, fitsBefore, lowestFirst};
+ghost use Rattle.judge.specs.Parts.{Atoms, OnePlace, TwoPlaces, pairFits, fitsBefore, lowestFirst};
 use molecule::Molecule;
 use refusal::Refusal;
+use widen::u8_usize;
 
 pub enum Verdict {
     Yes,
     No,
     Refused(Refusal),
-}
-
-fn wide(a: u8) -> usize
-    ensures { λ r. ⌜ r ≡ a ⌝ }
-{
-    a as usize
 }
 
 // Whether every atom is from 1 to n.
@@ -28,7 +22,7 @@ fn in_range(n: usize, xs: &[u8]) -> bool
 {
     let mut i: usize = 0;
     while i < xs.len() {
-        let a = wide(xs[i]);
+        let a = u8_usize(xs[i]);
         if a < 1 {
             return false;
         }
@@ -59,11 +53,11 @@ fn joined(k: usize, i: usize, j: usize) -> bool
 
 // Whether the atoms at places i < j differ, and are bonded exactly when the places are joined.
 fn pair_fits(rows: &[u8; 2048], n: usize, k: usize, xs: &[u8], i: usize, j: usize) -> bool
-    requires { ⌜ (i < j) × (j < length (now xs)) × (n ≤ 128) × (inRange n (now xs) ≡ true) ⌝ }
+    requires { ⌜ TwoPlaces n (now xs) i j ⌝ }
     ensures { λ r. ⌜ r ≡ pairFits (bonded n (now (rows .entry))) k (now (xs .entry)) j i ⌝ }
 {
-    let a = wide(xs[i]);
-    let b = wide(xs[j]);
+    let a = u8_usize(xs[i]);
+    let b = u8_usize(xs[j]);
     if a == b {
         return false;
     }
@@ -75,7 +69,7 @@ fn pair_fits(rows: &[u8; 2048], n: usize, k: usize, xs: &[u8], i: usize, j: usiz
 
 // The same of place j with every place before it.
 fn fits_before(rows: &[u8; 2048], n: usize, k: usize, xs: &[u8], j: usize) -> bool
-    requires { ⌜ (j < length (now xs)) × (n ≤ 128) × (inRange n (now xs) ≡ true) ⌝ }
+    requires { ⌜ OnePlace n (now xs) j ⌝ }
     ensures { λ r. ⌜ r ≡ fitsBefore (bonded n (now (rows .entry))) k (now (xs .entry)) j ⌝ }
 {
     let mut i: usize = 0;
@@ -90,7 +84,7 @@ fn fits_before(rows: &[u8; 2048], n: usize, k: usize, xs: &[u8], j: usize) -> bo
 
 // The same of every two places.
 fn fits(rows: &[u8; 2048], n: usize, k: usize, xs: &[u8]) -> bool
-    requires { ⌜ (n ≤ 128) × (inRange n (now xs) ≡ true) ⌝ }
+    requires { ⌜ Atoms n (now xs) ⌝ }
     ensures { λ r. ⌜ r ≡ induces (bonded n (now (rows .entry))) (alongRing k) (now (xs .entry)) ⌝ }
 {
     let mut j: usize = 0;
@@ -157,10 +151,10 @@ fn is_path(rows: &[u8; 2048], n: usize, s: usize, t: usize, xs: &[u8]) -> bool
     if !in_range(n, xs) {
         return false;
     }
-    if wide(xs[0]) != s {
+    if u8_usize(xs[0]) != s {
         return false;
     }
-    if wide(xs[xs.len() - 1]) != t {
+    if u8_usize(xs[xs.len() - 1]) != t {
         return false;
     }
     fits(rows, n, 0, xs)

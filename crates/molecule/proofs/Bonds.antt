@@ -49,20 +49,25 @@ pub record Rule9 (mol : Molecule) : Type 0 where
 pub rule9 : (mol : Molecule) → wellFormed mol ≡ true → Rule9 mol
 unfolding wellFormed
 rule9 mol e =
-    let s1 = and-parts
-    (leb (mol .atoms) 128 && leb (mol .bonds) 1024 && symmetric (mol .rows) && loopless (mol .rows) &&
-    within (mol .atoms) (mol .rows)) (eqb (onesOf (mol .rows)) (2 * mol .bonds)) e in
-    let s2 = and-parts (leb (mol .atoms) 128 && leb (mol .bonds) 1024 && symmetric (mol .rows) && loopless (mol .rows))
-    (within (mol .atoms) (mol .rows)) (s1 .0) in
-    let s3 = and-parts (leb (mol .atoms) 128 && leb (mol .bonds) 1024 && symmetric (mol .rows)) (loopless (mol .rows))
-    (s2 .0) in
-    let s4 = and-parts (leb (mol .atoms) 128 && leb (mol .bonds) 1024) (symmetric (mol .rows)) (s3 .0) in
-    let s5 = and-parts (leb (mol .atoms) 128) (leb (mol .bonds) 1024) (s4 .0) in
+    let n = mol .atoms in
+    let m = mol .bonds in
+    let rows = mol .rows in
+    -- the tests in their order, from the first to the one named
+    let to-bonds = leb n 128 && leb m 1024 in
+    let to-symmetric = to-bonds && symmetric rows in
+    let to-loopless = to-symmetric && loopless rows in
+    let to-within = to-loopless && within n rows in
+    -- taken apart from the last on
+    let count = and-parts to-within (eqb (onesOf rows) (2 * m)) e in
+    let beyond = and-parts to-loopless (within n rows) (count .0) in
+    let loops = and-parts to-symmetric (loopless rows) (beyond .0) in
+    let mirror = and-parts to-bonds (symmetric rows) (loops .0) in
+    let numbers = and-parts (leb n 128) (leb m 1024) (mirror .0) in
     record {
-      atoms-high = leb-true (mol .atoms) 128 (s5 .0);
-      bonds-high = leb-true (mol .bonds) 1024 (s5 .1);
-      rows-sound = and-both _ _ (and-both _ _ (s4 .1) (s3 .1)) (s2 .1);
-      ones-count = s1 .1;
+      atoms-high = leb-true n 128 (numbers .0);
+      bonds-high = leb-true m 1024 (numbers .1);
+      rows-sound = and-both _ _ (and-both _ _ (mirror .1) (loops .1)) (beyond .1);
+      ones-count = count .1;
     }
 
 module _ (mol : Molecule) (ok : wellFormed mol ≡ true) where

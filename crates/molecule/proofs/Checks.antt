@@ -1,10 +1,10 @@
 -- The record check's tests, bit by bit and byte by byte.
 -- Each law turns what the code found at one place into the value of the definition there.
 use Prim.Native.Nat.{ℕ, _+_, _-_, _*_, _/_, _%_, _^_, _≤_, _<_}
-use native.Mathlib.Nat.{zero-div, add-zero}
+use native.Mathlib.Nat.{zero-div, zero-add, add-zero}
 use native.Mathlib.Numerals.{add-one}
 use native.Mathlib.Omega.{arith}
-use mathlib.Core.Path.{_≡_}
+use mathlib.Core.Path.{_≡_, sym, _∙_}
 use mathlib.Core.Bool.{true}
 use mathlib.Core.List.{List}
 use lib.ListN.{length, getD, drop, drop-of-length-le}
@@ -16,30 +16,49 @@ use Rattle.molecule.specs.Record.{onesOf}
 use Rattle.molecule.specs.Parts.{mirrored, bitSound, byteSound}
 
 module _ (rows : List ℕ) (n at : ℕ) where
-  pub bit-clear : (k : ℕ) → (getD rows at 0 / 2 ^ k % 2 ≡ 1 → ⊥) → bitSound rows n at k ≡ true
-  unfolding bitSound
-  bit-clear k h = rw (ne-eqb (getD rows at 0 / 2 ^ k % 2) 1 h)
+  -- bit k of the byte, as the code reads it
+  abbrev digit : ℕ → ℕ
+  digit k = getD rows at 0 / 2 ^ k % 2
 
-  pub bit-set :
-      (k : ℕ) → getD rows at 0 / 2 ^ k % 2 ≡ 1 → mirrored rows n (at / 16) (at % 16 * 8 + k) ≡ bitSound rows n at k
+  pub bit-clear : (k : ℕ) → (digit k ≡ 1 → ⊥) → bitSound rows n at k ≡ true
   unfolding bitSound
-  bit-set k b = rw (eq-eqb (getD rows at 0 / 2 ^ k % 2) 1 b)
+  bit-clear k clear = rw (ne-eqb (digit k) 1 clear)
+
+  pub bit-set : (k : ℕ) → digit k ≡ 1 → mirrored rows n (at / 16) (at % 16 * 8 + k) ≡ bitSound rows n at k
+  unfolding bitSound
+  bit-set k set = rw (eq-eqb (digit k) 1 set)
 
   pub zero-byte : getD rows at 0 ≡ 0 → byteSound rows n at ≡ true
   unfolding byteSound
-  zero-byte z = allBelow-of 8 (bitSound rows n at) (λ k h. bit-clear k (λ e. clear k e))
+  zero-byte zero = allBelow-of 8 (bitSound rows n at) (λ k h. bit-clear k (λ set. clear k set))
     where
-      clear : (k : ℕ) → getD rows at 0 / 2 ^ k % 2 ≡ 1 → ⊥
-      clear k e =
-          let none : getD rows at 0 / 2 ^ k % 2 ≡ 0 = rw (z, zero-div (2 ^ k)) in
+      clear : (k : ℕ) → digit k ≡ 1 → ⊥
+      clear k set =
+          let none : digit k ≡ 0 = rw (zero, zero-div (2 ^ k)) in
           omega arith
 
--- the count of ones, from a place on
-module _ (xs : List ℕ) (i sum : ℕ) where
-  pub ones-turn : i < length xs → sum + ones (getD xs i 0) + onesOf (drop (i + 1) xs) ≡ sum + onesOf (drop i xs)
-  unfolding onesOf
-  ones-turn h = rw (drop-cons xs i 0 h, add-one) (omega arith)
+-- the sum counts the ones of the first i bytes
+pub record Counted (xs : List ℕ) (i sum : ℕ) : Type 0 where
+  pub inside : i ≤ length xs
+  pub most : sum ≤ 8 * i
+  pub rest : sum + onesOf (drop i xs) ≡ onesOf xs
 
-  pub ones-end : length xs ≤ i → sum + onesOf (drop i xs) ≡ sum
+pub counted-none : (xs : List ℕ) → Counted xs 0 0
+counted-none xs = record { inside = omega arith; most = omega arith; rest = zero-add (onesOf xs) }
+
+module _ {xs : List ℕ} {i sum : ℕ} (counted : Counted xs i sum) where
+  pub counted-more : i < length xs → ones (getD xs i 0) ≤ 8 → Counted xs (i + 1) (sum + ones (getD xs i 0))
   unfolding onesOf
-  ones-end h = rw (drop-of-length-le xs h) (add-zero sum)
+  counted-more more few =
+      record {
+        inside = omega arith;
+        most = omega arith;
+        rest = one-byte ∙ counted .rest;
+      }
+    where
+      one-byte : sum + ones (getD xs i 0) + onesOf (drop (i + 1) xs) ≡ sum + onesOf (drop i xs)
+      one-byte = rw (drop-cons xs i 0 more, add-one) (omega arith)
+
+  pub counted-all : length xs ≤ i → sum ≡ onesOf xs
+  unfolding onesOf
+  counted-all end = sym (rw (drop-of-length-le xs end) (add-zero sum)) ∙ counted .rest

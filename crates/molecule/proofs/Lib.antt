@@ -1,3 +1,4 @@
 pub mod Bonds
+pub mod Passed
 pub mod Checks
 pub mod Rules

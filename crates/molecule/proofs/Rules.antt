@@ -10,7 +10,8 @@ use lib.ListN.{getD}
 use lib.Dec.{ltb, eqb}
 use borrow.Author.Tests.{lt-ltb, ltb-true, le-leb, ne-eqb, eqb-false, not-true}
 use Rattle.graph.specs.Every.{allBelow}
-use Rattle.graph.proofs.Below.{allBelow-at, allBelow-of, and-parts, and-both, same-test, beq-true, beq-same, false-of, not-of, apart, implies-intro, implies-elim}
+use Rattle.graph.proofs.Below.{allBelow-at, allBelow-of, and-parts, and-both, same-test, beq-true, beq-same}
+use Rattle.graph.proofs.Below.{false-of, not-of, apart, implies-intro, implies-elim}
 use Rattle.molecule.specs.Record.{bit, cell, onesOf, everyCell, symmetric, loopless, within, wellFormed}
 use Rattle.molecule.specs.declared.Molecule.{Molecule}
 use Rattle.molecule.specs.Parts.{mirrored, bitSound, byteSound, rowsSound}
@@ -53,18 +54,23 @@ of-mirror rows n i j m =
 unfoldable pub Sound : List ℕ → ℕ → Type 0
 Sound rows n = (i j : ℕ) → i < 128 → j < 128 → cell rows i j ≡ true → Mirror rows n i j
 
+-- a bit by the place of its byte
+mirrored-at :
+    (rows : List ℕ) (n : ℕ) → rowsSound rows n ≡ true →
+    (at k : ℕ) → at < 2048 → k < 8 → bit (getD rows at 0) k ≡ true →
+    mirrored rows n (at / 16) (at % 16 * 8 + k) ≡ true
+unfolding rowsSound byteSound bitSound
+mirrored-at rows n e at k place offset set =
+    let byte = allBelow-at 2048 (byteSound rows n) e at place in
+    let here = allBelow-at 8 (bitSound rows n at) byte k offset in
+    implies-elim (bit (getD rows at 0) k) (mirrored rows n (at / 16) (at % 16 * 8 + k)) here set
+
 sound-of-bytes : (rows : List ℕ) (n : ℕ) → rowsSound rows n ≡ true → Sound rows n
-unfolding Sound rowsSound byteSound bitSound cell
+unfolding Sound cell
 sound-of-bytes rows n e i j hi hj set =
-    let at : ℕ = 16 * i + j / 8 in
-    let place : 16 * i + j / 8 < 2048 = omega arith in
-    let offset : j % 8 < 8 = omega arith in
     let row : (16 * i + j / 8) / 16 ≡ i = omega arith in
     let column : (16 * i + j / 8) % 16 * 8 + j % 8 ≡ j = omega arith in
-    let byte = allBelow-at 2048 (byteSound rows n) e (16 * i + j / 8) place in
-    let here = allBelow-at 8 (bitSound rows n (16 * i + j / 8)) byte (j % 8) offset in
-    let m = implies-elim (bit (getD rows (16 * i + j / 8) 0) (j % 8))
-    (mirrored rows n ((16 * i + j / 8) / 16) ((16 * i + j / 8) % 16 * 8 + j % 8)) here set in
+    let m = mirrored-at rows n e (16 * i + j / 8) (j % 8) (omega arith) (omega arith) set in
     mirror-of rows n i j (rw (row, column) at m)
 
 pub bytes-of-sound : (rows : List ℕ) (n : ℕ) → Sound rows n → rowsSound rows n ≡ true
@@ -75,51 +81,55 @@ bytes-of-sound rows n sound =
   where
     here : (at k : ℕ) → at < 2048 → k < 8 → bitSound rows n at k ≡ true
     here at k place offset =
+        let i = at / 16 in
+        let j = at % 16 * 8 + k in
         let same-byte : 16 * (at / 16) + (at % 16 * 8 + k) / 8 ≡ at = omega arith in
         let same-bit : (at % 16 * 8 + k) % 8 ≡ k = omega arith in
-        implies-intro (bit (getD rows at 0) k) (mirrored rows n (at / 16) (at % 16 * 8 + k))
-        (λ set. of-mirror rows n (at / 16) (at % 16 * 8 + k)
-        (sound (at / 16) (at % 16 * 8 + k) (omega arith) (omega arith) (rw (same-byte, same-bit) set)))
+        implies-intro (bit (getD rows at 0) k) (mirrored rows n i j)
+        (λ set. of-mirror rows n i j (sound i j (omega arith) (omega arith) (rw (same-byte, same-bit) set)))
+
+-- the tests of a row and a column in `symmetric` and in `within`
+abbrev mirrors : List ℕ → ℕ → ℕ → Bool
+mirrors rows i j = Bool·beq (cell rows i j) (cell rows j i)
+
+abbrev inside : List ℕ → ℕ → ℕ → ℕ → Bool
+inside rows n i j = not (cell rows i j) || ltb i n && ltb j n
 
 -- the rules of the rows, one by one
 rules-of-sound : (rows : List ℕ) (n : ℕ) → Sound rows n → (symmetric rows && loopless rows && within n rows) ≡ true
 unfolding Sound symmetric loopless within
-rules-of-sound rows n sound = and-both _ _ (and-both _ _ mirror diagonal) inside
+rules-of-sound rows n sound =
+    let symmetric = every-intro (mirrors rows) mirrored-here in
+    let loopless = allBelow-of 128 (λ i. not (cell rows i i)) clear-here in
+    and-both _ _ (and-both _ _ symmetric loopless) (every-intro (inside rows n) inside-here)
   where
-    mirror : everyCell (λ i j. Bool·beq (cell rows i j) (cell rows j i)) ≡ true
-    mirror =
-        every-intro (λ i j. Bool·beq (cell rows i j) (cell rows j i))
-        (λ i j hi hj. beq-same (cell rows i j) (cell rows j i)
-        (same-test (cell rows i j) (cell rows j i) (λ e. sound i j hi hj e .image) (λ e. sound j i hj hi e .image)))
+    mirrored-here : (i j : ℕ) → i < 128 → j < 128 → mirrors rows i j ≡ true
+    mirrored-here i j hi hj =
+        beq-same (cell rows i j) (cell rows j i)
+        (same-test (cell rows i j) (cell rows j i) (λ e. sound i j hi hj e .image) (λ e. sound j i hj hi e .image))
 
-    diagonal : allBelow 128 (λ i. not (cell rows i i)) ≡ true
-    diagonal =
-        allBelow-of 128 (λ i. not (cell rows i i))
-        (λ i hi. not-of (cell rows i i) (false-of (cell rows i i) (λ e. sound i i hi hi e .off-diagonal refl)))
+    clear-here : (i : ℕ) → i < 128 → not (cell rows i i) ≡ true
+    clear-here i hi = not-of (cell rows i i) (false-of (cell rows i i) (λ e. sound i i hi hi e .off-diagonal refl))
 
-    inside : everyCell (λ i j. not (cell rows i j) || ltb i n && ltb j n) ≡ true
-    inside =
-        every-intro (λ i j. not (cell rows i j) || ltb i n && ltb j n)
-        (λ i j hi hj. implies-intro (cell rows i j) (ltb i n && ltb j n)
-        (λ e. let m = sound i j hi hj e in and-both _ _ (lt-ltb i n (m .row-within)) (lt-ltb j n (m .column-within))))
+    inside-here : (i j : ℕ) → i < 128 → j < 128 → inside rows n i j ≡ true
+    inside-here i j hi hj =
+        implies-intro (cell rows i j) (ltb i n && ltb j n)
+        (λ e. let m = sound i j hi hj e in and-both _ _ (lt-ltb i n (m .row-within)) (lt-ltb j n (m .column-within)))
 
 pub sound-of-rules : (rows : List ℕ) (n : ℕ) → (symmetric rows && loopless rows && within n rows) ≡ true → Sound rows n
 unfolding Sound symmetric loopless within
 sound-of-rules rows n e i j hi hj set =
     let outer = and-parts (symmetric rows && loopless rows) (within n rows) e in
     let inner = and-parts (symmetric rows) (loopless rows) (outer .0) in
-    let inside =
-    implies-elim (cell rows i j) (ltb i n && ltb j n)
-    (every-elim (λ i j. not (cell rows i j) || ltb i n && ltb j n) (outer .1) i j hi hj) set in
-    let parts = and-parts (ltb i n) (ltb j n) inside in
+    let mirror = every-elim (mirrors rows) (inner .0) i j hi hj in
     let clear = allBelow-at 128 (λ i. not (cell rows i i)) (inner .1) i hi in
-    let same = beq-true (cell rows i j) (cell rows j i)
-    (every-elim (λ i j. Bool·beq (cell rows i j) (cell rows j i)) (inner .0) i j hi hj) in
+    let within = every-elim (inside rows n) (outer .1) i j hi hj in
+    let parts = and-parts (ltb i n) (ltb j n) (implies-elim (cell rows i j) (ltb i n && ltb j n) within set) in
     record {
       row-within = ltb-true i n (parts .0);
       column-within = ltb-true j n (parts .1);
       off-diagonal = λ d. apart (sym set ∙ ap (λ k. cell rows i k) (sym d) ∙ not-true (cell rows i i) clear);
-      image = sym same ∙ set;
+      image = sym (beq-true (cell rows i j) (cell rows j i) mirror) ∙ set;
     }
 
 -- The check of the rows decides their rules

@@ -97,53 +97,65 @@ pub record Computed (l : Line) : Type 0 where
   pub measures : length (l .mark) ≡ l .size
 
 module _ (l : Line) (c : Computed l) where
-  good : wellFormed (moleculeOf l) ≡ true
+  -- the record, the fresh search, the run's outcome and the search that it returns
+  abbrev R : Molecule
+  R = moleculeOf l
+
+  abbrev q : Search
+  q = freshOf l
+
+  abbrev o : Outcome
+  o = outcome R q (l .budget) (l .output)
+
+  abbrev after : Search
+  after = l .returned .search
+
+  good : wellFormed R ≡ true
   good = accepted-well-formed (l .sheet) (c .reads)
 
-  fresh-kept : restorable (moleculeOf l) (freshOf l) ≡ true
-  fresh-kept = fresh-restorable (moleculeOf l) (l .kind) (l .s) (l .t) good (c .kinds)
+  fresh-kept : restorable R q ≡ true
+  fresh-kept = fresh-restorable R (l .kind) (l .s) (l .t) good (c .kinds)
 
-  returned-is : ran (freshOf l) (outcome (moleculeOf l) (freshOf l) (l .budget) (l .output)) ≡ l .returned
+  returned-is : ran q o ≡ l .returned
   returned-is = ap (λ (x : Ran × List ℕ). x .0) (c .runs)
 
-  returned-kept : restorable (moleculeOf l) (l .returned .search) ≡ true
-  returned-kept =
-      subst (λ (r : Ran). restorable (moleculeOf l) (r .search) ≡ true) returned-is
-      (run-kept (moleculeOf l) good (freshOf l) fresh-kept (l .budget) (l .output))
+  written-is : o .bytes ++ drop (length (o .bytes)) (l .output) ≡ l .written
+  written-is = ap (λ (x : Ran × List ℕ). x .1) (c .runs)
 
-  mark-size : length (markText (moleculeOf l) (l .returned .search)) ≡ l .size
+  returned-kept : restorable R after ≡ true
+  returned-kept =
+      subst (λ (r : Ran). restorable R (r .search) ≡ true) returned-is
+      (run-kept R good q fresh-kept (l .budget) (l .output))
+
+  returned-restores : restoreMark R (markText R after) ≡ acceptedSearch after
+  returned-restores =
+      subst (λ (r : Ran). restoreMark R (markText R (r .search)) ≡ acceptedSearch (r .search)) returned-is
+      (run-restores R good q fresh-kept (l .budget) (l .output))
+
+  mark-size : length (markText R after) ≡ l .size
   mark-size = ap length (c .marks) ∙ c .measures
 
   line-saves : (buffer : List ℕ) → l .size ≤ length buffer → Saves l buffer
   line-saves buffer room =
-      let fits : length (markText (moleculeOf l) (l .returned .search)) ≤ length buffer = rw mark-size room in
+      let fits : length (markText R after) ≤ length buffer = rw mark-size room in
+      let stays = ap₂ (λ (m : List ℕ) (k : ℕ). m ++ drop k buffer) (c .marks) mark-size in
       record {
-        answers =
-            save-writes (moleculeOf l) (l .returned .search) buffer good returned-kept fits
-            ∙ ap Written mark-size;
-        leaves =
-            save-leaves (moleculeOf l) good (l .returned .search) buffer returned-kept fits
-            ∙ ap₂ (λ (m : List ℕ) (k : ℕ). m ++ drop k buffer) (c .marks) mark-size;
+        answers = save-writes R after buffer good returned-kept fits ∙ ap Written mark-size;
+        leaves = save-leaves R good after buffer returned-kept fits ∙ stays;
       }
 
   line-holds : Holds l
   line-holds =
-      let R = moleculeOf l in
       record {
         reads = c .reads;
         starts = start-answers R good (l .kind) (l .s) (l .t) (c .kinds);
         lists = c .lists;
-        returns = run-answers R good (freshOf l) fresh-kept (l .budget) (l .output) ∙ returned-is;
-        writes =
-            run-leaves R good (freshOf l) fresh-kept (l .budget) (l .output)
-            ∙ ap (λ (x : Ran × List ℕ). x .1) (c .runs);
+        returns = run-answers R good q fresh-kept (l .budget) (l .output) ∙ returned-is;
+        writes = run-leaves R good q fresh-kept (l .budget) (l .output) ∙ written-is;
         marks = c .marks;
         measures = c .measures;
         saves = line-saves;
-        restores =
-            ap (restoreMark R) (sym (c .marks))
-            ∙ subst (λ (r : Ran). restoreMark R (markText R (r .search)) ≡ acceptedSearch (r .search)) returned-is
-            (run-restores R good (freshOf l) fresh-kept (l .budget) (l .output));
+        restores = ap (restoreMark R) (sym (c .marks)) ∙ returned-restores;
       }
 
 abbrev pub AllComputed : List Line → Type 0

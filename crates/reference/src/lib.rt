@@ -1,1 +1,2 @@
-// Definitions alone: the starred reference molecules of document 01 as one table (specs/), and the theorem that it holds (proofs/).
+// Definitions alone: the starred reference molecules of document 01 as one table (specs/), and the theorem that it
+// holds (proofs/).

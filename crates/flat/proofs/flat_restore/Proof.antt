@@ -1,41 +1,31 @@
 -- A mark restored on flat buffers.
 -- The assembled record is the one of the definition.
-use mathlib.Core.Path.{_≡_, sym, ap, _∙_}
-use mathlib.Core.Bool.{true}
-use lib.ListN.{length}
-use borrow.Author.Tests.{not-true, not-false}
-use Rattle.search.specs.Mark.{restoreMark}
-use Rattle.flat.specs.Codes.{molecule}
-use Rattle.flat.specs.Searches.{sizesKept}
-use Rattle.flat.proofs.Searches.{sizes-of, made-unsized, made-stored}
+use mathlib.Core.Path.{ap, _∙_}
 use borrow.Author.Needs.{needs}
+use Rattle.search.specs.Mark.{restoreMark}
+use Rattle.flat.proofs.Searches.{rows-size, search-size, made-unsized, made-stored}
 use Rattle.flat.proofs.flat_restore.Statement.{statement}
 use Rattle.flat.proofs.flat_restore.Tie as tie
 
--- past the test the buffers have their lengths
-kept : (c : tie.Else1) → sizesKept (length (c .before .before .before .before .before .before .args .rows .now)) (length (c .before .before .before .before .before .before .args .numbers .now)) (length (c .before .before .before .before .before .before .args .prefix .now)) ≡ true
-kept c = sym (c .before .sizes-kept .ensures) ∙ not-false _ (c .if1 .left)
-
-sizes : (c : tie.Else1) → (length (c .before .before .before .before .before .before .args .rows .now) ≡ 2048) × (length (c .before .before .before .before .before .before .args .numbers .now) ≡ 10) × (length (c .before .before .before .before .before .before .args .prefix .now) ≡ 128)
-sizes c = sizes-of (c .before .before .before .before .before .before .args .rows .now) (c .before .before .before .before .before .before .args .numbers .now) (c .before .before .before .before .before .before .args .prefix .now) (kept c)
-
 returns : tie.Need-returns
-returns c =
-    let start = c .before .before .before .before .before .before in
-    made-unsized (start .args .rows .now) (start .args .numbers .now) (start .args .prefix .now) (restoreMark (molecule (start .args .atoms) (start .args .bonds) (start .args .rows .now)) (start .args .mark .now)) (sym (c .before .sizes-kept .ensures) ∙ not-true _ (c .if1 .taken))
-
-assemble-requires : tie.Need-assemble-requires
-assemble-requires c κs = sizes c .0
-
-store-made-requires : tie.Need-store-made-requires
-store-made-requires c κs =
-    let lengths = sizes (c .before .before .before .before) in
-    (lengths .1, lengths .2)
+returns c = made-unsized (c .before .sizes-kept .ensures) (c .if1 .taken)
 
 returns-2 : tie.Need-returns-2
 returns-2 c =
-    let start = c .before .before .before .before .before .before .before .before .before .before .before .before .before .before .before in
-    made-stored (start .args .rows .now) (start .args .numbers .now) (start .args .prefix .now) (restoreMark (molecule (start .args .atoms) (start .args .bonds) (start .args .rows .now)) (start .args .mark .now)) (kept (c .before .before .before .before .before .before .before .before .before)) _ (c .before .before .before .before .before .before .before .restore .ensures ∙ ap (λ m. restoreMark m (start .args .mark .now)) (c .before .before .before .before .before .before .before .before .assemble .ensures)) _ _ _ (c .before .before .before .before .store-made .ensures)
+    let start : tie.Start = search in
+    let assembled : tie.After-assemble = search in
+    let same = ap (λ m. restoreMark m (start .args .mark .now)) (assembled .assemble .ensures) in
+    let made : tie.After-restore = search in
+    let stored : tie.After-store-made = search in
+    let test : tie.Else1 = search in
+    made-stored (test .before .sizes-kept .ensures) (test .if1 .left) (made .restore .ensures ∙ same)
+    (stored .store-made .ensures)
 
 pub flat-restore-spec : {M : Type 1} → statement M
-flat-restore-spec = tie.close (tie.spec (λ c κs. search needs) returns assemble-requires (λ c κs. search needs) store-made-requires (λ c. search needs) (λ c. search needs) returns-2)
+flat-restore-spec =
+    tie.close
+    (tie.spec
+    (λ c κs. search needs) (λ c. search needs) (λ c. search needs) returns
+    (λ c κs. rows-size (c .before .sizes-kept .ensures) (c .if1 .left)) (λ c κs. search needs)
+    (λ c κs. let test : tie.Else1 = search in search-size (test .before .sizes-kept .ensures) (test .if1 .left))
+    (λ c. search needs) (λ c. search needs) returns-2)

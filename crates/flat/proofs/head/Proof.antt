@@ -2,9 +2,9 @@
 -- Four stores at the start of a list.
 use native.Mathlib.Omega.{arith}
 use lib.ListN.{length-set}
+use borrow.Author.Needs.{needs}
 use Rattle.flat.specs.Codes.{headBytes}
 use Rattle.flat.proofs.Buffers.{four-set}
-use borrow.Author.Needs.{needs}
 use Rattle.flat.proofs.head.Statement.{statement}
 use Rattle.flat.proofs.head.Tie as tie
 
@@ -22,5 +22,5 @@ pub head-spec : {M : Type 1} → statement M
 head-spec =
     tie.close
     (tie.spec
-    (λ c. search needs) (λ c. search needs) (λ c. search needs) slice-write-out-2 (λ c. search needs) slice-write-out-3 (λ c. search needs)
-    (λ c. search needs) (λ c. search needs) returns)
+    (λ c. search needs) (λ c. search needs) (λ c. search needs) slice-write-out-2 (λ c. search needs)
+    slice-write-out-3 (λ c. search needs) (λ c. search needs) (λ c. search needs) returns)

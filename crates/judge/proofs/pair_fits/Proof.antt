@@ -1,57 +1,66 @@
 -- One pair of places: different atoms, bonded exactly when joined.
 -- The bit that the code reads is the bond, since both atoms are in range.
-use mathlib.Core.Bool.{not}
-use Rattle.graph.specs.Chordless.{atomAt}
-use Prim.Native.Nat.{_≤_}
-use mathlib.Core.Path.{sym, ap, _∙_}
 use native.Mathlib.Omega.{arith}
-use Rattle.graph.proofs.Places.{range-at}
-use Rattle.molecule.proofs.Bonds.{bonded-cell}
-use Rattle.judge.proofs.Tests.{pair-equal, pair-bonded, pair-not-bonded}
+use Rattle.judge.proofs.Tests.{PairRead, two-atoms, pair-equal, pair-bonded, pair-not-bonded}
 use borrow.Author.Needs.{needs}
 use Rattle.judge.proofs.pair_fits.Statement.{statement}
 use Rattle.judge.proofs.pair_fits.Tie as tie
 
+-- ---- the places: each name goes back from a later place to an earlier one
+-- (in a proof, the argument `(search)` is a place: it is found in c by its type)
+
+-- from where both atoms are read
+abbrev left-read : tie.After-u8-usize2 → tie.After-u8-usize
+left-read c = c .before .before
+
+abbrev start : tie.After-u8-usize → tie.Start
+start c = c .before .before .before
+
+-- ---- what is known there
+
+pair :
+    (c : tie.After-u8-usize2) →
+    let args = start (left-read c) .args in
+    PairRead (args .n) (args .xs .now) (args .i) (args .j) (left-read c .u8-usize .result) (c .u8-usize2 .result)
+pair c =
+    let start : tie.Start = search in
+    record {
+      places = start .pre;
+      left = left-read c .u8-usize .ensures .same;
+      right = c .u8-usize2 .ensures .same;
+    }
+
+-- ---- the needs
+
 returns : tie.Need-returns
-returns c = sym (pair-equal _ _ _ _ _ (sym (c .before .before .before .wide .ensures) ∙ c .if1 .taken ∙ c .before .wide2 .ensures))
+returns c = pair-equal (pair (search)) _ _ (c .if1 .taken)
 
 sub-linked : tie.Need-sub-linked
-sub-linked c =
-    let low : 1 ≤ c .before .before .before .wide .result = rw (c .before .before .before .wide .ensures) (range-at _ _ (c .before .before .before .before .before .before .pre .3) (c .before .before .before .before .before .before .args .i) (omega arith) .0) in
-    low
+sub-linked c = two-atoms (pair (search)) .left-low
 
 sub-linked-2 : tie.Need-sub-linked-2
-sub-linked-2 c = rw (c .before .wide2 .ensures) (range-at _ _ (c .before .before .before .before .before .before .pre .3) (c .before .before .before .before .before .before .args .j) (omega arith) .0)
+sub-linked-2 c = two-atoms (pair (search)) .right-low
 
 linked-requires : tie.Need-linked-requires
-linked-requires c κs =
-    let i = range-at _ _ (c .before .before .before .before .before .before .pre .3) (c .before .before .before .before .before .before .args .i) (omega arith) in
-    let j = range-at _ _ (c .before .before .before .before .before .before .pre .3) (c .before .before .before .before .before .before .args .j) (omega arith) in
-    omega (arith, c .before .before .before .wide .ensures, c .before .wide2 .ensures)
+linked-requires c κs = omega (arith, two-atoms (pair (search)))
 
 returns-2 : tie.Need-returns-2
 returns-2 c =
-    let start = c .before .before .before .before .before .before .before .before .before in
-    let i = range-at (start .args .n) (start .args .xs .now) (start .pre .3) (start .args .i) (omega arith) in
-    let j = range-at (start .args .n) (start .args .xs .now) (start .pre .3) (start .args .j) (omega arith) in
-    let a = c .before .before .before .before .before .before .wide .ensures in
-    let b = c .before .before .before .before .wide2 .ensures in
-    let bit = bonded-cell (start .args .n) (start .args .rows .now) (atomAt (start .args .xs .now) (start .args .i)) (atomAt (start .args .xs .now) (start .args .j)) (i .0) (i .1) (j .0) (j .1) in
-    c .joined .ensures ∙ sym (pair-bonded _ _ _ _ _ (λ e. c .before .before .before .if1 .left (a ∙ e ∙ sym b)) (bit ∙ rw (a, b) at (sym (c .before .before .linked .ensures)) ∙ c .before .if2 .taken))
+    let differ : tie.Else1 = search in
+    let bit : tie.After-linked = search in
+    pair-bonded (pair (search)) _ _ (differ .if1 .left) (bit .linked .ensures) (c .joined .ensures)
+    (c .before .if2 .taken)
 
 returns-3 : tie.Need-returns-3
 returns-3 c =
-    let start = c .before .before .before .before .before .before .before .before .before in
-    let i = range-at (start .args .n) (start .args .xs .now) (start .pre .3) (start .args .i) (omega arith) in
-    let j = range-at (start .args .n) (start .args .xs .now) (start .pre .3) (start .args .j) (omega arith) in
-    let a = c .before .before .before .before .before .before .wide .ensures in
-    let b = c .before .before .before .before .wide2 .ensures in
-    let bit = bonded-cell (start .args .n) (start .args .rows .now) (atomAt (start .args .xs .now) (start .args .i)) (atomAt (start .args .xs .now) (start .args .j)) (i .0) (i .1) (j .0) (j .1) in
-    ap not (c .joined2 .ensures) ∙ sym (pair-not-bonded _ _ _ _ _ (λ e. c .before .before .before .if1 .left (a ∙ e ∙ sym b)) (bit ∙ rw (a, b) at (sym (c .before .before .linked .ensures)) ∙ c .before .if2 .left))
+    let differ : tie.Else1 = search in
+    let bit : tie.After-linked = search in
+    pair-not-bonded (pair (search)) _ _ (differ .if1 .left) (bit .linked .ensures) (c .joined2 .ensures)
+    (c .before .if2 .left)
 
 pub pair-fits-spec : {M : Type 1} → statement M
 pair-fits-spec =
     tie.close
     (tie.spec
-    (λ c. search needs) (λ c κs. search needs) (λ c. search needs) (λ c κs. search needs) returns sub-linked sub-linked-2 linked-requires
-    (λ c κs. search needs) returns-2 (λ c κs. search needs) returns-3)
+    (λ c. search needs) (λ c κs. search needs) (λ c. search needs) (λ c κs. search needs) returns sub-linked
+    sub-linked-2 linked-requires (λ c κs. search needs) returns-2 (λ c κs. search needs) returns-3)

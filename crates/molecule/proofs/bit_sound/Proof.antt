@@ -13,4 +13,8 @@ returns-2 : tie.Need-returns-2
 returns-2 c = c .is-mirrored .ensures ∙ bit-set _ _ _ _ (c .before .if1 .left)
 
 pub bit-sound-spec : {M : Type 1} → statement M
-bit-sound-spec = tie.close (tie.spec (λ c. search needs) (λ c. search needs) (λ c. search needs) returns (λ c. search needs) (λ c. search needs) (λ c κs. search needs) returns-2)
+bit-sound-spec =
+    tie.close
+    (tie.spec
+    (λ c. search needs) (λ c. search needs) (λ c. search needs) returns (λ c. search needs) (λ c. search needs)
+    (λ c κs. search needs) returns-2)

@@ -16,11 +16,17 @@ returns-2 c = simp (lt-ltb _ _ (c .before .if1 .left), le-ltb _ _ (c .if2 .taken
 
 returns-3 : tie.Need-returns-3
 unfolding mirrored
-returns-3 c = simp (lt-ltb _ _ (c .before .before .if1 .left), lt-ltb _ _ (c .before .if2 .left), eq-eqb _ _ (c .if3 .taken))
+returns-3 c =
+    simp (lt-ltb _ _ (c .before .before .if1 .left), lt-ltb _ _ (c .before .if2 .left), eq-eqb _ _ (c .if3 .taken))
 
 returns-4 : tie.Need-returns-4
 unfolding mirrored
-returns-4 c = simp (c .linked .ensures, lt-ltb _ _ (c .before .before .before .if1 .left), lt-ltb _ _ (c .before .before .if2 .left), ne-eqb _ _ (c .before .if3 .left))
+returns-4 c =
+    let row : tie.Else1 = search in
+    let column : tie.Else2 = search in
+    let differ : tie.Else3 = search in
+    simp
+    (c .linked .ensures, lt-ltb _ _ (row .if1 .left), lt-ltb _ _ (column .if2 .left), ne-eqb _ _ (differ .if3 .left))
 
 pub is-mirrored-spec : {M : Type 1} → statement M
 is-mirrored-spec = tie.close (tie.spec returns returns-2 returns-3 (λ c κs. search needs) returns-4)

@@ -11,4 +11,7 @@ unfolding cell
 returns c = refl
 
 pub linked-spec : {M : Type 1} → statement M
-linked-spec = tie.close (tie.spec (λ c. search needs) (λ c. search needs) (λ c. search needs) (λ c. search needs) (λ c. search needs) returns)
+linked-spec =
+    tie.close
+    (tie.spec
+    (λ c. search needs) (λ c. search needs) (λ c. search needs) (λ c. search needs) (λ c. search needs) returns)

@@ -1,39 +1,50 @@
 -- The count of ones over the rows.
 -- Invariant: the sum so far and the ones of the rest are the ones of all.
-use Prim.Native.Nat.{_+_, _-_, _*_, _≤_}
-use mathlib.Core.Path.{_≡_, sym, _∙_}
-use native.Mathlib.Nat.{zero-add}
+use Prim.Native.Nat.{_-_, _≤_}
 use native.Mathlib.Omega.{arith}
-use borrow.Author.Needs.{needs}
-use lib.ListN.{drop, length}
-use lib.Count.{ones-le}
-use Rattle.molecule.specs.Record.{onesOf}
-use Rattle.molecule.proofs.Checks.{ones-turn, ones-end}
+use lib.ListN.{getD, length}
+use lib.Count.{ones, ones-le}
+use Rattle.molecule.proofs.Checks.{Counted, counted-none, counted-more, counted-all}
 use Rattle.molecule.proofs.ones_of.Statement.{statement}
 use Rattle.molecule.proofs.ones_of.Tie as tie
 
 abbrev Inv-loop : tie.InvT-loop
-Inv-loop rows sum₀ i₀ sum i = (i ≤ length rows) × (sum ≤ 8 * i) × (sum + onesOf (drop i rows) ≡ onesOf rows)
+Inv-loop rows sum₀ i₀ sum i = Counted rows i sum
 
 abbrev μ-loop : tie.MeasureT-loop
 μ-loop rows sum₀ i₀ sum i = length rows - i
 
+abbrev Place : (tie.InvT-loop → tie.MeasureT-loop → Type 0) → Type 0
+Place place = place Inv-loop μ-loop
+
+-- from where a byte of the rows is known to fit
+abbrev turn : Place tie.After-shared-slice-known → Place tie.At-loop
+turn c = c .before .before
+
+most-eight :
+    (c : Place tie.After-shared-slice-known) →
+    let here = turn c in
+    ones (getD (here .before .args .rows .now) (here .loop .i) 0) ≤ 8
+most-eight c = ones-le 8 _ (c .shared-slice-known .given (turn c .loop .i) .fits)
+
 loop-holds : tie.Need-loop-holds Inv-loop μ-loop
-loop-holds c = (search needs, search needs, zero-add _)
+loop-holds c = counted-none _
 
 cast-sum : tie.Need-cast-sum Inv-loop μ-loop
-cast-sum c = omega (arith, ones-le 8 _ (c .shared-slice-known .given (c .before .before .loop .i) .fits))
+cast-sum c = omega (arith, most-eight c)
 
 add-sum : tie.Need-add-sum Inv-loop μ-loop
-add-sum c = omega (arith, ones-le 8 _ (c .shared-slice-known .given (c .before .before .loop .i) .fits))
+add-sum c = omega (arith, most-eight c)
 
 loop-again : tie.Need-loop-again Inv-loop μ-loop
-loop-again c =
-    let few = ones-le 8 _ (c .shared-slice-known .given (c .before .before .loop .i) .fits) in
-    (omega arith, omega (arith, few), ones-turn (c .before .before .before .args .rows .now) (c .before .before .loop .i) (c .before .before .loop .sum) (c .before .loop-test .taken) ∙ c .before .before .loop .inv .2)
+loop-again c = counted-more (turn c .loop .inv) (c .before .loop-test .taken) (most-eight c)
 
 returns : tie.Need-returns Inv-loop μ-loop
-returns c = sym (ones-end (c .before .before .args .rows .now) (c .before .loop .i) (c .before .loop .sum) (c .loop-test .left)) ∙ c .before .loop .inv .2
+returns c = counted-all (c .before .loop .inv) (c .loop-test .left)
 
 pub ones-of-spec : {M : Type 1} → statement M
-ones-of-spec = tie.close (tie.spec Inv-loop μ-loop loop-holds (λ c. omega arith) cast-sum add-sum (λ c. omega arith) (λ c. omega arith) loop-again returns)
+ones-of-spec =
+    tie.close
+    (tie.spec
+    Inv-loop μ-loop loop-holds (λ c. omega arith) cast-sum add-sum (λ c. omega arith) (λ c. omega arith) loop-again
+    returns)
