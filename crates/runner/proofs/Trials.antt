@@ -24,20 +24,18 @@ use Rattle.atomset.specs.Set.{has}
 use Rattle.search.specs.declared.Search.{Search}
 use Rattle.search.specs.declared.Ran.{Ran}
 use Rattle.search.specs.Place.{beginning, stateOf}
-use Rattle.search.specs.Entries.{ran}
 use Rattle.openness.specs.declared.Plan.{Plan}
 use Rattle.openness.specs.Plan.{familyBy, Tells, Planned}
-use Rattle.trial.specs.declared.Spot.{Spot}
 use Rattle.openness.proofs.Plans.{family-by-lawful, family-by-atoms}
+use Rattle.trial.specs.declared.Spot.{Spot}
 use Rattle.trial.specs.Parts.{stackOf, stateAt, spotOf, Held, HeldWithRoom, Counting, Acted, Stale}
-use Rattle.runner.specs.Parts.{stoppedAt, Ready, runOnto}
 use Rattle.trial.proofs.Arrays.{stack-length, stack-back, stack-more, act-same, search-held, tried-word}
 use Rattle.trial.proofs.Bytes.{part-length, part-back, record-length}
+use Rattle.runner.specs.Parts.{stoppedAt, Ready, Yields}
 use Rattle.runner.proofs.Turns.{Going, going-starts, going-length, going-used, going-turn, going-answers}
 use Rattle.runner.proofs.Turns.{Below, below-limit, act-bounded, run-done, run-limit, run-spent, run-full}
 
--- ---- the tests before a trial
-
+-- the stack is empty where the beginning has no atom
 stack-none : (prefix : List ℕ) (len : ℕ) → Held prefix len → isEmpty (stackOf prefix len) ≡ eqb len 0
 unfolding isEmpty
 stack-none prefix zero h = refl
@@ -97,7 +95,7 @@ pub record Written (F : Family) (out : List ℕ) (used : ℕ) (st : State) (out�
   pub count : used′ ≡ used + length (lists F st)
   pub fits : length (lists F st) ≤ length out - used
 
--- the run ends here
+-- the rest of the run makes no trial: it stops here
 abbrev pub StopsBy : Task → List ℕ → Spot → ℕ → ℕ → Stop → Type 0
 StopsBy T prefix at used made why =
     let st = stateAt prefix at in
@@ -190,12 +188,12 @@ module _ {T : Task} {out prefix : List ℕ} {at : Spot} {found : Plan} {stale : 
   stops-spent d l e = run-spent _ _ st d l _ (omega arith)
 
   pub answers :
-      (q : Search) {r : Ran} {why : Stop} → r ≡ stoppedAt q prefix at why used made → StopsBy T prefix at used made why →
-      let o = run (T .family) (T .budget) (length (T .output)) (T .from) in
-      (r ≡ ran q o) × (out ≡ runOnto o (T .output))
+      (q : Search) {r : Ran} {why : Stop} → r ≡ stoppedAt q prefix at why used made →
+      StopsBy T prefix at used made why →
+      Yields q (run (T .family) (T .budget) (length (T .output)) (T .from)) (T .output) r out
   answers q f e =
-      let a = going-answers (t .going) q (search-held (q .kind) (q .s) (q .t) prefix at (t .standing)) e in
-      (f ∙ a .0, a .1)
+      let held = search-held (q .kind) (q .s) (q .t) prefix at (t .standing) in
+      rw f (going-answers (t .going) q held e)
 
 -- ---- at a trial
 

@@ -17,10 +17,10 @@ use Rattle.enumeration.specs.Run.{Outcome, limit, atLimit, lists, stopped, afte
 use Rattle.enumeration.specs.RunFacts.{Bounded}
 use Rattle.enumeration.proofs.Basics.{or-neither}
 use Rattle.search.specs.declared.Search.{Search}
+use Rattle.search.specs.declared.Ran.{Ran}
 use Rattle.search.specs.declared.Ended.the-variants.{Stopped}
 use Rattle.search.specs.Place.{searchAt}
-use Rattle.search.specs.Entries.{ran}
-use Rattle.runner.specs.Parts.{runOnto}
+use Rattle.runner.specs.Parts.{Yields}
 
 -- ---- one step of the definition
 
@@ -191,7 +191,6 @@ module _ {F : Family} {budget : ℕ} {out₀ : List ℕ} {st₀ : State} where
     pub going-answers :
         (q : Search) {at : Search} {why : Stop} → at ≡ searchAt (q .kind) (q .s) (q .t) st →
         run F (budget - made) (length out₀ - used) st ≡ stopped st why →
-        let outcome = run F budget (length out₀) st₀ in
-        (record { ended = Stopped why; search = at; used = used; made = made } ≡ ran q outcome)
-        × (out ≡ runOnto outcome out₀)
-    going-answers q f e = rw (going-ends e) (rw (f, g .used-is), g .wrote)
+        let result : Ran = record { ended = Stopped why; search = at; used = used; made = made } in
+        Yields q (run F budget (length out₀) st₀) out₀ result out
+    going-answers q f e = rw (going-ends e) (record { result = rw (f, g .used-is); output = g .wrote })

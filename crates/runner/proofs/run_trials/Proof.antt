@@ -1,5 +1,5 @@
--- `runner::run_trials` meets its contract. The invariant is `Turning`, the rest of the work; the measure is what is left
--- of the budget. What the tests, the plan and the record tell is said once at each place.
+-- `runner::run_trials` meets its contract. The invariant is `Turning`, the rest of the work; the measure is the budget
+-- that is left. What the tests, the plan and the record tell is said once at each place.
 use Prim.Native.Nat.{_+_, _-_}
 use native.Mathlib.Omega.{arith}
 use mathlib.Core.Path.{_≡_, sym, _∙_}
