@@ -3,7 +3,7 @@
 use Prim.Native.Nat.{ℕ, zero, suc, _+_, _-_, _≤_, _<_}
 use native.Mathlib.Omega.{arith}
 use mathlib.Core.Path.{_≡_, refl, ap, sym, _∙_}
-use mathlib.Core.Bool.{Bool, true, false, _||_}
+use mathlib.Core.Bool.{Bool, true, false}
 use mathlib.Core.List.{List, [], _++_, append-assoc, append-nil}
 use lib.ListN.{length, take, drop, length-append, length-drop}
 use lib.Seq.{take-at, drop-at, drop-drop}
@@ -15,11 +15,11 @@ use Rattle.enumeration.specs.Words.{Family}
 use Rattle.enumeration.specs.Machine.{State, isDone, act, trial}
 use Rattle.enumeration.specs.Run.{Outcome, limit, atLimit, lists, stopped, after, run}
 use Rattle.enumeration.specs.RunFacts.{Bounded}
-use Rattle.enumeration.proofs.Basics.{or-neither}
 use Rattle.search.specs.declared.Search.{Search}
 use Rattle.search.specs.declared.Ran.{Ran}
 use Rattle.search.specs.declared.Ended.the-variants.{Stopped}
 use Rattle.search.specs.Place.{searchAt}
+use Rattle.trial.proofs.Gaps.{none-at-limit}
 use Rattle.runner.specs.Parts.{Yields}
 
 -- ---- one step of the definition
@@ -66,16 +66,13 @@ less x h e = omega (arith, eqb-false x limit e)
 
 pub below-limit : (st : State) → Bounded st → atLimit st ≡ false → Below st
 unfolding atLimit
-below-limit st b e = go (or-neither (eqb (st .trials) limit || eqb (st .extensions) limit) (eqb (st .listed) limit) e)
-  where
-    go : ((eqb (st .trials) limit || eqb (st .extensions) limit) ≡ false) × (eqb (st .listed) limit ≡ false) → Below st
-    go r =
-        let q = or-neither (eqb (st .trials) limit) (eqb (st .extensions) limit) (r .0) in
-        record {
-          trials-less = less (st .trials) (b .trials-most) (q .0);
-          extensions-less = less (st .extensions) (b .extensions-most) (q .1);
-          listed-less = less (st .listed) (b .listed-most) (r .1);
-        }
+below-limit st b e =
+    let counts = none-at-limit (st .trials) (st .extensions) (st .listed) e in
+    record {
+      trials-less = less (st .trials) (b .trials-most) (counts .trials-other);
+      extensions-less = less (st .extensions) (b .extensions-most) (counts .extensions-other);
+      listed-less = less (st .listed) (b .listed-most) (counts .listed-other);
+    }
 
 pub act-bounded : (n : ℕ) (member extends : Bool) (st : State) → Below st → Bounded (act n member extends st)
 unfolding act

@@ -13,7 +13,7 @@ use Rattle.enumeration.proofs.Basics.{or-neither}
 use Rattle.atomset.specs.Set.{has, Lowest}
 use Rattle.openness.specs.declared.Plan.{Plan}
 use Rattle.trial.specs.declared.Spot.{Spot}
-use Rattle.trial.specs.Parts.{AtomAhead, Gap, Skips, Idle}
+use Rattle.trial.specs.Parts.{AtomAhead, Gap, Idle}
 
 first-false : (b : Bool) → b && true ≡ false → b ≡ false
 first-false false e = refl
@@ -82,5 +82,19 @@ module _ {found : Plan} {stale : Bool} {at : Spot} {n left : ℕ} where
   pub idle-none : Idle found stale at n left 0
   idle-none = record { affordable = omega arith; small = omega arith; runs = λ h. absurd (omega arith) }
 
-  pub idle-gap : {k : ℕ} → n ≤ 128 → k ≤ left → Skips found stale at n k → Idle found stale at n left k
-  idle-gap few h s = record { affordable = h; small = omega (arith, s .gap .within); runs = λ p. s }
+  -- the whole gap, within the budget and 128 trials or more below the limit
+  pub idle-gap :
+      {k : ℕ} → n ≤ 128 → stale ≡ false → 2 ≤ at .len → NoneAtLimit (at .trials) (at .extensions) (at .listed) →
+      at .trials + 128 ≤ limit → Gap found (at .next) n k → k ≤ left → Idle found stale at n left k
+  idle-gap few fresh long counts room gap affordable = record {
+    affordable = affordable;
+    small = omega (arith, gap .within);
+    runs = λ some. record {
+      fresh = fresh;
+      long = long;
+      gap = gap;
+      trials-most = omega (arith, gap .within);
+      extensions-other = counts .extensions-other;
+      listed-other = counts .listed-other;
+    };
+  }

@@ -15,14 +15,18 @@ run-trials-requires : tie.Need-run-trials-requires
 run-trials-requires c κs =
     let start : tie.Start = search in
     let table : tie.After-words-of = search in
-    ready _ _ _ (start .pre .0) (start .pre .1) (table .words-of .ensures) (size start)
+    let formed = start .pre .0 in
+    let kept = start .pre .1 in
+    ready _ _ _ formed kept (table .words-of .ensures) (size start)
 
 returns : tie.Need-returns
 returns c =
     let start : tie.Start = search in
     let table : tie.After-words-of = search in
     let trials : tie.After-run-trials = search in
-    answers-run _ _ _ (start .pre .0) (start .pre .1) (table .words-of .ensures) _ (trials .run-trials .ensures)
+    let formed = start .pre .0 in
+    let kept = start .pre .1 in
+    answers-run _ _ _ formed kept (table .words-of .ensures) _ (trials .run-trials .ensures)
 
 pub run-checked-spec : {M : Type 1} → statement M
 run-checked-spec = tie.close (tie.spec (λ c κs. search needs) run-trials-requires (λ c. search needs) returns)

@@ -16,8 +16,10 @@ returns-2 : tie.Need-returns-2
 returns-2 c =
     let start : tie.Start = search in
     let no-member : tie.Else1 = search in
-    let extends : tie.Then2 = search in
-    rw (no-member .if1 .left, extends .if2 .taken) (acted-extends (start .pre .0) (start .pre .1))
+    let extended : tie.Then2 = search in
+    let standing = start .pre .0 in
+    let counting = start .pre .1 in
+    rw (no-member .if1 .left, extended .if2 .taken) (acted-extends standing counting)
 
 returns-3 : tie.Need-returns-3
 returns-3 c =
