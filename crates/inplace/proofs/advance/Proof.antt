@@ -52,7 +52,7 @@ use Rattle.search.proofs.Ran as U
 use Rattle.search.proofs.Ran.Laws as U′
 use Rattle.inplace.specs.declared.Advanced.{Advanced}
 use Rattle.inplace.specs.Answer.{answerOf}
-use Rattle.inplace.proofs.Walk.{local, value}
+use Rattle.inplace.proofs.Walk.{local, value, part}
 use Rattle.inplace.proofs.Advanced as R
 use Rattle.inplace.proofs.Advanced.Laws as R′
 use Rattle.run.proofs.run as called
@@ -133,7 +133,8 @@ module _ {M : Type 1} (𝓤 : URA M) (H : Heap 𝓤) (A : Atoms 𝓤) (W : Given
     number-owned t n fits = owned t u64 (Is u64) (uint-makes 𝓤 H A W w64) n (vint w64 n ∷ []) (refl, fits)
 
 -- ---- the walk, for a search h and an output ys, each behind a reference
--- The search: lifetime κ, share q of its token, address (b, o), name γ. The output: κ′, q′, (b′, o′), γ′. The budget: n.
+-- The search has lifetime κ, share q of its token, address (b, o), name γ; the output κ′, q′, (b′, o′), γ′.
+-- n is the budget.
 
 module _ {M : Type 1} (𝓤 : URA M) (H : Heap 𝓤) (A : Atoms 𝓤) (W : Given 𝓤 H A) (at-mem : Memory → SProp 𝓤)
     (run : Routine → Fun 𝓤) (κ : Lft) (q : Share) (κ′ : Lft) (q′ : Share) (b o : ℕ) (γ : GName) (h : Search)
@@ -283,11 +284,8 @@ module _ {M : Type 1} (𝓤 : URA M) (H : Heap 𝓤) (A : Atoms 𝓤) (W : Given
         assigns ! (addr ! (from ! (fld ! refl (hop ! (look-in ! 15 (sub ! 0 refl (whole !))) (stop !))))) (local !)
         (init ! 7 refl (tt, tt)) $
         -- _9 = (_8, _4.1)
-        assigns ! (agg !
-        (and-then ! (value ! 7 refl)
-        (and-then ! (load ! (from ! (fld ! refl (stop !))) (look-in ! 15 (sub ! 1 refl (whole !))))
-        (no-more !))))
-        (local !) (init ! 5 refl (tt, (tt, (record { fits = room .0 }, tt)))) $
+        assigns ! (agg ! (and-then ! (value ! 7 refl) (and-then ! (part ! 15 1 refl refl refl) (no-more !)))) (local !)
+        (init ! 5 refl (tt, (tt, (record { fits = room .0 }, tt)))) $
         -- what `run` asks for is made of the output and its token
         move ! (25 ∷ 26 ∷ []) $ fsplit ! $ drop ! $ fsplit ! $ drop ! $ fsplit ! $ move ! (2 ∷ 0 ∷ []) $
         use2 W (raw (Run 𝓤 H A at-mem run .pre to-run)) (goes-run is) $
@@ -296,10 +294,7 @@ module _ {M : Type 1} (𝓤 : URA M) (H : Heap 𝓤) (A : Atoms 𝓤) (W : Given
         -- run(_2, _5, _3, _9)
         calls-at ! fm (Run 𝓤 H A at-mem run) known-run to-run
         (and-then ! (value ! 21 refl)
-        (and-then ! (value ! 15 refl)
-        (and-then ! (value ! 19 refl)
-        (and-then ! (value ! 7 refl)
-        (no-more !)))))
+        (and-then ! (value ! 15 refl) (and-then ! (value ! 19 refl) (and-then ! (value ! 7 refl) (no-more !)))))
         (λ v.
         -- its result r is v, and the output's last bytes are those of zs
         use1 W (later (some (left v))) (id⊢ 𝓤 _) $ await ! tt $ pick ! (λ r.
@@ -322,17 +317,16 @@ module _ {M : Type 1} (𝓤 : URA M) (H : Heap 𝓤) (A : Atoms 𝓤) (W : Given
         land ! (local !) (init ! 16 refl (ran-typed 𝓤 H A W r v is′ .0)) $
         rewrite ! 16 (new-cell l₆) (LL.tells U.the-type U′.the-laws r (v ∷ []) is′) refl $
         -- _7 = _6.1
-        assigns ! (of-opd ! (load ! (from ! (fld ! refl (stop !))) (look-in ! 16 (sub ! 1 refl (whole !))))) (local !)
+        assigns ! (of-opd ! (part ! 16 1 refl refl refl)) (local !)
         (init ! 14 refl (search-typed 𝓤 H A W (r .search) search .0)) $
         -- *_1 = _7
         assigns ! (of-opd ! (value ! 14 refl)) (from ! (hop ! (look ! 26 refl) (stop !)))
         (store-raw ! 5 refl (search-typed 𝓤 H A W (r .search) search .0)) $
         -- _0 = Advanced { _6.0, _6.2, _6.3 }
-        assigns ! (agg !
-        (and-then ! (load ! (from ! (fld ! refl (stop !))) (look-in ! 16 (sub ! 0 refl (whole !))))
-        (and-then ! (load ! (from ! (fld ! refl (stop !))) (look-in ! 16 (sub ! 2 refl (whole !))))
-        (and-then ! (load ! (from ! (fld ! refl (stop !))) (look-in ! 16 (sub ! 3 refl (whole !))))
-        (no-more !)))))
+        assigns !
+        (agg !
+        (and-then ! (part ! 16 0 refl refl refl)
+        (and-then ! (part ! 16 2 refl refl refl) (and-then ! (part ! 16 3 refl refl refl) (no-more !)))))
         (local !) (init ! 28 refl (answer-typed 𝓤 H A W (answerOf r) made .0)) $
         -- the borrow is closed at the search that `run` returned
         drop ! $ search-owned 𝓤 H A W ! (r .search) search $ move ! (5 ∷ 0 ∷ 7 ∷ 8 ∷ 9 ∷ []) $
