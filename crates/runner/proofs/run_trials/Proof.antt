@@ -141,7 +141,7 @@ written c =
       | inr (lists, out, used) ↦ rw (out, used) (written-none _ _ _ _ (member ∙ lists .left))
     ]
 
--- ---- the ways out
+-- ---- the ways out: done, limit, spent, full
 
 stops :
     (c : Place tie.Joined1) →
@@ -158,6 +158,7 @@ stops c =
       | inr (inr (inl (if1, limit, if2, if3, stop))) ↦
           rw stop (stops-spent t (done ∙ if1 .left) (sym (limit .ensures) ∙ if2 .left) (if3 .taken))
       | inr (inr (inr (if1, limit, if2, if3, if4, lists, if5, if6, stop))) ↦
+          -- the places that this way passed, put together again
           let else1 : Place tie.Else1 = record { before = c .before; if1 = if1 } in
           let else2 : Place tie.Else2 = record { before = record { before = else1; at-limit = limit }; if2 = if2 } in
           let else3 : Place tie.Else3 = record { before = else2; if3 = if3 } in
