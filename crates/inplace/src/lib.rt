@@ -1,4 +1,5 @@
-// The entry on a search that is kept in place (document 01, "The instrument keeps one search and each run moves it forward").
+// The entry on a search that is kept in place (document 01, "The instrument keeps one search and each run moves it
+// forward").
 use molecule::Molecule;
 use search::Ended;
 use search::Search;
@@ -15,7 +16,10 @@ pub struct Advanced {
 
 // Runs a search where it stands: the search that the run returns is stored back.
 pub fn advance(q: &mut Search, m: Molecule, budget: u64, out: &mut [u8]) -> Advanced
-    ensures { λ r. ⌜ (now (q .exit) ≡ runSearch m (now (q .entry)) budget (now (out .entry)) .search) × (r ≡ answerOf (runSearch m (now (q .entry)) budget (now (out .entry)))) × (now (out .exit) ≡ runOutput m (now (q .entry)) budget (now (out .entry))) ⌝ }
+    ensures { λ r. ⌜
+        (now (q .exit) ≡ runSearch m (now (q .entry)) budget (now (out .entry)) .search) ×
+        (r ≡ answerOf (runSearch m (now (q .entry)) budget (now (out .entry)))) ×
+        (now (out .exit) ≡ runOutput m (now (q .entry)) budget (now (out .entry))) ⌝ }
 {
     let old = *q;
     let new = run::run(m, old, budget, out);

@@ -12,17 +12,17 @@ use Rattle.search.specs.declared.Ran.{Ran}
 use Rattle.search.specs.Place.{restorable}
 use Rattle.search.specs.Entries.{refusedRun, runSearch, runOutput}
 
--- what a run answers
-abbrev Answers : Molecule → Search → ℕ → List ℕ → Ran → List ℕ → Type 0
-Answers m q budget out r last = (r ≡ runSearch m q budget out) × (last ≡ runOutput m q budget out)
+-- what a run that writes nothing answers
+abbrev Answers : Molecule → Search → ℕ → List ℕ → Ran → Type 0
+Answers m q budget out r = (r ≡ runSearch m q budget out) × (out ≡ runOutput m q budget out)
 
 module _ (m : Molecule) (q : Search) (budget : ℕ) (out : List ℕ) where
-  pub answers-record : wellFormed m ≡ false → (r : Ran) → r ≡ refusedRun q refusal.Record → Answers m q budget out r out
+  pub answers-record : {r : Ran} → wellFormed m ≡ false → r ≡ refusedRun q refusal.Record → Answers m q budget out r
   unfolding runSearch runOutput
-  answers-record e r a = rw e (a, refl)
+  answers-record broken a = rw broken (a, refl)
 
-  module _ (ok : wellFormed m ≡ true) where
-    pub answers-search :
-        restorable m q ≡ false → (r : Ran) → r ≡ refusedRun q refusal.Search → Answers m q budget out r out
-    unfolding runSearch runOutput
-    answers-search e r a = rw (ok, e) (a, refl)
+  pub answers-search :
+      {r : Ran} → wellFormed m ≡ true → restorable m q ≡ false → r ≡ refusedRun q refusal.Search →
+      Answers m q budget out r
+  unfolding runSearch runOutput
+  answers-search ok broken a = rw (ok, broken) (a, refl)

@@ -1,4 +1,5 @@
-// The resumable run of a search (document 01, "The search, trial by trial"): trials up to a budget, records into an output.
+// The resumable run of a search (document 01, "The search, trial by trial"): trials up to a budget, records into an
+// output.
 ghost use mathlib.Core.Path.{_≡_};
 ghost use Rattle.search.specs.Entries.{refusedRun, runSearch, runOutput};
 use molecule::Molecule;
@@ -21,7 +22,9 @@ fn refused(q: Search, r: Refusal) -> Ran
 
 // Runs a search: rule 9, then rule 12, then the run.
 pub fn run(m: Molecule, q: Search, budget: u64, out: &mut [u8]) -> Ran
-    ensures { λ r. ⌜ (r ≡ runSearch m q budget (now (out .entry))) × (now (out .exit) ≡ runOutput m q budget (now (out .entry))) ⌝ }
+    ensures { λ r. ⌜
+        (r ≡ runSearch m q budget (now (out .entry))) ×
+        (now (out .exit) ≡ runOutput m q budget (now (out .entry))) ⌝ }
 {
     if !molecule::well_formed(m) {
         return refused(q, Refusal::Record);

@@ -2,32 +2,30 @@
 -- The table's bonds are the record's, so the families are equal and the definition's run is the one over the table.
 use Prim.Native.Nat.{ℕ}
 use native.Mathlib.Omega.{arith}
-use mathlib.Core.Path.{_≡_, ap, sym, subst}
+use mathlib.Core.Path.{_≡_, ap}
 use mathlib.Core.Bool.{true}
 use mathlib.Core.List.{List}
 use lib.ListN.{length}
 use Rattle.enumeration.specs.Words.{Family}
 use Rattle.enumeration.specs.Run.{run}
-use Rattle.enumeration.specs.Trials.{Valid}
 use Rattle.atomset.specs.Set.{WordsOf}
 use Rattle.molecule.specs.declared.Molecule.{Molecule}
 use Rattle.molecule.specs.Record.{wellFormed}
 use Rattle.search.specs.declared.Search.{Search}
 use Rattle.search.specs.declared.Ran.{Ran}
-use Rattle.search.specs.Place.{stateOf, restorable}
-use Rattle.search.specs.Entries.{outcome, ran, runSearch, runOutput}
+use Rattle.search.specs.Place.{family, stateOf, restorable}
+use Rattle.search.specs.Entries.{outcome, runSearch, runOutput}
 use Rattle.search.proofs.Readings.{restorable-facts}
 use Rattle.search.proofs.Views.{restorable-valid, restorable-bounded}
+use Rattle.openness.specs.Plan.{familyBy}
 use Rattle.openness.proofs.Molecules.{family-same, table-words}
-use Rattle.runner.specs.Parts.{Ready, outcomeBy, runOnto}
+use Rattle.runner.specs.Parts.{Ready, outcomeBy, Yields}
 
--- what a run answers
-abbrev Answers : Molecule → Search → ℕ → List ℕ → Ran → List ℕ → Type 0
-Answers m q budget out r last = (r ≡ runSearch m q budget out) × (last ≡ runOutput m q budget out)
-
-module _ (m : Molecule) (q : Search) (budget : ℕ) (out : List ℕ) (ok : wellFormed m ≡ true)
-    (kept : restorable m q ≡ true) (table : List ℕ)
+module _ (m : Molecule) (q : Search) (table : List ℕ) (ok : wellFormed m ≡ true) (kept : restorable m q ≡ true)
     (words : WordsOf (m .rows) table) where
+  same-family : familyBy (m .atoms) table (q .kind) (q .s) (q .t) ≡ family m q
+  same-family = family-same m ok table words (q .kind) (q .s) (q .t)
+
   pub ready : length (q .prefix) ≡ 128 → Ready (m .atoms) table q
   ready full =
       let f = restorable-facts m q kept in
@@ -38,18 +36,15 @@ module _ (m : Molecule) (q : Search) (budget : ℕ) (out : List ℕ) (ok : wellF
           within = record { size = full; most = omega (arith, f .short); zeros = f .padded };
           short = f .short;
         };
-        valid =
-            subst (λ (F : Family). Valid F (stateOf q)) (sym (family-same m ok table words (q .kind) (q .s) (q .t)))
-            (restorable-valid m q kept);
+        valid = rw same-family (restorable-valid m q kept);
         bounded = restorable-bounded m q kept;
       }
 
   pub answers-run :
-      (r : Ran) (last : List ℕ) → r ≡ ran q (outcomeBy (m .atoms) table q budget out) →
-      last ≡ runOnto (outcomeBy (m .atoms) table q budget out) out → Answers m q budget out r last
+      (budget : ℕ) {out last : List ℕ} {r : Ran} → Yields q (outcomeBy (m .atoms) table q budget out) out r last →
+      (r ≡ runSearch m q budget out) × (last ≡ runOutput m q budget out)
   unfolding runSearch runOutput
-  answers-run r last a b =
+  answers-run budget {out} y =
       let same : outcomeBy (m .atoms) table q budget out ≡ outcome m q budget out =
-      ap (λ (F : Family). run F budget (length out) (stateOf q))
-      (family-same m ok table words (q .kind) (q .s) (q .t)) in
-      rw (ok, kept, ← same) (a, b)
+      ap (λ (F : Family). run F budget (length out) (stateOf q)) same-family in
+      rw (ok, kept, ← same) (y .result, y .output)

@@ -3,7 +3,7 @@
 use Prim.Native.Nat.{ℕ, zero, suc, _+_, _-_, _≤_, _<_}
 use native.Mathlib.Omega.{arith}
 use mathlib.Core.Path.{_≡_, refl, ap, sym, _∙_}
-use mathlib.Core.Bool.{Bool, true, false, _||_}
+use mathlib.Core.Bool.{Bool, true, false}
 use mathlib.Core.List.{List, [], _++_, append-assoc, append-nil}
 use lib.ListN.{length, take, drop, length-append, length-drop}
 use lib.Seq.{take-at, drop-at, drop-drop}
@@ -15,12 +15,12 @@ use Rattle.enumeration.specs.Words.{Family}
 use Rattle.enumeration.specs.Machine.{State, isDone, act, trial}
 use Rattle.enumeration.specs.Run.{Outcome, limit, atLimit, lists, stopped, after, run}
 use Rattle.enumeration.specs.RunFacts.{Bounded}
-use Rattle.enumeration.proofs.Basics.{or-neither}
 use Rattle.search.specs.declared.Search.{Search}
+use Rattle.search.specs.declared.Ran.{Ran}
 use Rattle.search.specs.declared.Ended.the-variants.{Stopped}
 use Rattle.search.specs.Place.{searchAt}
-use Rattle.search.specs.Entries.{ran}
-use Rattle.runner.specs.Parts.{runOnto}
+use Rattle.trial.proofs.Gaps.{none-at-limit}
+use Rattle.runner.specs.Parts.{Yields}
 
 -- ---- one step of the definition
 
@@ -66,37 +66,19 @@ less x h e = omega (arith, eqb-false x limit e)
 
 pub below-limit : (st : State) → Bounded st → atLimit st ≡ false → Below st
 unfolding atLimit
-below-limit st b e = go (or-neither (eqb (st .trials) limit || eqb (st .extensions) limit) (eqb (st .listed) limit) e)
-  where
-    go : ((eqb (st .trials) limit || eqb (st .extensions) limit) ≡ false) × (eqb (st .listed) limit ≡ false) → Below st
-    go r =
-        let q = or-neither (eqb (st .trials) limit) (eqb (st .extensions) limit) (r .0) in
-        record {
-          trials-less = less (st .trials) (b .trials-most) (q .0);
-          extensions-less = less (st .extensions) (b .extensions-most) (q .1);
-          listed-less = less (st .listed) (b .listed-most) (r .1);
-        }
+below-limit st b e =
+    let counts = none-at-limit (st .trials) (st .extensions) (st .listed) e in
+    record {
+      trials-less = less (st .trials) (b .trials-most) (counts .trials-other);
+      extensions-less = less (st .extensions) (b .extensions-most) (counts .extensions-other);
+      listed-less = less (st .listed) (b .listed-most) (counts .listed-other);
+    }
 
 pub act-bounded : (n : ℕ) (member extends : Bool) (st : State) → Below st → Bounded (act n member extends st)
 unfolding act
-act-bounded n true extends st b =
-    record {
-      trials-most = b .trials-less;
-      extensions-most = omega (arith, b .extensions-less);
-      listed-most = b .listed-less;
-    }
-act-bounded n false true st b =
-    record {
-      trials-most = b .trials-less;
-      extensions-most = b .extensions-less;
-      listed-most = omega (arith, b .listed-less);
-    }
-act-bounded n false false st b =
-    record {
-      trials-most = b .trials-less;
-      extensions-most = omega (arith, b .extensions-less);
-      listed-most = omega (arith, b .listed-less);
-    }
+act-bounded n true extends st b = omega (arith, b)
+act-bounded n false true st b = omega (arith, b)
+act-bounded n false false st b = omega (arith, b)
 
 -- ---- the rest of the work
 
@@ -108,9 +90,11 @@ onto-none : (o : Outcome) → o ≡ onto [] 0 o
 onto-none o = let z : 0 + o .made ≡ o .made = omega arith in rw z
 
 onto-after :
-    (bytes more : List ℕ) (made : ℕ) (o : Outcome) → onto bytes made (after more o) ≡ onto (bytes ++ more) (made + 1) o
+    (bytes more : List ℕ) (made : ℕ) (o : Outcome) →
+    onto bytes made (after more o) ≡ onto (bytes ++ more) (made + 1) o
 onto-after bytes more made o =
-    let m : made + suc (o .made) ≡ made + 1 + o .made = omega arith in rw (m, append-assoc bytes more (o .bytes))
+    let m : made + suc (o .made) ≡ made + 1 + o .made = omega arith in
+    rw (m, append-assoc bytes more (o .bytes))
 
 onto-stopped :
     (bytes : List ℕ) (made : ℕ) (st : State) (why : Stop) →
@@ -118,8 +102,8 @@ onto-stopped :
 onto-stopped bytes made st why = let m : made + 0 ≡ made = omega arith in rw (m, append-nil bytes)
 
 -- after `made` trials of a run from st₀, which wrote `bytes`, the search stands at st
-pub record Going (F : Family) (budget : ℕ) (out₀ : List ℕ) (st₀ : State) (out : List ℕ) (st : State) (used made : ℕ) :
-    Type 0 where
+pub record Going (F : Family) (budget : ℕ) (out₀ : List ℕ) (st₀ : State) (out : List ℕ) (st : State) (used made : ℕ)
+    : Type 0 where
   pub bytes : List ℕ
   pub wrote : out ≡ bytes ++ drop (length bytes) out₀
   pub used-is : used ≡ length bytes
@@ -127,7 +111,7 @@ pub record Going (F : Family) (budget : ℕ) (out₀ : List ℕ) (st₀ : State)
   pub in-budget : made ≤ budget
   pub rest : run F budget (length out₀) st₀ ≡ onto bytes made (run F (budget - made) (length out₀ - length bytes) st)
 
-module _ (F : Family) (budget : ℕ) (out₀ : List ℕ) (st₀ : State) where
+module _ {F : Family} {budget : ℕ} {out₀ : List ℕ} {st₀ : State} where
   pub going-starts : Going F budget out₀ st₀ out₀ st₀ 0 0
   going-starts = record {
     bytes = [];
@@ -141,11 +125,12 @@ module _ (F : Family) (budget : ℕ) (out₀ : List ℕ) (st₀ : State) where
         rw (b, r) (onto-none (run F budget (length out₀) st₀));
   }
 
-  module _ (out : List ℕ) (st : State) (used made : ℕ) (g : Going F budget out₀ st₀ out st used made) where
+  module _ {out : List ℕ} {st : State} {used made : ℕ} (g : Going F budget out₀ st₀ out st used made) where
     pub going-length : length out ≡ length out₀
     going-length =
-        ap length (g .wrote) ∙ length-append (g .bytes) (drop (length (g .bytes)) out₀) ∙
-        omega (arith, length-drop (length (g .bytes)) out₀, g .in-room)
+        ap length (g .wrote)
+        ∙ length-append (g .bytes) (drop (length (g .bytes)) out₀)
+        ∙ omega (arith, length-drop (length (g .bytes)) out₀, g .in-room)
 
     pub going-used : used ≤ length out
     going-used = omega (arith, g .used-is, g .in-room, going-length)
@@ -156,20 +141,21 @@ module _ (F : Family) (budget : ℕ) (out₀ : List ℕ) (st₀ : State) where
 
     module _ (d : isDone (F .atoms) st ≡ false) (l : atLimit st ≡ false) (b : made < budget) where
       pub going-turn :
-          (next : List ℕ) → next ≡ further (lists F st) → length (lists F st) ≤ length out - used →
+          {next : List ℕ} → next ≡ further (lists F st) → length (lists F st) ≤ length out - used →
           Going F budget out₀ st₀ next (trial F st) (used + length (lists F st)) (made + 1)
-      going-turn next e h = record {
+      going-turn e h = record {
         bytes = g .bytes ++ lists F st;
         wrote = e ∙ written;
         used-is = omega (arith, both, g .used-is);
         in-room = omega (arith, both, g .used-is, going-length, going-used);
         in-budget = omega arith;
-        rest =
-            g .rest ∙ ap (onto (g .bytes) made) turned ∙
-            onto-after (g .bytes) (lists F st) made
-            (run F (budget - (made + 1)) (length out₀ - length (g .bytes ++ lists F st)) (trial F st));
+        rest = g .rest ∙ ap (onto (g .bytes) made) turned ∙ onto-after (g .bytes) (lists F st) made later;
       }
         where
+          -- the run from the next state
+          later : Outcome
+          later = run F (budget - (made + 1)) (length out₀ - length (g .bytes ++ lists F st)) (trial F st)
+
           both : length (g .bytes ++ lists F st) ≡ length (g .bytes) + length (lists F st)
           both = length-append (g .bytes) (lists F st)
 
@@ -182,29 +168,26 @@ module _ (F : Family) (budget : ℕ) (out₀ : List ℕ) (st₀ : State) where
           written : further (lists F st) ≡ (g .bytes ++ lists F st) ++ drop (length (g .bytes ++ lists F st)) out₀
           written =
               rw (front, back, both, drop-drop (length (lists F st)) (length (g .bytes)) out₀)
-              (sym (append-assoc (g .bytes) (lists F st) (drop (length (g .bytes) + length (lists F st)) out₀)))
+              (sym (append-assoc (g .bytes) (lists F st) _))
 
-          turned :
-              run F (budget - made) (length out₀ - length (g .bytes)) st ≡
-              after (lists F st)
-              (run F (budget - (made + 1)) (length out₀ - length (g .bytes ++ lists F st)) (trial F st))
+          turned : run F (budget - made) (length out₀ - length (g .bytes)) st ≡ after (lists F st) later
           turned =
               let one : budget - made ≡ suc (budget - (made + 1)) = omega arith in
-              let left : length out₀ - length (g .bytes ++ lists F st) ≡ length out₀ - length (g .bytes) - length
-              (lists F st) = omega (arith, both) in
-              rw (one, left)
-              (run-turn F (length out₀ - length (g .bytes)) st d l (budget - (made + 1))
-              (omega (arith, g .used-is, going-length)))
+              let room = length out₀ - length (g .bytes) in
+              let new = lists F st in
+              let left : length out₀ - length (g .bytes ++ new) ≡ room - length new = omega (arith, both) in
+              rw (one, left) (run-turn F room st d l (budget - (made + 1)) (omega (arith, g .used-is, going-length)))
 
     -- a way out: the outcome of the whole run
     going-ends :
-        (why : Stop) → run F (budget - made) (length out₀ - used) st ≡ stopped st why →
+        {why : Stop} → run F (budget - made) (length out₀ - used) st ≡ stopped st why →
         run F budget (length out₀) st₀ ≡ record { state = st; stop = why; bytes = g .bytes; made = made }
-    going-ends why e = g .rest ∙ ap (onto (g .bytes) made) (rw (g .used-is) at e) ∙ onto-stopped (g .bytes) made st why
+    going-ends {why} e =
+        g .rest ∙ ap (onto (g .bytes) made) (rw (g .used-is) at e) ∙ onto-stopped (g .bytes) made st why
 
     pub going-answers :
-        (q at : Search) (why : Stop) → at ≡ searchAt (q .kind) (q .s) (q .t) st →
+        (q : Search) {at : Search} {why : Stop} → at ≡ searchAt (q .kind) (q .s) (q .t) st →
         run F (budget - made) (length out₀ - used) st ≡ stopped st why →
-        (record { ended = Stopped why; search = at; used = used; made = made } ≡
-        ran q (run F budget (length out₀) st₀)) × (out ≡ runOnto (run F budget (length out₀) st₀) out₀)
-    going-answers q at why f e = rw (going-ends why e) (rw (f, g .used-is), g .wrote)
+        let result : Ran = record { ended = Stopped why; search = at; used = used; made = made } in
+        Yields q (run F budget (length out₀) st₀) out₀ result out
+    going-answers q f e = rw (going-ends e) (record { result = rw (f, g .used-is); output = g .wrote })

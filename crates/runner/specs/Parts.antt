@@ -1,5 +1,5 @@
--- What the run over a word table asks and promises. Nothing to
--- believe: the contract of `run_checked` is the definition of a run.
+-- What the run over a word table asks and promises.
+-- Nothing to believe: the contract of `run_checked` is the definition of a run.
 use Prim.Native.Nat.{ℕ}
 use mathlib.Core.Path.{_≡_}
 use mathlib.Core.Bool.{true}
@@ -13,6 +13,7 @@ use Rattle.search.specs.declared.Search.{Search}
 use Rattle.search.specs.declared.Ended.the-variants.{Stopped}
 use Rattle.search.specs.declared.Ran.{Ran}
 use Rattle.search.specs.Place.{stateOf, kindKept}
+use Rattle.search.specs.Entries.{ran}
 use Rattle.openness.specs.Plan.{familyBy, Words}
 use Rattle.trial.specs.declared.Spot.{Spot}
 use Rattle.trial.specs.Parts.{searchHeld, HeldWithRoom}
@@ -37,3 +38,8 @@ outcomeBy n table q budget out = run (familyBy n table (q .kind) (q .s) (q .t)) 
 -- an output after an outcome: its bytes, and then what was there
 abbrev pub runOnto : Outcome → List ℕ → List ℕ
 runOnto o out = o .bytes ++ drop (length (o .bytes)) out
+
+-- the outcome as a run's result r and the output after it
+pub record Yields (q : Search) (o : Outcome) (before : List ℕ) (r : Ran) (after : List ℕ) : Type 0 where
+  pub result : r ≡ ran q o
+  pub output : after ≡ runOnto o before

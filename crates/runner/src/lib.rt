@@ -1,12 +1,13 @@
-// The run of a search past rules 9 and 12 (document 01, "The search, trial by trial"): trials until done, limit, spent or full.
+// The run of a search past rules 9 and 12 (document 01, "The search, trial by trial"): trials until done, limit, spent
+// or full.
 ghost use mathlib.Core.Path.{_≡_};
 ghost use mathlib.Core.Bool.{true};
 ghost use Prim.Native.Nat.{_≤_};
 ghost use Rattle.atomset.specs.Set.{has};
 ghost use Rattle.molecule.specs.Record.{wellFormed};
 ghost use Rattle.search.specs.Place.{restorable};
-ghost use Rattle.search.specs.Entries.{ran, runSearch, runOutput};
-ghost use Rattle.runner.specs.Parts.{stoppedAt, Ready, outcomeBy, runOnto};
+ghost use Rattle.search.specs.Entries.{runSearch, runOutput};
+ghost use Rattle.runner.specs.Parts.{stoppedAt, Ready, outcomeBy, Yields};
 use enumeration::Stop;
 use molecule::Molecule;
 use openness::Plan;
@@ -68,7 +69,9 @@ fn stopped(q: Search, prefix: [u8; 128], at: Spot, stop: Stop, used: usize, made
 // The run of a search that rule 12 allows, over the word table of the molecule.
 fn run_trials(table: &[u64; 256], n: usize, q: Search, budget: u64, out: &mut [u8]) -> Ran
     requires { ⌜ Ready n (now table) q ⌝ }
-    ensures { λ r. ⌜ (r ≡ ran q (outcomeBy n (now (table .entry)) q budget (now (out .entry)))) × (now (out .exit) ≡ runOnto (outcomeBy n (now (table .entry)) q budget (now (out .entry))) (now (out .entry))) ⌝ }
+    ensures { λ r. ⌜
+        Yields q (outcomeBy n (now (table .entry)) q budget (now (out .entry)))
+        (now (out .entry)) r (now (out .exit)) ⌝ }
 {
     let mut prefix = q.prefix;
     let mut at = trial::spot_of(q);
@@ -112,7 +115,9 @@ fn run_trials(table: &[u64; 256], n: usize, q: Search, budget: u64, out: &mut [u
 // The run of a search that rule 12 allows on a molecule that rule 9 allows: trials until done, limit, spent or full.
 pub fn run_checked(m: Molecule, q: Search, budget: u64, out: &mut [u8]) -> Ran
     requires { ⌜ (wellFormed m ≡ true) × (restorable m q ≡ true) ⌝ }
-    ensures { λ r. ⌜ (r ≡ runSearch m q budget (now (out .entry))) × (now (out .exit) ≡ runOutput m q budget (now (out .entry))) ⌝ }
+    ensures { λ r. ⌜
+        (r ≡ runSearch m q budget (now (out .entry))) ×
+        (now (out .exit) ≡ runOutput m q budget (now (out .entry))) ⌝ }
 {
     let rows = m.rows;
     let table = atomset::words_of(&rows);

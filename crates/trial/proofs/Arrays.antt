@@ -16,7 +16,7 @@ use Rattle.search.specs.Place.{beginning, held, searchAt}
 use Rattle.search.proofs.Views.{held-beginning}
 use Rattle.trial.specs.declared.Spot.{Spot}
 use Rattle.trial.specs.declared.Place.{Place}
-use Rattle.trial.specs.Parts.{stackOf, stateAt, searchHeld, Held, HeldWithRoom, Unwound, Acted}
+use Rattle.trial.specs.Parts.{stackOf, stateAt, searchHeld, Held, HeldWithRoom, Counting, Unwound, Acted}
 
 -- ---- an atom more and an atom less
 
@@ -71,36 +71,62 @@ unwound-stays : (n a : ℕ) (stack : List ℕ) (c : ℕ) → (c ≡ suc n → �
 unfolding unwound
 unwound-stays n a stack c e = rw (ne-eqb c (suc n) e)
 
-module _ (n : ℕ) (prefix : List ℕ) where
+-- what is left to unwind at `len` atoms and the next atom c comes to what was to be unwound
+pub record Unwinding (n : ℕ) (before : List ℕ) (from first : ℕ) (prefix : List ℕ) (len c : ℕ) : Type 0 where
+  pub held : Held prefix len
+  pub rest : unwound n (stackOf prefix len) c ≡ unwound n (stackOf before from) first
+
+module _ {n : ℕ} {before : List ℕ} {from first : ℕ} {prefix : List ℕ} where
   -- one turn
-  pub unwound-pop :
-      (len c a : ℕ) → Held prefix (suc len) → c ≡ n + 1 → a ≡ getD prefix len 0 →
-      unwound n (stackOf (set prefix len 0) len) (a + 1) ≡ unwound n (stackOf prefix (suc len)) c
-  unwound-pop len c a h e f =
-      let last : c ≡ suc n = omega arith in
-      let up : a + 1 ≡ suc (getD prefix len 0) = omega arith in
-      rw (stack-set prefix len 0, up, stack-more prefix len (omega (arith, h .size, h .most)))
-      (sym (unwound-last n (getD prefix len 0) (stackOf prefix len) c last))
+  pub unwinding-pop :
+      {len c a : ℕ} → Unwinding n before from first prefix len c → 0 < len → c ≡ n + 1 → a ≡ getD prefix (len - 1) 0 →
+      Unwinding n before from first (set prefix (len - 1) 0) (len - 1) (a + 1)
+  unwinding-pop {len = zero} u some e f = absurd (omega arith)
+  unwinding-pop {len = suc len} {c = c} {a = a} u some e f =
+      rw one (record { held = held-pop prefix len (u .held); rest = popped ∙ u .rest })
+    where
+      one : suc len - 1 ≡ len
+      one = omega arith
+
+      room : len < length prefix
+      room = omega (arith, u .held .size, u .held .most)
+
+      popped : unwound n (stackOf (set prefix len 0) len) (a + 1) ≡ unwound n (stackOf prefix (suc len)) c
+      popped =
+          let last : c ≡ suc n = omega arith in
+          let up : a + 1 ≡ suc (getD prefix len 0) = omega (arith, rw one at f) in
+          rw (stack-set prefix len 0, up, stack-more prefix len room)
+          (sym (unwound-last n (getD prefix len 0) (stackOf prefix len) c last))
 
   -- the ways out
-  pub unwound-left :
-      (len c : ℕ) → Held prefix len → 0 < len → (c ≡ n + 1 → ⊥) →
-      (stackOf prefix len, c) ≡ unwound n (stackOf prefix len) c
-  unwound-left zero c h l e = absurd (omega arith)
-  unwound-left (suc len) c h l e =
-      rw (stack-more prefix len (omega (arith, h .size, h .most)))
-      (sym (unwound-stays n (getD prefix len 0) (stackOf prefix len) c (λ q. e (omega arith))))
+  pub unwinding-left :
+      {len c : ℕ} → Unwinding n before from first prefix len c → 0 < len → (c ≡ n + 1 → ⊥) →
+      Unwound n before from first prefix (record { len = len; next = c })
+  unwinding-left {len = zero} u some e = absurd (omega arith)
+  unwinding-left {len = suc len} {c = c} u some e =
+      let room : len < length prefix = omega (arith, u .held .size, u .held .most) in
+      let stays = unwound-stays n (getD prefix len 0) (stackOf prefix len) c (λ q. e (omega arith)) in
+      record { within = u .held; place-is = rw (stack-more prefix len room) (sym stays) ∙ u .rest }
 
-  pub unwound-end : (len c : ℕ) → len ≤ 0 → (stackOf prefix len, c) ≡ unwound n (stackOf prefix len) c
+  pub unwinding-end :
+      {len c : ℕ} → Unwinding n before from first prefix len c → len ≤ 0 →
+      Unwound n before from first prefix (record { len = len; next = c })
   unfolding unwound
-  unwound-end zero c l = refl
-  unwound-end (suc len) c l = absurd (omega arith)
+  unwinding-end {len = zero} u l = record { within = u .held; place-is = u .rest }
+  unwinding-end {len = suc len} u l = absurd (omega arith)
 
 -- ---- a trial, by what it does
 
-module _ (n : ℕ) (before after : List ℕ) (at : Spot) where
+-- the place is that of the definition's unwinding
+unwound-place :
+    {n : ℕ} {before after : List ℕ} {place : Place} (at : Spot) →
+    Unwound n before (at .len) (at .next + 1) after place →
+    (stackOf after (place .len), place .next) ≡ unwound n (stackOf before (at .len)) (suc (at .next))
+unwound-place at u = rw (add-one (at .next)) at (u .place-is)
+
+module _ {n : ℕ} {before after : List ℕ} {at : Spot} {place : Place} where
   pub acted-lists :
-      (place : Place) (extends : Bool) → Unwound n before (at .len) (at .next + 1) after place →
+      {extends : Bool} → Unwound n before (at .len) (at .next + 1) after place →
       Acted n before at true extends after
       (record {
         len = place .len;
@@ -110,16 +136,15 @@ module _ (n : ℕ) (before after : List ℕ) (at : Spot) where
         listed = at .listed + 1;
       })
   unfolding act
-  acted-lists place extends u = record {
+  acted-lists u = record {
     within = u .within;
     state-is =
         rw (add-one (at .trials), add-one (at .listed))
-        (ap (λ (q : List ℕ × ℕ). placed q (suc (at .trials)) (at .extensions) (suc (at .listed)))
-        (rw (add-one (at .next)) at (u .place-is)));
+        (ap (λ (q : List ℕ × ℕ). placed q (suc (at .trials)) (at .extensions) (suc (at .listed))) (unwound-place at u));
   }
 
   pub acted-rises :
-      (place : Place) → Unwound n before (at .len) (at .next + 1) after place →
+      Unwound n before (at .len) (at .next + 1) after place →
       Acted n before at false false after
       (record {
         len = place .len;
@@ -129,16 +154,15 @@ module _ (n : ℕ) (before after : List ℕ) (at : Spot) where
         listed = at .listed;
       })
   unfolding act
-  acted-rises place u = record {
+  acted-rises u = record {
     within = u .within;
     state-is =
         rw (add-one (at .trials))
-        (ap (λ (q : List ℕ × ℕ). placed q (suc (at .trials)) (at .extensions) (at .listed))
-        (rw (add-one (at .next)) at (u .place-is)));
+        (ap (λ (q : List ℕ × ℕ). placed q (suc (at .trials)) (at .extensions) (at .listed)) (unwound-place at u));
   }
 
 pub acted-extends :
-    (n : ℕ) (before : List ℕ) (at : Spot) → HeldWithRoom before (at .len) → 1 ≤ n →
+    {n : ℕ} {before : List ℕ} {at : Spot} → HeldWithRoom before (at .len) → Counting n at →
     Acted n before at false true (set before (at .len) (at .next))
     (record {
       len = at .len + 1;
@@ -148,18 +172,17 @@ pub acted-extends :
       listed = at .listed;
     })
 unfolding act
-acted-extends n before at h some = record {
-  within = held-push before (at .len) (at .next) h;
-  state-is =
-      rw (
-        add-one (at .trials),
-        add-one (at .extensions),
-        add-one (at .len),
-        stack-push before (at .len) (at .next) (omega (arith, h .short, h .within .size)),
-      )
-      (ap (λ (q : List ℕ × ℕ). placed q (suc (at .trials)) (suc (at .extensions)) (at .listed))
-      (sym (unwound-stays n (at .next) (stackOf before (at .len)) 1 (λ e. omega arith))));
-}
+acted-extends {n} {before} {at} h counting =
+    let room : at .len < length before = omega (arith, h .short, h .within .size) in
+    let some : 1 ≤ n = omega (arith, counting) in
+    let stays = unwound-stays n (at .next) (stackOf before (at .len)) 1 (λ e. omega arith) in
+    record {
+      within = held-push before (at .len) (at .next) h;
+      state-is =
+          rw (add-one (at .trials), add-one (at .extensions), add-one (at .len))
+          (rw (stack-push before (at .len) (at .next) room)
+          (ap (λ (q : List ℕ × ℕ). placed q (suc (at .trials)) (suc (at .extensions)) (at .listed)) (sym stays)));
+    }
 
 -- ---- the length tells whether the beginning has changed
 
@@ -182,8 +205,8 @@ unwound-same n (a ∷ stack) c e = go (eqb c (suc n)) e (unwound-most n stack (s
   where
     go :
         (b : Bool) → length (cond b (unwound n stack (suc a)) (a ∷ stack, c) .0) ≡ suc (length stack) →
-        length (unwound n stack (suc a) .0) ≤ length stack → cond b (unwound n stack (suc a)) (a ∷ stack, c) .0 ≡
-        a ∷ stack
+        length (unwound n stack (suc a) .0) ≤ length stack →
+        cond b (unwound n stack (suc a)) (a ∷ stack, c) .0 ≡ a ∷ stack
     go true q m = absurd (omega arith)
     go false q m = refl
 
@@ -193,8 +216,8 @@ pub act-same :
 unfolding act
 act-same n true extends st some e = unwound-same n (st .stack) (suc (st .next)) e
 act-same n false true st some e =
-    let longer : length (unwound n (st .next ∷ st .stack) 1 .0) ≡ suc (length (st .stack)) =
-    ap (λ (q : List ℕ × ℕ). length (q .0)) (unwound-stays n (st .next) (st .stack) 1 (λ f. omega arith)) in
+    let stays = unwound-stays n (st .next) (st .stack) 1 (λ f. omega arith) in
+    let longer = ap (λ (q : List ℕ × ℕ). length (q .0)) stays in
     absurd (omega arith)
 act-same n false false st some e = unwound-same n (st .stack) (suc (st .next)) e
 
@@ -205,14 +228,14 @@ pub search-held :
     searchHeld kind s t prefix at ≡ searchAt kind s t (stateAt prefix at)
 unfolding searchAt beginning
 search-held kind s t prefix at h =
-    let size : length (stackOf prefix (at .len)) ≡ at .len = stack-length prefix (at .len) (h .within) in
-    let array : held (reverse (stackOf prefix (at .len))) ≡ prefix = ap held (stack-back prefix (at .len)) ∙
-    held-beginning (searchHeld kind s t prefix at) (h .within .size) (h .short) (h .within .zeros) in
+    let size = stack-length prefix (at .len) (h .within) in
+    let kept = held-beginning (searchHeld kind s t prefix at) (h .within .size) (h .short) (h .within .zeros) in
+    let array : held (reverse (stackOf prefix (at .len))) ≡ prefix = ap held (stack-back prefix (at .len)) ∙ kept in
     rw (size, array)
 
 -- the word of the next trial
 pub tried-word : (prefix : List ℕ) (at : Spot) → tried (stateAt prefix at) ≡ take (at .len) prefix ++ at .next ∷ []
 unfolding tried
 tried-word prefix at =
-    reverse-cons (at .next) (stackOf prefix (at .len)) ∙
-    ap (λ (w : List ℕ). w ++ at .next ∷ []) (stack-back prefix (at .len))
+    reverse-cons (at .next) (stackOf prefix (at .len))
+    ∙ ap (λ (w : List ℕ). w ++ at .next ∷ []) (stack-back prefix (at .len))

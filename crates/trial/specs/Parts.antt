@@ -1,6 +1,5 @@
--- What a trial and its record promise: the place of a search in its
--- array, unwinding, a trial, trials that only raise the next atom.
--- Nothing to believe: they serve the proof of the run.
+-- What a trial and its record promise: the place of a search in its array, unwinding, a trial, trials that only raise
+-- the next atom. Nothing to believe: they serve the proof of the run.
 use Prim.Native.Nat.{ℕ, _+_, _≤_, _<_}
 use mathlib.Core.Path.{_≡_}
 use mathlib.Core.Bool.{Bool, false}
@@ -69,6 +68,11 @@ pub record Counting (n : ℕ) (at : Spot) : Type 0 where
   pub extensions-less : at .extensions < limit
   pub listed-less : at .listed < limit
 
+-- a beginning that is to be unwound, of a molecule of n atoms
+pub record ToUnwind (n : ℕ) (prefix : List ℕ) (len : ℕ) : Type 0 where
+  pub standing : HeldWithRoom prefix len
+  pub few : n ≤ 128
+
 -- unwinding of the place of `from` atoms and the next atom c
 pub record Unwound (n : ℕ) (before : List ℕ) (from c : ℕ) (after : List ℕ) (place : Place) : Type 0 where
   pub within : Held after (place .len)
@@ -79,6 +83,12 @@ pub record Acted (n : ℕ) (before : List ℕ) (at : Spot) (member extends : Boo
     Type 0 where
   pub within : Held after (r .len)
   pub state-is : stateAt after r ≡ act n member extends (stateAt before at)
+
+-- c is an atom of a molecule of n atoms
+pub record AtomAhead (c n : ℕ) : Type 0 where
+  pub low : 1 ≤ c
+  pub high : c ≤ n
+  pub few : n ≤ 128
 
 -- c and so many atoms after it, all below n, neither make a member nor open a beginning
 pub record Gap (found : Plan) (c n k : ℕ) : Type 0 where

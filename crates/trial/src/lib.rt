@@ -3,11 +3,12 @@
 ghost use mathlib.Core.Path.{_≡_};
 ghost use mathlib.Core.Bool.{_&&_, _||_};
 ghost use mathlib.Core.List.{[], _∷_, _++_};
-ghost use Prim.Native.Nat.{suc, _+_, _≤_, _<_};
+ghost use Prim.Native.Nat.{suc, _+_, _≤_};
 ghost use lib.ListN.{length, take, drop};
 ghost use lib.Dec.{eqb};
 ghost use Rattle.enumeration.specs.Run.{limit, recordOf};
-ghost use Rattle.trial.specs.Parts.{HeldWithRoom, Counting, Acted, Unwound, Stale, Gap, Idle, skip, spotOf};
+ghost use Rattle.trial.specs.Parts.{HeldWithRoom, Counting, Acted, ToUnwind, Unwound, Stale, AtomAhead, Gap, Idle};
+ghost use Rattle.trial.specs.Parts.{skip, spotOf};
 use openness::Plan;
 use search::Search;
 
@@ -24,12 +25,6 @@ pub struct Spot {
 struct Place {
     len: usize,
     next: usize,
-}
-
-fn wide(x: u8) -> usize
-    ensures { λ r. ⌜ (r ≡ x) × (r < 256) ⌝ }
-{
-    x as usize
 }
 
 // Whether a search is done: its beginning is empty and the next atom is n + 1.
@@ -68,7 +63,7 @@ pub fn is_stale(before: usize, after: usize) -> bool
 
 // How many atoms from c on, the last one left out, neither make a member nor open a beginning, by the plan.
 fn gap(found: Plan, c: usize, n: usize) -> usize
-    requires { ⌜ (1 ≤ c) × (c ≤ n) × (n ≤ 128) ⌝ }
+    requires { ⌜ AtomAhead c n ⌝ }
     ensures { λ r. ⌜ Gap found c n r ⌝ }
 {
     let members = found.members;
@@ -82,7 +77,8 @@ fn gap(found: Plan, c: usize, n: usize) -> usize
     atomset::lowest(next) - c
 }
 
-// How many trials from the next atom on only raise it: none without a plan for every atom, and no more than the budget and the limit leave.
+// How many trials from the next atom on only raise it: none without a plan for every atom, and no more than the budget
+// and the limit leave.
 pub fn idle_trials(found: Plan, stale: bool, at: Spot, n: usize, left: u64) -> usize
     requires { ⌜ (1 ≤ at .next) × (n ≤ 128) ⌝ }
     ensures { λ r. ⌜ Idle found stale at n left r ⌝ }
@@ -124,9 +120,10 @@ pub fn skipped(at: Spot, k: usize) -> Spot
     }
 }
 
-// As long as the next atom is n + 1 and the beginning is not empty, its last atom is dropped, and the next atom is that atom + 1.
+// As long as the next atom is n + 1 and the beginning is not empty, its last atom is dropped, and the next atom is that
+// atom + 1.
 fn unwind(prefix: &mut [u8; 128], from: usize, first: usize, n: usize) -> Place
-    requires { ⌜ HeldWithRoom (now prefix) from × (n ≤ 128) ⌝ }
+    requires { ⌜ ToUnwind n (now prefix) from ⌝ }
     ensures { λ r. ⌜ Unwound n (now (prefix .entry)) from first (now (prefix .exit)) r ⌝ }
 {
     let mut len = from;
@@ -136,7 +133,7 @@ fn unwind(prefix: &mut [u8; 128], from: usize, first: usize, n: usize) -> Place
             return Place { len: len, next: c };
         }
         len -= 1;
-        c = wide(prefix[len]) + 1;
+        c = widen::u8_usize(prefix[len]) + 1;
         prefix[len] = 0;
     }
     Place { len: len, next: c }
@@ -182,7 +179,9 @@ pub fn act(prefix: &mut [u8; 128], at: Spot, n: usize, member: bool, extends: bo
 // Writes the record of the beginning with c added at the start of `part`.
 pub fn put_record(part: &mut [u8], prefix: &[u8; 128], len: usize, c: usize)
     requires { ⌜ (len ≤ 127) × (c ≤ 128) × (len + 2 ≤ length (now part)) × (length (now prefix) ≡ 128) ⌝ }
-    ensures { λ _. ⌜ now (part .exit) ≡ recordOf (take len (now (prefix .entry)) ++ c ∷ []) ++ drop (len + 2) (now (part .entry)) ⌝ }
+    ensures { λ _. ⌜
+        now (part .exit) ≡
+        recordOf (take len (now (prefix .entry)) ++ c ∷ []) ++ drop (len + 2) (now (part .entry)) ⌝ }
 {
     part[0] = (len + 1) as u8;
     let mut i: usize = 0;

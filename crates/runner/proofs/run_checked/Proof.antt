@@ -1,4 +1,5 @@
 -- `runner::run_checked` meets its contract: the run over the word table is the run of the molecule's family.
+-- What rules 9 and 12 tell of the molecule and the search makes the search ready for the run over the table.
 use mathlib.Core.Path.{_≡_}
 use lib.ListN.{length}
 use borrow.Author.Needs.{needs}
@@ -12,16 +13,20 @@ size c = search needs
 
 run-trials-requires : tie.Need-run-trials-requires
 run-trials-requires c κs =
-    let start = c .before .before .before .before .before .before in
-    let words = c .before .before .words-of in
-    ready (start .args .m) (start .args .q) (start .args .budget) (start .args .out .now) (start .pre .0) (start .pre .1) (words .result) (words .ensures) (size start)
+    let start : tie.Start = search in
+    let table : tie.After-words-of = search in
+    let formed = start .pre .0 in
+    let kept = start .pre .1 in
+    ready _ _ _ formed kept (table .words-of .ensures) (size start)
 
 returns : tie.Need-returns
 returns c =
-    let start = c .before .before .before .before .before .before .before .before .before in
-    let words = c .before .before .before .before .before .words-of in
-    let trials = c .before .before .run-trials in
-    answers-run (start .args .m) (start .args .q) (start .args .budget) (start .args .out .now) (start .pre .0) (start .pre .1) (words .result) (words .ensures) (trials .result) (trials .last .1 .1 .1 .1 .0) (trials .ensures .0) (trials .ensures .1)
+    let start : tie.Start = search in
+    let table : tie.After-words-of = search in
+    let trials : tie.After-run-trials = search in
+    let formed = start .pre .0 in
+    let kept = start .pre .1 in
+    answers-run _ _ _ formed kept (table .words-of .ensures) _ (trials .run-trials .ensures)
 
 pub run-checked-spec : {M : Type 1} → statement M
 run-checked-spec = tie.close (tie.spec (λ c κs. search needs) run-trials-requires (λ c. search needs) returns)

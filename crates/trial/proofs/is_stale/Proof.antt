@@ -1,4 +1,5 @@
--- `trial::is_stale` meets its contract.
+-- `trial::is_stale` meets its contract: an answer of no comes of both tests.
+-- A first test that answers yes leaves nothing to show.
 use borrow.Author.Tests.{eqb-true, not-false}
 use Rattle.graph.proofs.Below.{apart}
 use Rattle.trial.proofs.is_stale.Statement.{statement}
