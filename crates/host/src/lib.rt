@@ -50,7 +50,8 @@ pub extern "C" fn ringlist_resume(
     next_mark: &mut [u8],
 ) -> u32
     ensures { λ r.
-        let x = resume (now (sheet .entry)) (now (mark .entry)) budget (now (rings .entry)) (now («next_mark» .entry)) in
+        let x =
+        resume (now (sheet .entry)) (now (mark .entry)) budget (now (rings .entry)) (now («next_mark» .entry)) in
         ⌜ (r ≡ x .number) × (now (rings .exit) ≡ x .rings) × (now («next_mark» .exit) ≡ x .nextMark) ⌝ }
 {
     let read = sheet::read_sheet(sheet);
@@ -75,7 +76,8 @@ pub extern "C" fn ringlist_resume(
     }
 }
 
-// The bytes of the mark at the start of a buffer, by the length of p that it names; 0 where the buffer holds no such mark.
+// The bytes of the mark at the start of a buffer, by the length of p that it names;
+// 0 where the buffer holds no such mark.
 #[no_mangle]
 pub extern "C" fn ringlist_mark_length(mark: &[u8]) -> usize
     ensures { λ r. ⌜ r ≡ markSize (now (mark .entry)) ⌝ }

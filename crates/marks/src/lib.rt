@@ -9,7 +9,9 @@ use search::Search;
 
 // Saves a search as a mark: rules 9, 12, 13.
 pub fn save(m: Molecule, q: Search, out: &mut [u8]) -> Saved
-    ensures { λ r. ⌜ (r ≡ saveAnswer m q (now (out .entry))) × (now (out .exit) ≡ saveOutput m q (now (out .entry))) ⌝ }
+    ensures { λ r. ⌜
+        (r ≡ saveAnswer m q (now (out .entry))) ×
+        (now (out .exit) ≡ saveOutput m q (now (out .entry))) ⌝ }
 {
     if !molecule::well_formed(m) {
         return Saved::Refused(Refusal::Record);
