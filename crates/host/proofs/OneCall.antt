@@ -198,8 +198,7 @@ module _ (sheet mark : List ℕ) (budget : ℕ) (rings next : List ℕ) where
       (mol : Molecule) (q : Search) → readSheet sheet .answer ≡ Accepted → readSheet sheet .molecule ≡ mol →
       searchFor mol mark ≡ acceptedSearch q → 599 ≤ length next → AnsweredOn mol q
   answered mol q read is named room =
-      let made : searchFor (readSheet sheet .molecule) mark .answer ≡ Accepted =
-      ap (λ (m : Molecule). searchFor m mark .answer) is ∙ ap (λ (a : Made). a .answer) named in
+      let made = ap (λ (m : Molecule). searchFor m mark .answer) is ∙ ap (λ (a : Made). a .answer) named in
       subst (AnsweredOn mol) (ap (λ (a : Made). a .search) named)
       (subst (λ (m : Molecule). AnsweredOn m (searchFor m mark .search)) is
       (went-answered (resume-accepted sheet mark budget rings next read made room)))

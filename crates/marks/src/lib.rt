@@ -1,4 +1,5 @@
-// Marks (document 01): a search is saved as bytes, rules 9, 12, 13, and bytes restore a search, rules 9, 14, 15, 16, 17.
+// Marks (document 01): a search is saved as bytes, rules 9, 12, 13;
+// bytes restore a search, rules 9, 14, 15, 16, 17.
 ghost use mathlib.Core.Path.{_≡_};
 ghost use Rattle.search.specs.Mark.{saveAnswer, saveOutput, restoreMark};
 use molecule::Molecule;

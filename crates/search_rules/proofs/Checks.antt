@@ -10,8 +10,8 @@ use mathlib.Core.Logic.{_⊎_, inl, inr}
 use lib.ListN.{length, getD}
 use lib.Dec.{leb, ltb, eqb}
 use borrow.Author.Count.{below-more}
-use borrow.Author.Tests.{eq-eqb, ne-eqb, eqb-true, lt-ltb, le-ltb, ltb-true, ltb-false, le-leb, lt-leb, leb-true}
-use Rattle.graph.proofs.Below.{clash, false-of, either, same-test, and-both, and-parts, allBelow-at, allBelow-of}
+use borrow.Author.Tests.{eq-eqb, ne-eqb, eqb-true, lt-ltb, le-ltb, le-leb, lt-leb, leb-true}
+use Rattle.graph.proofs.Below.{clash, false-of, same-test, and-parts, allBelow-of}
 use Rattle.graph.proofs.Loops.{all-fails}
 use Rattle.enumeration.specs.Words.{isOpen}
 use Rattle.enumeration.specs.Run.{limit}
@@ -22,6 +22,7 @@ use Rattle.molecule.proofs.Bonds.{atom-bounds}
 use Rattle.search.specs.declared.Search.{Search}
 use Rattle.search.specs.Place.{family, beginning, endsKept, kindKept, restorable}
 use Rattle.search.proofs.Readings.{NextHigh, Restorable, restorable-facts, restorable-of, atom-of}
+use Rattle.search.proofs.Readings.{zeros-past, past-zeros}
 use Rattle.search.proofs.Views.{beginning-length}
 use Rattle.search_rules.specs.Parts.{paddedAt, padded, nextKept, countsKept}
 
@@ -39,14 +40,6 @@ module _ (prefix : List ℕ) (len i : ℕ) where
   padded-other : len ≤ i → (getD prefix i 0 ≡ 0 → ⊥) → paddedAt prefix len i ≡ false
   unfolding paddedAt
   padded-other l d = rw (le-ltb i len l, ne-eqb (getD prefix i 0) 0 d)
-
-  padded-facts : paddedAt prefix len i ≡ true → len ≤ i → getD prefix i 0 ≡ 0
-  unfolding paddedAt
-  padded-facts e l = go (or-either (ltb i len) (eqb (getD prefix i 0) 0) e)
-    where
-      go : (ltb i len ≡ true) ⊎ (eqb (getD prefix i 0) 0 ≡ true) → getD prefix i 0 ≡ 0
-      go (inl b) = absurd (omega (arith, ltb-true i len b))
-      go (inr b) = eqb-true (getD prefix i 0) 0 b
 
 -- The places before one are below the length or hold 0; it is not below the length
 pub record Passed (prefix : List ℕ) (len i : ℕ) : Type 0 where
@@ -72,16 +65,12 @@ module _ {prefix : List ℕ} {len i : ℕ} (p : Passed prefix len i) where
 
 module _ (prefix : List ℕ) (len : ℕ) where
   padded-at : padded prefix len ≡ true → (i : ℕ) → len ≤ i → i < 128 → getD prefix i 0 ≡ 0
-  unfolding padded
-  padded-at e i l h = padded-facts prefix len i (allBelow-at 128 (paddedAt prefix len) e i h) l
+  unfolding padded paddedAt
+  padded-at = zeros-past prefix len
 
   padded-from : ((i : ℕ) → len ≤ i → i < 128 → getD prefix i 0 ≡ 0) → padded prefix len ≡ true
-  unfolding padded
-  padded-from f = allBelow-of 128 (paddedAt prefix len) (λ i h. go i h (either (ltb i len)))
-    where
-      go : (i : ℕ) → i < 128 → (ltb i len ≡ true) ⊎ (ltb i len ≡ false) → paddedAt prefix len i ≡ true
-      go i h (inl b) = padded-before prefix len i (ltb-true i len b)
-      go i h (inr b) = let l = ltb-false i len b in padded-zero prefix len i l (f i l h)
+  unfolding padded paddedAt
+  padded-from = past-zeros prefix len
 
 -- ---- kind, s and t
 
@@ -121,6 +110,9 @@ module _ (n kind s t : ℕ) where
 -- ---- the next atom
 
 module _ (n len c : ℕ) where
+  abbrev is-last : Bool
+  is-last = eqb len 0 && eqb c (suc n)
+
   pub next-atom : isAtom n c ≡ true → nextKept n len c ≡ true
   unfolding nextKept
   next-atom e = rw e
@@ -134,29 +126,34 @@ module _ (n len c : ℕ) where
     unfolding nextKept
     next-after e = rw (none, eq-eqb len 0 e, add-one n)
 
-  next-low : nextKept n len c ≡ true → 1 ≤ c
+  -- c is an atom, or it is n + 1 after an empty beginning
+  next-facts : nextKept n len c ≡ true → ((1 ≤ c) × (c ≤ n)) ⊎ ((len ≡ 0) × (c ≡ suc n))
   unfolding nextKept
-  next-low e = go (or-either (isAtom n c) (eqb len 0 && eqb c (suc n)) e)
+  next-facts e = go (or-either (isAtom n c) is-last e)
     where
-      go : (isAtom n c ≡ true) ⊎ ((eqb len 0 && eqb c (suc n)) ≡ true) → 1 ≤ c
-      go (inl h) = atom-bounds n c h .0
-      go (inr h) = omega (arith, eqb-true c (suc n) (and-parts (eqb len 0) (eqb c (suc n)) h .1))
+      go : (isAtom n c ≡ true) ⊎ (is-last ≡ true) → ((1 ≤ c) × (c ≤ n)) ⊎ ((len ≡ 0) × (c ≡ suc n))
+      go (inl h) = inl (atom-bounds n c h)
+      go (inr h) =
+          let (empty, last) = and-parts (eqb len 0) (eqb c (suc n)) h in
+          inr (eqb-true len 0 empty, eqb-true c (suc n) last)
+
+  next-low : nextKept n len c ≡ true → 1 ≤ c
+  next-low e = elim (next-facts e) [
+    | inl (low, high) ↦ low
+    | inr (empty, last) ↦ omega arith
+  ]
 
   next-high : (p : List ℕ) → (len ≡ 0 → p ≡ []) → nextKept n len c ≡ true → NextHigh n p c
-  unfolding nextKept
-  next-high p f e = go (or-either (isAtom n c) (eqb len 0 && eqb c (suc n)) e)
-    where
-      go : (isAtom n c ≡ true) ⊎ ((eqb len 0 && eqb c (suc n)) ≡ true) → NextHigh n p c
-      go (inl h) = inl (atom-bounds n c h .1)
-      go (inr h) =
-          let b = and-parts (eqb len 0) (eqb c (suc n)) h in inr (f (eqb-true len 0 (b .0)), eqb-true c (suc n) (b .1))
+  next-high p f e = elim (next-facts e) [
+    | inl (low, high) ↦ inl high
+    | inr (empty, last) ↦ inr (f empty, last)
+  ]
 
   next-of : (p : List ℕ) → (p ≡ [] → len ≡ 0) → 1 ≤ c → NextHigh n p c → nextKept n len c ≡ true
   unfolding nextKept
-  next-of p f l (inl h) = or-left (isAtom n c) (eqb len 0 && eqb c (suc n)) (atom-of n c l h)
-  next-of p f l (inr h) =
-      or-right (isAtom n c) (eqb len 0 && eqb c (suc n))
-      (and-both (eqb len 0) (eqb c (suc n)) (eq-eqb len 0 (f (h .0))) (eq-eqb c (suc n) (h .1)))
+  next-of p f low (inl high) = or-left (isAtom n c) is-last (atom-of n c low high)
+  next-of p f low (inr (none, last)) =
+      or-right (isAtom n c) is-last (rw (eq-eqb len 0 (f none), eq-eqb c (suc n) last))
 
 -- ---- the counts
 
