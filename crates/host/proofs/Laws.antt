@@ -153,11 +153,11 @@ made-kept {mark} {read} m =
 -- ---- its run and its save
 
 -- rules 9 and 12 allow the search
-record Runs (mol : Molecule) (q : Search) : Type 0 where
+record Runnable (mol : Molecule) (q : Search) : Type 0 where
   formed : wellFormed mol ≡ true
   kept : restorable mol q ≡ true
 
-module _ {mol : Molecule} {q : Search} (ok : Runs mol q) (budget : ℕ) (rings : List ℕ) where
+module _ {mol : Molecule} {q : Search} (ok : Runnable mol q) (budget : ℕ) (rings : List ℕ) where
   abbrev o : Outcome
   o = outcome mol q budget rings
 
@@ -227,12 +227,13 @@ pub ran-kept :
     (mol : Molecule) (q : Search) → wellFormed mol ≡ true → restorable mol q ≡ true →
     (budget : ℕ) (rings : List ℕ) (r : Ran) → r ≡ runSearch mol q budget rings → restorable mol (r .search) ≡ true
 ran-kept mol q formed kept budget rings r e =
-    let ok : Runs mol q = record { formed = formed; kept = kept } in
+    let ok : Runnable mol q = record { formed = formed; kept = kept } in
     rw e (result-kept ok budget rings)
 
 -- ---- the entry
 
-stops : (why : Stop) → (101 ≤ stopNumber why) × (stopNumber why ≤ 104)
+-- the numbers of the stops
+pub stops : (why : Stop) → (101 ≤ stopNumber why) × (stopNumber why ≤ 104)
 stops Done = (omega arith, omega arith)
 stops Limit = (omega arith, omega arith)
 stops Spent = (omega arith, omega arith)
@@ -294,7 +295,7 @@ module _ (sheet mark : List ℕ) (budget : ℕ) (rings next : List ℕ) where
         mark-kept = sym (ap (λ (x : Resumed). x .nextMark) e);
       }
 
-  module _ (ok : Runs mol given) (is : runAndSave mol given budget rings next ≡ answer) where
+  module _ (ok : Runnable mol given) (is : runAndSave mol given budget rings next ≡ answer) where
     written : 599 ≤ length next → answer .nextMark ≡ markText mol returned ++ drop (length (markText mol returned)) next
     unfolding runAndSave
     written room =

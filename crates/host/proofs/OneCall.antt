@@ -41,7 +41,7 @@ use Rattle.host.specs.Resume.{Resumed, searchFor, resume, markSize, list
 use Rattle.host.specs.Calls.{HostCall, returned, isRefused, Kept, firstRecords, markLeft, newRecords, keptAfter, callsIn}
 use Rattle.host.proofs.Answers.{search-restored}
 use Rattle.host.proofs.Sizes.{listed-restored}
-use Rattle.host.proofs.Laws.{Went, resume-accepted}
+use Rattle.host.proofs.Laws.{stops, Went, resume-accepted}
 
 -- as many records as words are the records of the words
 first-records : (ws : List (List ℕ)) (rest : List ℕ) → firstRecords (length ws) (records ws ++ rest) ≡ records ws
@@ -55,13 +55,7 @@ first-records (w ∷ ws) rest =
       first-records ws rest,
     )
 
--- the numbers of the stops
-stop-high : (why : Stop) → 101 ≤ stopNumber why
-stop-high Done = omega arith
-stop-high Limit = omega arith
-stop-high Spent = omega arith
-stop-high Full = omega arith
-
+-- 101 is the number of the stop done
 stop-done : (why : Stop) → isDoneStop why ≡ eqb (stopNumber why) 101
 stop-done Done = refl
 stop-done Limit = refl
@@ -254,7 +248,7 @@ module _
 
     pub not-refused : isRefused c ≡ false
     unfolding isRefused
-    not-refused = le-ltb (returned c .number) 101 (omega (arith, number-is, stop-high (outcome .stop)))
+    not-refused = le-ltb (returned c .number) 101 (omega (arith, number-is, stops (outcome .stop)))
 
     -- the mark that it leaves is that of the search that the run returned
     abbrev new-mark : List ℕ
