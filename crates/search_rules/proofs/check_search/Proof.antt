@@ -15,15 +15,13 @@ use Rattle.search_rules.proofs.check_search.Tie as tie
 -- ---- the places: a name goes back from a later place to an earlier one
 -- (in a proof, the argument `(search)` is a place: it is found in c by its type)
 
-abbrev length-told : tie.Else2 → tie.Else1
-length-told c = c .before .before .before
-
-abbrev kind-told : tie.Else4 → tie.Else2
-kind-told c = c .before .before .before .before
+-- from where kind, s and t are tested
+abbrev start : tie.Else3 → tie.Start
+start c = c .before .before .before .before .before .before .before .before
 
 -- from where every test but openness is passed
-abbrev start : tie.Else5 → tie.Start
-start c = length-told (kind-told (c .before .before)) .before .before .before
+abbrev kind-passed : tie.Else5 → tie.Else3
+kind-passed c = c .before .before .before .before
 
 -- ---- what is known there
 
@@ -31,7 +29,7 @@ start c = length-told (kind-told (c .before .before)) .before .before .before
 full : (c : tie.Start) → length (c .args .q .prefix) ≡ 128
 full c = search needs
 
-tested : (c : tie.Else5) → Tested (start c .args .m) (start c .args .q)
+tested : (c : tie.Else5) → let args = start (kind-passed c) .args in Tested (args .m) (args .q)
 tested c =
     let else1 : tie.Else1 = search in
     let else2 : tie.Else2 = search in
