@@ -28,7 +28,10 @@ returns c =
     sym (passed-other (turn .before .loop .inv) (turn .loop-test .taken) (c .if1 .taken))
 
 loop-again : tie.Need-loop-again Inv-loop μ-loop
-loop-again c = let loop : Place tie.At-loop = search in passed-more (loop .loop .inv) (c .if1 .left)
+loop-again c =
+    let loop : Place tie.At-loop = search in
+    let zero : Place tie.Else1 = search in
+    passed-more (loop .loop .inv) (zero .if1 .left)
 
 returns-2 : tie.Need-returns-2 Inv-loop μ-loop
 returns-2 c = sym (passed-all (c .before .loop .inv) (c .loop-test .left))
