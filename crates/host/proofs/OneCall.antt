@@ -204,8 +204,9 @@ abbrev opening : Molecule → List ℕ → List Call
 opening mol mark = cond (eqb (length mark) 0) [] (restores mol mark ∷ [])
 
 -- the call is handed the sheet and the mark as it stands
-abbrev pub HandedOn : Listing → Kept → HostCall → Type 0
-HandedOn L k c = (c .sheet ≡ L .sheet) × (c .mark ≡ k .mark)
+pub record HandedOn (L : Listing) (k : Kept) (c : HostCall) : Type 0 where
+  pub same-sheet : c .sheet ≡ L .sheet
+  pub same-mark : c .mark ≡ k .mark
 
 module _
     {L : Listing} {said : Bool} {k : Kept} {x : Standing} (v : Agrees L said k x)
@@ -222,7 +223,7 @@ module _
 
   pub no-room : length (c .next) < 599 → isRefused c ≡ true
   unfolding isRefused resume
-  no-room short = rw (h .0, h .1, L .read, L .is-record, v .named, lt-leb 599 (length (c .next)) short)
+  no-room short = rw (h .same-sheet, h .same-mark, L .read, L .is-record, v .named, lt-leb 599 (length (c .next)) short)
 
   ran-reached : (n : ℕ) × ReachedIn L (said || isDoneStop (outcome .stop)) n ran-to
   unfolding saysDone
@@ -238,7 +239,7 @@ module _
   module _ (room : 599 ≤ length (c .next)) where
     told : Answered (L .mol) (x .search) (c .budget) (c .rings) (c .next) (returned c)
     told =
-        rw (h .0, h .1)
+        rw (h .same-sheet, h .same-mark)
         (answered (L .sheet) (k .mark) (c .budget) (c .rings) (c .next)
         (L .mol) (x .search) (L .read) (L .is-record) (v .named) room)
 
@@ -325,7 +326,7 @@ module _
     call-progress (inl more) =
         inl (omega (arith, v .listed-known, ran-agrees .listed-known, ap (λ (q : Search). q .listed) ran-is))
     call-progress (inr (inl e)) = inr (inl (told .number-is ∙ ap endedNumber e))
-    call-progress (inr (inr e)) = inr (inr (told .number-is ∙ ap endedNumber (e .0)))
+    call-progress (inr (inr (e, at-limit))) = inr (inr (told .number-is ∙ ap endedNumber e))
 
     -- ---- what the call does
 
@@ -334,7 +335,7 @@ module _
 
     calls-are : callsIn c ≡ opening (L .mol) (k .mark) ++ last-two
     unfolding callsIn
-    calls-are = rw (h .0, L .is-record, h .1, v .named, ran-is)
+    calls-are = rw (h .same-sheet, L .is-record, h .same-mark, v .named, ran-is)
 
     -- the restore is one of the mark of the search as it stands, and leaves all as it is
     abbrev Opened : List ℕ → Type 0
@@ -349,7 +350,7 @@ module _
         go (inl e) =
             rw (e, ne-eqb (length (markText (L .mol) (x .search))) 0 (mark-some (L .mol) (x .search)))
             ((inr (refl, refl), tt), unfold standing in (restored-in L (v .reached)))
-        go (inr e) = rw (e .0) (tt, unfold standing in refl)
+        go (inr (none, first-none, unmoved)) = rw none (tt, unfold standing in refl)
 
     two-history : History (L .mol) x last-two
     two-history = (inr (refl, refl), rw (moved-in L (v .reached) (c .budget) (c .rings)) (inr (refl, refl), tt))

@@ -56,9 +56,9 @@ module _ (c : ℕ) (some : 0 < c) (bytes : List ℕ) where
       (i : ℕ) → i < length vs → fieldAt c bytes (at + c * i) ≡ Value (getD vs i 0)
   unfolding fieldsText
   fields-read [] post at fits e i h = absurd (omega arith)
-  fields-read (v ∷ vs) post at (f ◁ fits) e zero h =
+  fields-read (v ∷ vs) post at ((small, most) ◁ fits) e zero h =
       rw (mul-zero, add-zero, e, append-assoc, take-at (fieldText c v) (fieldsText c vs ++ post) c (field-length c v))
-      (written-reads-back c v (f .0) (f .1) some)
+      (written-reads-back c v small most some)
   fields-read (v ∷ vs) post at (f ◁ fits) e (suc i) h =
       let past = past-field v (fieldsText c vs ++ post) at (e ∙ append-assoc (fieldText c v) (fieldsText c vs) post) in
       rw (place-on c at i) (fields-read vs post (at + c) fits past i (omega arith))

@@ -38,9 +38,9 @@ module _ (F : Family) (st : State) where
     where
       go : isDone (F .atoms) st ≡ false → NextHigh (F .atoms) (reverse (st .stack)) (st .next) → st .next ≤ F .atoms
       go d (inl h) = h
-      go d (inr h) =
-          let none : st .stack ≡ [] = sym (reverse-reverse (st .stack)) ∙ ap reverse (h .0) in
-          let done : isDone (F .atoms) st ≡ true = rw none (eq-eqb (st .next) (suc (F .atoms)) (h .1)) in
+      go d (inr (empty, last)) =
+          let none : st .stack ≡ [] = sym (reverse-reverse (st .stack)) ∙ ap reverse empty in
+          let done : isDone (F .atoms) st ≡ true = rw none (eq-eqb (st .next) (suc (F .atoms)) last) in
           absurd (clash (isDone (F .atoms) st) done d)
 
   pub valid-placed : Valid F st → Placed F (reverse (st .stack)) (st .next)
@@ -50,7 +50,7 @@ module _ (F : Family) (st : State) where
       go :
           (isDone (F .atoms) st ≡ true) ⊎ (isDone (F .atoms) st ≡ false) →
           NextHigh (F .atoms) (reverse (st .stack)) (st .next)
-      go (inl d) = let f = done-place (F .atoms) st d in inr (ap reverse (f .0), f .1)
+      go (inl d) = let (none, last) = done-place (F .atoms) st d in inr (ap reverse none, last)
       go (inr d) = inl (v .within d)
 
 -- ---- the array of a beginning

@@ -173,9 +173,9 @@ module _ (a b c : ℕ) where
 
   counts-within : countsKept a b c ≡ true → (a ≤ limit) × (b ≤ limit) × (c ≤ limit)
   counts-within e =
-      let outer = and-parts (leb a limit && leb b limit) (leb c limit) e in
-      let inner = and-parts (leb a limit) (leb b limit) (outer .0) in
-      (leb-true a limit (inner .0), leb-true b limit (inner .1), leb-true c limit (outer .1))
+      let (first, in-c) = and-parts (leb a limit && leb b limit) (leb c limit) e in
+      let (in-a, in-b) = and-parts (leb a limit) (leb b limit) first in
+      (leb-true a limit in-a, leb-true b limit in-b, leb-true c limit in-c)
 
 -- ---- rule 12
 
@@ -224,7 +224,7 @@ module _ (mol : Molecule) (q : Search) where
     where
       kept : r ≡ true → Restorable mol q
       kept e =
-          let most = counts-within _ _ _ (t .counts) in
+          let (trials, extensions, listed) = counts-within _ _ _ (t .counts) in
           record {
             short = t .short;
             padded = padded-at (q .prefix) (q .len) (t .pads);
@@ -232,7 +232,7 @@ module _ (mol : Molecule) (q : Search) where
             place-open = sym told ∙ e;
             next-low = next-low _ _ _ (t .nexts);
             next-high = next-high _ _ _ (beginning q) none-begins (t .nexts);
-            trials-most = most .0;
-            extensions-most = most .1;
-            listed-most = most .2;
+            trials-most = trials;
+            extensions-most = extensions;
+            listed-most = listed;
           }

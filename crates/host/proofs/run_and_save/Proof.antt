@@ -11,14 +11,15 @@ save-checked-requires c κs =
     let start : tie.Start = search in
     let ran : tie.After-run-checked = search in
     let (formed, kept) = start .pre in
-    (formed, ran-kept _ _ formed kept _ _ _ (ran .run-checked .ensures .0))
+    let (is-ran, is-out) = ran .run-checked .ensures in
+    (formed, ran-kept _ _ formed kept _ _ _ is-ran)
 
 returns : tie.Need-returns
 returns c =
     let ran : tie.After-run-checked = search in
     let saved : tie.After-save-checked = search in
-    ran-and-saved _ _ _ _ _ _ _ _ _
-    (ran .run-checked .ensures) (saved .save-checked .ensures .1) (c .ended-number .ensures)
+    let (answer, output) = saved .save-checked .ensures in
+    ran-and-saved _ _ _ _ _ _ _ _ _ (ran .run-checked .ensures) output (c .ended-number .ensures)
 
 pub run-and-save-spec : {M : Type 1} → statement M
 run-and-save-spec =

@@ -22,7 +22,8 @@ opened :
 opened c =
     let start : tie.Start = search in
     let words : tie.After-words-of = search in
-    open-told (start .args .m) (start .args .q) (start .pre .0) _ (words .words-of .ensures) _ (c .is-open .ensures)
+    let (formed, kinds, short, full) = start .pre in
+    open-told (start .args .m) (start .args .q) formed _ (words .words-of .ensures) _ (c .is-open .ensures)
 
 -- ---- the needs
 
@@ -37,7 +38,10 @@ returns : tie.Need-returns
 returns c = sym (place-shut _ _ (sym (opened (search)) ∙ not-true _ (c .if1 .taken)))
 
 next-kept-requires : tie.Need-next-kept-requires
-next-kept-requires c κs = let start : tie.Start = search in rule9 (start .args .m) (start .pre .0) .atoms-high
+next-kept-requires c κs =
+    let start : tie.Start = search in
+    let (formed, kinds, short, full) = start .pre in
+    rule9 (start .args .m) formed .atoms-high
 
 returns-2 : tie.Need-returns-2
 returns-2 c =
