@@ -205,6 +205,7 @@ pub layout-text :
 layout-text bytes f =
     let k = markLength bytes in
     let past : length bytes ≤ suc (90 + 4 * k) = omega arith in
-    let third = line-split bytes 4 90 k [] (omega arith) (f .atoms-kept) (f .atoms-end) (drop-of-length-le bytes past) in
+    let none = drop-of-length-le bytes past in
+    let third = line-split bytes 4 90 k [] (omega arith) (f .atoms-kept) (f .atoms-end) none in
     let second = line-split bytes 20 29 3 _ (omega arith) (f .counts-kept) (f .counts-end) third in
     line-split bytes 4 0 7 _ (omega arith) (f .head-kept) (f .head-ends) second ∙ sym (simp append-assoc)
