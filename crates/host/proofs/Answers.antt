@@ -36,52 +36,69 @@ module _ (mol : Molecule) (mark : List ℕ) where
   unfolding searchFor
   search-restored h = rw (ne-eqb (length mark) 0 h)
 
--- what is returned and left, part by part
+-- ---- what is returned and left
+
 abbrev pub Leaves : ℕ → List ℕ → List ℕ → Resumed → Type 0
-Leaves number rings next x = (number ≡ x .number) × ((rings ≡ x .rings) × (next ≡ x .nextMark))
+Leaves number rings next x = (number ≡ x .number) × (rings ≡ x .rings) × (next ≡ x .nextMark)
 
 pub leaves :
-    {x y : Resumed} → x ≡ y → (number : ℕ) (rings next : List ℕ) → Leaves number rings next x →
-    Leaves number rings next y
-leaves e number rings next h = (
-  h .0 ∙ ap (λ (z : Resumed). z .number) e,
-  (h .1 .0 ∙ ap (λ (z : Resumed). z .rings) e, h .1 .1 ∙ ap (λ (z : Resumed). z .nextMark) e),
-)
+    {x y : Resumed} → x ≡ y → (number : ℕ) (rings next : List ℕ) →
+    Leaves number rings next x → Leaves number rings next y
+leaves e number rings next h = rw (← e) h
 
 -- the run and the save, from what the two entries promise
 pub ran-and-saved :
     (mol : Molecule) (q : Search) (budget : ℕ) (rings next : List ℕ) (ran : Ran) (number : ℕ) (out saved : List ℕ) →
-    ran ≡ runSearch mol q budget rings → out ≡ runOutput mol q budget rings →
+    (ran ≡ runSearch mol q budget rings) × (out ≡ runOutput mol q budget rings) →
     saved ≡ saveOutput mol (ran .search) next → number ≡ endedNumber (ran .ended) →
     Leaves number out saved (runAndSave mol q budget rings next)
 unfolding runAndSave
-ran-and-saved mol q budget rings next ran number out saved r o s n =
-    (n ∙ ap (λ (x : Ran). endedNumber (x .ended)) r, (o, s ∙ ap (λ (x : Ran). saveOutput mol (x .search) next) r))
+ran-and-saved mol q budget rings next ran number out saved (is-ran, is-out) is-saved is-number =
+    (is-number ∙ rw is-ran, is-out, is-saved ∙ rw is-ran)
 
-module _ (sheet mark : List ℕ) (budget : ℕ) (rings next : List ℕ) (read : SheetAnswer)
-    (is-read : read ≡ readSheet sheet) where
-  pub sheet-refused :
-      (r : Refusal) → read .answer ≡ Refused r → refusedCall r rings next ≡ resume sheet mark budget rings next
-  unfolding resume
-  sheet-refused r e = rw (← is-read, e)
+-- ---- the ways through the entry
 
-  module _ (taken : read .answer ≡ Accepted) (made : Made) (is-made : made ≡ searchFor (read .molecule) mark) where
-    pub mark-refused :
-        (r : Refusal) → made .answer ≡ Refused r → refusedCall r rings next ≡ resume sheet mark budget rings next
+-- What is known where the sheet was accepted
+pub record SheetTaken (sheet : List ℕ) (read : SheetAnswer) : Type 0 where
+  pub is-read : read ≡ readSheet sheet
+  pub accepted : read .answer ≡ Accepted
+
+-- and where the search to run was made
+pub record MarkTaken (sheet mark : List ℕ) (read : SheetAnswer) (made : Made) : Type 0 where
+  pub of-sheet : SheetTaken sheet read
+  pub is-made : made ≡ searchFor (read .molecule) mark
+  pub accepted : made .answer ≡ Accepted
+
+module _ (sheet mark : List ℕ) (budget : ℕ) (rings next : List ℕ) where
+  abbrev Refuses : Refusal → Type 0
+  Refuses r = refusedCall r rings next ≡ resume sheet mark budget rings next
+
+  module _ {read : SheetAnswer} where
+    pub sheet-refused : {r : Refusal} → read ≡ readSheet sheet → read .answer ≡ Refused r → Refuses r
     unfolding resume
-    mark-refused r e = rw (← is-read, taken, ← is-made, e)
+    sheet-refused is-read e = rw (← is-read, e)
 
-    module _ (restored : made .answer ≡ Accepted) where
-      pub room-refused :
-          length next < 599 → refusedCall refusal.MarkRoom rings next ≡ resume sheet mark budget rings next
+    module _ {made : Made} where
+      pub mark-refused :
+          {r : Refusal} → SheetTaken sheet read → made ≡ searchFor (read .molecule) mark → made .answer ≡ Refused r →
+          Refuses r
       unfolding resume
-      room-refused h = rw (← is-read, taken, ← is-made, restored, lt-leb 599 (length next) h)
+      mark-refused s is-made e = rw (← s .is-read, s .accepted, ← is-made, e)
 
-      pub resumed :
-          599 ≤ length next → runAndSave (read .molecule) (made .search) budget rings next ≡
-          resume sheet mark budget rings next
-      unfolding resume
-      resumed h = rw (← is-read, taken, ← is-made, restored, le-leb 599 (length next) h)
+      module _ (m : MarkTaken sheet mark read made) where
+        pub room-refused : length next < 599 → Refuses refusal.MarkRoom
+        unfolding resume
+        room-refused h =
+            let s = m .of-sheet in
+            rw (← s .is-read, s .accepted, ← m .is-made, m .accepted, lt-leb 599 (length next) h)
+
+        pub resumed :
+            599 ≤ length next →
+            runAndSave (read .molecule) (made .search) budget rings next ≡ resume sheet mark budget rings next
+        unfolding resume
+        resumed h =
+            let s = m .of-sheet in
+            rw (← s .is-read, s .accepted, ← m .is-made, m .accepted, le-leb 599 (length next) h)
 
 -- ---- what a host reads off a mark
 
@@ -99,25 +116,29 @@ module _ (bytes : List ℕ) where
     unfolding listedIn
     listed-read = rw (le-leb 91 (length bytes) room)
 
-    module _ (x : Number) (is : x ≡ fieldAt 4 bytes 20) where
-      pub size-bad : x ≡ Bad → 0 ≡ markSize bytes
-      unfolding markSize
-      size-bad e = rw (le-leb 91 (length bytes) room, sym is ∙ e)
+    pub size-bad : {x : Number} → x ≡ fieldAt 4 bytes 20 → x ≡ Bad → 0 ≡ markSize bytes
+    unfolding markSize
+    size-bad is e = rw (le-leb 91 (length bytes) room, sym is ∙ e)
 
-      module _ (k : ℕ) (read : x ≡ Value k) where
-        -- a field of 4 columns
-        pub size-fits : k < 10000
-        size-fits = go (read-fits (take 4 (drop 20 bytes)) k (sym is ∙ read) .0)
-          where
-            go : k < 10 ^ length (take 4 (drop 20 bytes)) → k < 10000
-            go h = rw (length-take-le 4 (drop 20 bytes) (rw length-drop (omega arith))) at h
+-- What is known where the field of the length holds k
+pub record LengthRead (bytes : List ℕ) (k : ℕ) : Type 0 where
+  pub room : 91 ≤ length bytes
+  pub read : fieldAt 4 bytes 20 ≡ Value k
 
-        pub size-past : length bytes < 91 + 4 * k → 0 ≡ markSize bytes
-        unfolding markSize
-        size-past h =
-            rw (le-leb 91 (length bytes) room, sym is ∙ read)
-            (sym (ap (λ (b : Bool). cond b (91 + 4 * k) 0) (lt-leb (91 + 4 * k) (length bytes) h)))
+module _ {bytes : List ℕ} {k : ℕ} (f : LengthRead bytes k) where
+  -- a field of 4 columns
+  pub size-fits : k < 10000
+  size-fits = go (read-fits (take 4 (drop 20 bytes)) k (f .read) .0)
+    where
+      go : k < 10 ^ length (take 4 (drop 20 bytes)) → k < 10000
+      go h = rw (length-take-le 4 (drop 20 bytes) (rw length-drop (omega (arith, f .room)))) at h
 
-        pub size-read : 91 + 4 * k ≤ length bytes → 91 + 4 * k ≡ markSize bytes
-        unfolding markSize
-        size-read h = rw (le-leb 91 (length bytes) room, sym is ∙ read, le-leb (91 + 4 * k) (length bytes) h)
+  pub size-past : length bytes < 91 + 4 * k → 0 ≡ markSize bytes
+  unfolding markSize
+  size-past h =
+      rw (le-leb 91 (length bytes) (f .room), f .read)
+      (sym (ap (λ (b : Bool). cond b (91 + 4 * k) 0) (lt-leb (91 + 4 * k) (length bytes) h)))
+
+  pub size-read : 91 + 4 * k ≤ length bytes → 91 + 4 * k ≡ markSize bytes
+  unfolding markSize
+  size-read h = rw (le-leb 91 (length bytes) (f .room), f .read, le-leb (91 + 4 * k) (length bytes) h)

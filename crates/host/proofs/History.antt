@@ -70,15 +70,19 @@ module _ {L : Listing} {said : Bool} {k : Kept} {x : Standing} (v : Agrees L sai
 
     allowed-led : HostAllowed (L .sheet) k c → LedBy
     allowed-led (inl e) = refused-led e
-    allowed-led (inr h) = handed-led h (decLe 599 (length (c .next)))
+    allowed-led (inr (same-sheet, same-mark)) =
+        handed-led (record { same-sheet = same-sheet; same-mark = same-mark }) (decLe 599 (length (c .next)))
 
   -- calls from what is kept and stands now
   host-on : HostGoesOn (L .sheet) (L .mol) k
   host-on = record {
-    call-accepted = λ c e f room. call.not-refused v c (e, f) room;
+    call-accepted = λ c e f room. call.not-refused v c (handed c e f) room;
     progress = λ c e f room b l.
-        call.call-progress v c (e, f) room (on-in L (v .reached) .progress (c .budget) (c .rings) b l);
+        call.call-progress v c (handed c e f) room (on-in L (v .reached) .progress (c .budget) (c .rings) b l);
   }
+    where
+      handed : (c : HostCall) → c .sheet ≡ L .sheet → c .mark ≡ k .mark → HandedOn L k c
+      handed c e f = record { same-sheet = e; same-mark = f }
 
 list-led :
     {L : Listing} (calls : List HostCall) {said : Bool} {k : Kept} {x : Standing} →
@@ -86,9 +90,9 @@ list-led :
     Led L (said || returnedDone calls) (keptBy k calls) x (allCallsIn calls)
 unfolding returnedDone keptBy allCallsIn standing
 list-led [] {said} v h = rw (or-false said) (record { history = tt; agrees = v })
-list-led {L} (c ∷ calls) {said} {k} {x} v h =
-    let one = allowed-led v c (h .0) in
-    let rest = list-led calls (one .agrees) (h .1) in
+list-led {L} (c ∷ calls) {said} {k} {x} v (allowed, later) =
+    let one = allowed-led v c allowed in
+    let rest = list-led calls (one .agrees) later in
     rw (← or-assoc said (eqb (returned c .number) 101) (returnedDone calls))
     (record {
       history = history-joined (L .mol) (does c) (allCallsIn calls) x (one .history) (rest .history);
@@ -161,6 +165,9 @@ module _
   -- ---- calls that start a search
 
   module _ (kind s t : ℕ) (first : List ℕ) (starts : FirstMark R kind s t first) where
+    kinds : kindKept (R .atoms) kind s t ≡ true
+    kinds = starts .0
+
     abbrev fresh-listing : Listing
     fresh-listing = record {
       sheet = sheet;
@@ -174,8 +181,8 @@ module _
       read = read;
       is-record = is-record;
       formed = formed;
-      kept = starts .0;
-      sound = fresh-sound R kind s t formed (starts .0);
+      kept = kinds;
+      sound = fresh-sound R kind s t formed kinds;
     }
 
     fresh-agrees : Agrees fresh-listing false (keeping first) (start kind s t)
@@ -185,14 +192,15 @@ module _
         is-from = unfold start restoredStart in refl
 
         reached : ReachedIn fresh-listing false 0 (start kind s t)
-        reached = fresh-reached R kind s t formed (starts .0)
+        reached = fresh-reached R kind s t formed kinds
 
         go :
             (first ≡ markText R (freshSearch kind s t)) ⊎ ((first ≡ []) × (kind ≡ 0) × (s ≡ 0) × (t ≡ 0)) →
             Agrees fresh-listing false (keeping first) (start kind s t)
-        go (inl e) =
-            marked-agrees (freshSearch kind s t) is-from reached (rw e (fresh-restores R kind s t formed (starts .0)))
-        go (inr e) = unmarked-agrees (freshSearch kind s t) is-from reached (e .0) (rw (e .1, e .2, e .3))
+        go (inl marked) =
+            marked-agrees (freshSearch kind s t) is-from reached (rw marked (fresh-restores R kind s t formed kinds))
+        go (inr (none, kind-zero, s-zero, t-zero)) =
+            unmarked-agrees (freshSearch kind s t) is-from reached none (rw (kind-zero, s-zero, t-zero))
 
     fresh-demand :
         (calls : List HostCall) → HostHistory sheet (keeping first) calls →
@@ -200,7 +208,7 @@ module _
         (keptBy (keeping first) calls) (standing (start kind s t) (allCallsIn calls))
     fresh-demand calls h =
         let l = host-listed fresh-agrees calls h in
-        let d = demand3 R kind s t formed (starts .0) (allCallsIn calls) (l .stands .is-history) in
+        let d = demand3 R kind s t formed kinds (allCallsIn calls) (l .stands .is-history) in
         record {
           stands = l .stands;
           demand = d;

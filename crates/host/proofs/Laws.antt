@@ -13,7 +13,8 @@ use lib.Dec.{leb, eqb}
 use Rattle.enumeration.specs.declared.Stop.{Stop}
 use Rattle.enumeration.specs.declared.Stop.the-variants.{Done, Limit, Spent, Full}
 use Rattle.enumeration.specs.Machine.{fresh}
-use Rattle.enumeration.specs.Trials.{emitted, records}
+use Rattle.enumeration.specs.Trials.{Valid, emitted, records}
+use Rattle.enumeration.specs.RunFacts.{RunFacts}
 use Rattle.enumeration.specs.Run.{stopNumber, Outcome}
 use Rattle.enumeration.proofs.Theorems.{run-outcome, run-keeps-valid}
 use Rattle.refusal.specs.declared.Refusal.{Refusal}
@@ -36,10 +37,12 @@ use Rattle.search.specs.Entries.{acceptedSearch, startRings, outcome, ran, runS
 use Rattle.search.specs.Mark.{valueAt, markText, layoutKept, markBeginning, belongs, restoreMark}
 use Rattle.search.proofs.Restores.{restored-facts}
 use Rattle.search.proofs.Views.{beginning-length}
-use Rattle.search.proofs.MarkLaws.{family-lawful, restorable-facts, restorable-valid, valid-full, fresh-restorable, run-restorable, mark-length, saved-restores, restored-restorable}
+use Rattle.search.proofs.MarkLaws.{family-lawful, restorable-facts, restorable-valid, valid-full, fresh-restorable}
+use Rattle.search.proofs.MarkLaws.{run-restorable, mark-length, saved-restores, restored-restorable}
 use Rattle.history.proofs.Entered.{save-wrote}
 use Rattle.host.specs.Resume.{Resumed, refusedCall, searchFor, runAndSave, resume, markSize, listedIn}
-use Rattle.host.proofs.Answers.{search-fresh, search-restored, sheet-refused, mark-refused, room-refused, resumed, listed-short}
+use Rattle.host.proofs.Answers.{search-fresh, search-restored, listed-short, SheetTaken, MarkTaken}
+use Rattle.host.proofs.Answers.{sheet-refused, mark-refused, room-refused, resumed}
 use Rattle.host.proofs.Sizes.{listed-restored, mark-size, mark-listed}
 
 -- ---- the numbers of its refusals
@@ -49,9 +52,10 @@ abbrev Within : ℕ → ℕ → Answer → Type 0
 Within a b Accepted = Unit {0}
 Within a b (Refused r) = (a ≤ numberOf r) × (numberOf r ≤ b)
 
-both-ways : {A : Type 0} (P : A → Type 0) (t : Bool) (x y : A) → P x → P y → P (cond t x y)
-both-ways P true x y h g = h
-both-ways P false x y h g = g
+-- what a test decides between, where both hold
+by-test : {A : Type 0} (P : A → Type 0) (t : Bool) (x y : A) → P y → P x → P (cond t x y)
+by-test P true x y failed passed = passed
+by-test P false x y failed passed = failed
 
 within-refused :
     (a b : ℕ) (x : Answer) (r : Refusal) → x ≡ Refused r → Within a b x → (a ≤ numberOf r) × (numberOf r ≤ b)
@@ -65,21 +69,14 @@ pub sheet-numbers : (s : List ℕ) (r : Refusal) → readSheet s .answer ≡ Ref
 unfolding readSheet readBonds
 sheet-numbers s r e =
     within-refused 1 8 _ r e
-    (both-ways SheetRule (lengthKept s) _ _
-    (both-ways SheetRule (linesKept s) _ _
-    (both-ways SheetRule (leb (atomsOf s) 128) _ _
-    (both-ways SheetRule (leb (bondsOf s) 1024) _ _
-    (both-ways SheetRule (eqb (length s) _) _ _
-    (both-ways SheetRule (atomsKept (atomsOf s) (bondOf s) (bondsOf s)) _ _
-    (both-ways SheetRule (noneToItself (bondOf s) (bondsOf s)) _ _
-    (both-ways SheetRule (noneTwice (bondOf s) (bondsOf s)) _ _ tt (omega arith, omega arith))
-    (omega arith, omega arith))
-    (omega arith, omega arith))
-    (omega arith, omega arith))
-    (omega arith, omega arith))
-    (omega arith, omega arith))
-    (omega arith, omega arith))
-    (omega arith, omega arith))
+    (by-test SheetRule (lengthKept s) _ _ (omega arith, omega arith)
+    (by-test SheetRule (linesKept s) _ _ (omega arith, omega arith)
+    (by-test SheetRule (leb (atomsOf s) 128) _ _ (omega arith, omega arith)
+    (by-test SheetRule (leb (bondsOf s) 1024) _ _ (omega arith, omega arith)
+    (by-test SheetRule (eqb (length s) _) _ _ (omega arith, omega arith)
+    (by-test SheetRule (atomsKept (atomsOf s) (bondOf s) (bondsOf s)) _ _ (omega arith, omega arith)
+    (by-test SheetRule (noneToItself (bondOf s) (bondsOf s)) _ _ (omega arith, omega arith)
+    (by-test SheetRule (noneTwice (bondOf s) (bondsOf s)) _ _ (omega arith, omega arith) tt))))))))
 
 -- on a molecule that rule 9 allows, a mark is refused by rules 14 to 17
 abbrev MarkRule : Made → Type 0
@@ -90,18 +87,17 @@ pub mark-numbers :
     (14 ≤ numberOf r) × (numberOf r ≤ 17)
 unfolding searchFor startRings restoreMark
 mark-numbers mol mark r formed e =
+    let kind = valueAt 4 mark 0 in
+    let s = valueAt 4 mark 4 in
+    let t = valueAt 4 mark 8 in
+    let place = placeKept (familyOf mol kind s t) (markBeginning mark) (valueAt 4 mark 24) in
     within-refused 14 17 (searchFor mol mark .answer) r e
     (rw formed
-    (both-ways MarkRule (eqb (length mark) 0) _ _ tt
-    (both-ways MarkRule (layoutKept mark) _ _
-    (both-ways MarkRule (belongs mol mark) _ _
-    (both-ways MarkRule (kindKept (mol .atoms) (valueAt 4 mark 0) (valueAt 4 mark 4) (valueAt 4 mark 8)) _ _
-    (both-ways MarkRule
-    (placeKept (familyOf mol (valueAt 4 mark 0) (valueAt 4 mark 4) (valueAt 4 mark 8)) (markBeginning mark)
-    (valueAt 4 mark 24)) _ _ tt (omega arith, omega arith))
-    (omega arith, omega arith))
-    (omega arith, omega arith))
-    (omega arith, omega arith))))
+    (by-test MarkRule (eqb (length mark) 0) _ _
+    (by-test MarkRule (layoutKept mark) _ _ (omega arith, omega arith)
+    (by-test MarkRule (belongs mol mark) _ _ (omega arith, omega arith)
+    (by-test MarkRule (kindKept (mol .atoms) kind s t) _ _ (omega arith, omega arith)
+    (by-test MarkRule place _ _ (omega arith, omega arith) tt)))) tt))
 
 -- ---- the search that it runs
 
@@ -127,13 +123,12 @@ begun-restored :
     (mol : Molecule) (mark : List ℕ) → (length mark ≡ 0 → ⊥) → searchFor mol mark .answer ≡ Accepted →
     Begun mol mark (searchFor mol mark .search)
 begun-restored mol mark some e =
-    let is : restoreMark mol mark ≡ acceptedSearch (searchFor mol mark .search) = search-restored mol mark some ∙
-    made-is (searchFor mol mark) e in
+    let made = searchFor mol mark in
+    let q = made .search in
+    let is : restoreMark mol mark ≡ acceptedSearch q = search-restored mol mark some ∙ made-is made e in
     record {
-      kept = restored-restorable mol mark (searchFor mol mark .search) is .1;
-      listed-is =
-          listed-restored mol mark (searchFor mol mark .search)
-          (restored-facts mol mark (searchFor mol mark .search) is);
+      kept = restored-restorable mol mark q is .1;
+      listed-is = listed-restored mol mark q (restored-facts mol mark q is);
     }
 
 begun :
@@ -146,20 +141,23 @@ begun mol mark formed e = go (ℕ-discrete (length mark) 0)
     go (no some) = begun-restored mol mark some e
 
 -- an accepted sheet keeps rule 9, and the search that is made on it keeps rule 12
-module _ (sheet : List ℕ) (read : SheetAnswer) (is-read : read ≡ readSheet sheet)
-    (taken : read .answer ≡ Accepted) where
-  pub read-formed : wellFormed (read .molecule) ≡ true
-  read-formed = rw is-read (accepted-well-formed sheet (rw is-read at taken))
+pub read-formed : {sheet : List ℕ} {read : SheetAnswer} → SheetTaken sheet read → wellFormed (read .molecule) ≡ true
+read-formed {sheet} s = rw (s .is-read) (accepted-well-formed sheet (rw (s .is-read) at (s .accepted)))
 
-  pub made-kept :
-      (mark : List ℕ) (made : Made) → made ≡ searchFor (read .molecule) mark → made .answer ≡ Accepted →
-      restorable (read .molecule) (made .search) ≡ true
-  made-kept mark made is-made e = rw is-made (begun (read .molecule) mark read-formed (rw is-made at e) .kept)
+pub made-kept :
+    {sheet mark : List ℕ} {read : SheetAnswer} {made : Made} → MarkTaken sheet mark read made →
+    restorable (read .molecule) (made .search) ≡ true
+made-kept {mark} {read} m =
+    rw (m .is-made) (begun (read .molecule) mark (read-formed (m .of-sheet)) (rw (m .is-made) at (m .accepted)) .kept)
 
 -- ---- its run and its save
 
-module _ (mol : Molecule) (q : Search) (formed : wellFormed mol ≡ true) (kept : restorable mol q ≡ true) (budget : ℕ)
-    (rings : List ℕ) where
+-- rules 9 and 12 allow the search
+record Runnable (mol : Molecule) (q : Search) : Type 0 where
+  formed : wellFormed mol ≡ true
+  kept : restorable mol q ≡ true
+
+module _ {mol : Molecule} {q : Search} (ok : Runnable mol q) (budget : ℕ) (rings : List ℕ) where
   abbrev o : Outcome
   o = outcome mol q budget rings
 
@@ -168,65 +166,83 @@ module _ (mol : Molecule) (q : Search) (formed : wellFormed mol ≡ true) (kept 
   ws = emitted (family mol q) (runSearch mol q budget rings .made) (stateOf q)
 
   -- the search that the run returns
-  abbrev after : Search
-  after = runSearch mol q budget rings .search
+  abbrev result : Search
+  result = runSearch mol q budget rings .search
+
+  o-facts : RunFacts (family mol q) budget (length rings) (stateOf q) o
+  o-facts = run-outcome (family mol q) budget (length rings) (stateOf q)
 
   run-is : runSearch mol q budget rings ≡ ran q o
   unfolding runSearch
-  run-is = rw (formed, kept)
+  run-is = rw (ok .formed, ok .kept)
 
-  after-is : after ≡ searchAt (q .kind) (q .s) (q .t) (o .state)
-  after-is = ap (λ (x : Ran). x .search) run-is
+  result-is : result ≡ searchAt (q .kind) (q .s) (q .t) (o .state)
+  result-is = ap (λ (x : Ran). x .search) run-is
 
   ws-is : emitted (family mol q) (o .made) (stateOf q) ≡ ws
-  ws-is = ap (λ (k : ℕ). emitted (family mol q) k (stateOf q)) (sym (ap (λ (x : Ran). x .made) run-is))
+  ws-is = ap (λ (x : Ran). emitted (family mol q) (x .made) (stateOf q)) (sym run-is)
 
   wrote-is : runOutput mol q budget rings ≡ records ws ++ drop (length (records ws)) rings
   unfolding runOutput
   wrote-is =
-      let bytes : o .bytes ≡ records ws = run-outcome (family mol q) budget (length rings) (stateOf q) .wrote ∙
-      ap records ws-is in
-      rw (formed, kept) (ap (λ (l : List ℕ). l ++ drop (length l) rings) bytes)
+      let bytes : o .bytes ≡ records ws = o-facts .wrote ∙ ap records ws-is in
+      rw (ok .formed, ok .kept) (ap (λ (l : List ℕ). l ++ drop (length l) rings) bytes)
 
-  after-kept : restorable mol after ≡ true
-  after-kept = rw after-is (run-restorable mol q formed kept budget (length rings))
+  result-kept : restorable mol result ≡ true
+  result-kept = rw result-is (run-restorable mol q (ok .formed) (ok .kept) budget (length rings))
 
-  pub ran-kept : (r : Ran) → r ≡ runSearch mol q budget rings → restorable mol (r .search) ≡ true
-  ran-kept r e = rw e after-kept
+  result-full : length (result .prefix) ≡ 128
+  result-full = rw result-is (valid-full mol (q .kind) (q .s) (q .t) (ok .formed) (o .state) valid)
+    where
+      valid : Valid (family mol q) (o .state)
+      valid =
+          run-keeps-valid (family mol q) (family-lawful mol (q .kind) (q .s) (q .t))
+          budget (length rings) (stateOf q) (restorable-valid mol q (ok .kept))
 
-  after-full : length (after .prefix) ≡ 128
-  after-full =
-      rw after-is
-      (valid-full mol (q .kind) (q .s) (q .t) formed (o .state)
-      (run-keeps-valid (family mol q) (family-lawful mol (q .kind) (q .s) (q .t)) budget (length rings) (stateOf q)
-      (restorable-valid mol q kept)))
+  result-fits : length (markText mol result) ≤ 599
+  result-fits =
+      let short = restorable-facts mol result result-kept .short in
+      omega (arith, mark-length mol result, beginning-length result result-full short)
 
-  after-fits : length (markText mol after) ≤ 599
-  after-fits =
-      let short = restorable-facts mol after after-kept .short in
-      omega (arith, mark-length mol after, beginning-length after after-full short)
+  result-listed : result .listed ≡ q .listed + length ws
+  unfolding searchAt stateOf
+  result-listed =
+      ap (λ (x : Search). x .listed) result-is
+      ∙ o-facts .listing
+      ∙ ap (λ (l : List (List ℕ)). q .listed + length l) ws-is
 
-  after-listed : after .listed ≡ q .listed + length ws
-  after-listed =
-      let rise : searchAt (q .kind) (q .s) (q .t) (o .state) .listed ≡
-      q .listed + length (emitted (family mol q) (o .made) (stateOf q)) =
-      unfold searchAt stateOf in (run-outcome (family mol q) budget (length rings) (stateOf q) .listing) in
-      ap (λ (x : Search). x .listed) after-is ∙ rise ∙ ap (λ (l : List (List ℕ)). q .listed + length l) ws-is
+  result-restores : searchFor mol (markText mol result) ≡ acceptedSearch result
+  result-restores =
+      sym (search-restored mol (markText mol result) (λ none. absurd (omega (arith, mark-length mol result))))
+      ∙ saved-restores mol result (ok .formed) result-kept result-full
 
-  after-restores : searchFor mol (markText mol after) ≡ acceptedSearch after
-  after-restores =
-      sym (search-restored mol (markText mol after) (λ none. absurd (omega (arith, mark-length mol after))))
-      ∙ saved-restores mol after formed after-kept after-full
+  -- what a host reads off the mark of that search, at the start of a buffer
+  result-size : (rest : List ℕ) → markSize (markText mol result ++ rest) ≡ length (markText mol result)
+  result-size rest = mark-size mol result (ok .formed) result-kept result-full rest
+
+  result-count : (rest : List ℕ) → listedIn (markText mol result ++ rest) ≡ result .listed
+  result-count rest = mark-listed mol result (ok .formed) result-kept result-full rest
+
+pub ran-kept :
+    (mol : Molecule) (q : Search) → wellFormed mol ≡ true → restorable mol q ≡ true →
+    (budget : ℕ) (rings : List ℕ) (r : Ran) → r ≡ runSearch mol q budget rings → restorable mol (r .search) ≡ true
+ran-kept mol q formed kept budget rings r e =
+    let ok : Runnable mol q = record { formed = formed; kept = kept } in
+    rw e (result-kept ok budget rings)
 
 -- ---- the entry
 
-stops : (why : Stop) → (101 ≤ stopNumber why) × (stopNumber why ≤ 104)
+-- the numbers of the stops
+pub stops : (why : Stop) → (101 ≤ stopNumber why) × (stopNumber why ≤ 104)
 stops Done = (omega arith, omega arith)
 stops Limit = (omega arith, omega arith)
 stops Spent = (omega arith, omega arith)
 stops Full = (omega arith, omega arith)
 
--- the numbers that it returns
+-- the numbers that it returns: of a refusal, or of a refusal or a stop
+abbrev pub OfRefusal : ℕ → Type 0
+OfRefusal k = ((1 ≤ k) × (k ≤ 8)) ⊎ ((13 ≤ k) × (k ≤ 17))
+
 abbrev pub Known : ℕ → Type 0
 Known k = ((1 ≤ k) × (k ≤ 8)) ⊎ (((13 ≤ k) × (k ≤ 17)) ⊎ ((101 ≤ k) × (k ≤ 104)))
 
@@ -252,7 +268,7 @@ module _ (sheet mark : List ℕ) (budget : ℕ) (rings next : List ℕ) where
   pub record Turned : Type 0 where
     pub rule : Refusal
     pub number-is : answer .number ≡ numberOf rule
-    pub ranged : ((1 ≤ numberOf rule) × (numberOf rule ≤ 8)) ⊎ ((13 ≤ numberOf rule) × (numberOf rule ≤ 17))
+    pub ranged : OfRefusal (numberOf rule)
     pub rings-kept : answer .rings ≡ rings
     pub mark-kept : answer .nextMark ≡ next
 
@@ -269,9 +285,7 @@ module _ (sheet mark : List ℕ) (budget : ℕ) (rings next : List ℕ) where
     pub restores : searchFor mol (markText mol returned) ≡ acceptedSearch returned
     pub counted : listedIn (answer .nextMark) ≡ listedIn mark + length words
 
-  turned :
-      (r : Refusal) → refusedCall r rings next ≡ answer → ((1 ≤ numberOf r) × (numberOf r ≤ 8)) ⊎
-      ((13 ≤ numberOf r) × (numberOf r ≤ 17)) → Turned
+  turned : (r : Refusal) → refusedCall r rings next ≡ answer → OfRefusal (numberOf r) → Turned
   turned r e h =
       record {
         rule = r;
@@ -281,74 +295,71 @@ module _ (sheet mark : List ℕ) (budget : ℕ) (rings next : List ℕ) where
         mark-kept = sym (ap (λ (x : Resumed). x .nextMark) e);
       }
 
-  -- Neither the run nor the save is refused
-  pub resume-accepted :
-      readSheet sheet .answer ≡ Accepted → searchFor mol mark .answer ≡ Accepted → 599 ≤ length next → Went
-  resume-accepted taken made room =
-      let b = begun mol mark (accepted-well-formed sheet taken) made in
-      go (accepted-well-formed sheet taken) (b .kept) (b .listed-is)
-    where
-      is : runAndSave mol given budget rings next ≡ answer
-      is = resumed sheet mark budget rings next (readSheet sheet) refl taken (searchFor mol mark) refl made room
+  module _ (ok : Runnable mol given) (is : runAndSave mol given budget rings next ≡ answer) where
+    written : 599 ≤ length next → answer .nextMark ≡ markText mol returned ++ drop (length (markText mol returned)) next
+    unfolding runAndSave
+    written room =
+        sym (ap (λ (x : Resumed). x .nextMark) is)
+        ∙ save-wrote mol (ok .formed) returned next (result-kept ok budget rings)
+        (omega (arith, result-fits ok budget rings))
 
-      go : wellFormed mol ≡ true → restorable mol given ≡ true → listedIn mark ≡ given .listed → Went
-      go formed kept before =
-          with-mark (sym (ap (λ (x : Resumed). x .nextMark) is) ∙
-          (unfold runAndSave in
-          (save-wrote mol formed returned next (after-kept mol given formed kept budget rings)
-          (omega (arith, after-fits mol given formed kept budget rings)))))
-        where
-          with-mark : answer .nextMark ≡ markText mol returned ++ drop (length (markText mol returned)) next → Went
-          with-mark written =
-              record {
-                why = outcome mol given budget rings .stop;
-                stopped = ap (λ (x : Ran). x .ended) (run-is mol given formed kept budget rings);
-                number-is =
-                    sym (ap (λ (x : Resumed). x .number) is) ∙
-                    (unfold runAndSave in
-                    (ap (λ (x : Ran). endedNumber (x .ended)) (run-is mol given formed kept budget rings)));
-                rings-are =
-                    sym (ap (λ (x : Resumed). x .rings) is) ∙
-                    (unfold runAndSave in (wrote-is mol given formed kept budget rings));
-                mark-is = written;
-                mark-fits = after-fits mol given formed kept budget rings;
-                size-is =
-                    ap markSize written ∙ mark-size mol returned formed (after-kept mol given formed kept budget rings)
-                    (after-full mol given formed kept budget rings) (drop (length (markText mol returned)) next);
-                restores = after-restores mol given formed kept budget rings;
-                counted =
-                    ap listedIn written
-                    ∙ mark-listed mol returned formed (after-kept mol given formed kept budget rings)
-                    (after-full mol given formed kept budget rings) (drop (length (markText mol returned)) next)
-                    ∙ after-listed mol given formed kept budget rings
-                    ∙ ap (λ k. k + length words) (sym before);
-              }
+    went : 599 ≤ length next → listedIn mark ≡ given .listed → Went
+    unfolding runAndSave
+    went room listed =
+        let run = run-is ok budget rings in
+        let rest = drop (length (markText mol returned)) next in
+        record {
+          why = outcome mol given budget rings .stop;
+          stopped = ap (λ (x : Ran). x .ended) run;
+          number-is = sym (ap (λ (x : Resumed). x .number) is) ∙ ap (λ (x : Ran). endedNumber (x .ended)) run;
+          rings-are = sym (ap (λ (x : Resumed). x .rings) is) ∙ wrote-is ok budget rings;
+          mark-is = written room;
+          mark-fits = result-fits ok budget rings;
+          size-is = ap markSize (written room) ∙ result-size ok budget rings rest;
+          restores = result-restores ok budget rings;
+          counted =
+              ap listedIn (written room)
+              ∙ result-count ok budget rings rest
+              ∙ result-listed ok budget rings
+              ∙ ap (λ k. k + length words) (sym listed);
+        }
+
+  module _ (read : readSheet sheet .answer ≡ Accepted) where
+    sheet-taken : SheetTaken sheet (readSheet sheet)
+    sheet-taken = record { is-read = refl; accepted = read }
+
+    mark-taken :
+        searchFor mol mark .answer ≡ Accepted → MarkTaken sheet mark (readSheet sheet) (searchFor mol mark)
+    mark-taken made = record { of-sheet = sheet-taken; is-made = refl; accepted = made }
+
+    -- Neither the run nor the save is refused
+    pub resume-accepted : searchFor mol mark .answer ≡ Accepted → 599 ≤ length next → Went
+    resume-accepted made room =
+        let formed = accepted-well-formed sheet read in
+        let b = begun mol mark formed made in
+        went (record { formed = formed; kept = b .kept })
+        (resumed sheet mark budget rings next (mark-taken made) room) room (b .listed-is)
+
+    room-way : searchFor mol mark .answer ≡ Accepted → Dec (length next < 599) → Turned ⊎ Went
+    room-way made (yes h) =
+        let refused = room-refused sheet mark budget rings next (mark-taken made) h in
+        inl (turned refusal.MarkRoom refused (inr (omega arith, omega arith)))
+    room-way made (no h) = inr (resume-accepted made (omega arith))
+
+    mark-way : (x : Answer) → searchFor mol mark .answer ≡ x → Turned ⊎ Went
+    mark-way Accepted made = room-way made (decLt (length next) 599)
+    mark-way (Refused r) e =
+        let refused = mark-refused sheet mark budget rings next sheet-taken refl e in
+        let h = mark-numbers mol mark r (accepted-well-formed sheet read) e in
+        inl (turned r refused (inr (omega arith, h .1)))
 
   ways : Turned ⊎ Went
   ways = sheet-way (readSheet sheet .answer) refl
     where
-      room-way :
-          readSheet sheet .answer ≡ Accepted → searchFor mol mark .answer ≡ Accepted → Dec (length next < 599) →
-          Turned ⊎ Went
-      room-way taken made (yes h) =
-          inl (turned refusal.MarkRoom
-          (room-refused sheet mark budget rings next (readSheet sheet) refl taken (searchFor mol mark) refl made h)
-          (inr (omega arith, omega arith)))
-      room-way taken made (no h) = inr (resume-accepted taken made (omega arith))
-
-      mark-way : readSheet sheet .answer ≡ Accepted → (x : Answer) → searchFor mol mark .answer ≡ x → Turned ⊎ Went
-      mark-way taken Accepted made = room-way taken made (decLt (length next) 599)
-      mark-way taken (Refused r) e =
-          let h = mark-numbers mol mark r (accepted-well-formed sheet taken) e in
-          inl (turned r
-          (mark-refused sheet mark budget rings next (readSheet sheet) refl taken (searchFor mol mark) refl r e)
-          (inr (omega arith, h .1)))
-
       sheet-way : (x : Answer) → readSheet sheet .answer ≡ x → Turned ⊎ Went
-      sheet-way Accepted taken = mark-way taken (searchFor mol mark .answer) refl
+      sheet-way Accepted read = mark-way read (searchFor mol mark .answer) refl
       sheet-way (Refused r) e =
-          inl (turned r (sheet-refused sheet mark budget rings next (readSheet sheet) refl r e)
-          (inl (sheet-numbers sheet r e)))
+          inl (turned r (sheet-refused sheet mark budget rings next refl e) (inl (sheet-numbers sheet r e)))
 
   -- A refusal, which has a number below 101, changes neither output
   pub resume-refused : answer .number < 101 → (answer .rings ≡ rings) × (answer .nextMark ≡ next)
@@ -362,9 +373,7 @@ module _ (sheet mark : List ℕ) (budget : ℕ) (rings next : List ℕ) where
   pub resume-numbers : Known (answer .number)
   resume-numbers = go ways
     where
-      ranged :
-          (k : ℕ) (r : Refusal) → k ≡ numberOf r → ((1 ≤ numberOf r) × (numberOf r ≤ 8)) ⊎
-          ((13 ≤ numberOf r) × (numberOf r ≤ 17)) → Known k
+      ranged : (k : ℕ) (r : Refusal) → k ≡ numberOf r → OfRefusal (numberOf r) → Known k
       ranged k r e (inl h) = inl (omega arith, omega arith)
       ranged k r e (inr h) = inr (inl (omega arith, omega arith))
 

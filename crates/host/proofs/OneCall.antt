@@ -41,7 +41,7 @@ use Rattle.host.specs.Resume.{Resumed, searchFor, resume, markSize, list
 use Rattle.host.specs.Calls.{HostCall, returned, isRefused, Kept, firstRecords, markLeft, newRecords, keptAfter, callsIn}
 use Rattle.host.proofs.Answers.{search-restored}
 use Rattle.host.proofs.Sizes.{listed-restored}
-use Rattle.host.proofs.Laws.{Went, resume-accepted}
+use Rattle.host.proofs.Laws.{stops, Went, resume-accepted}
 
 -- as many records as words are the records of the words
 first-records : (ws : List (List ℕ)) (rest : List ℕ) → firstRecords (length ws) (records ws ++ rest) ≡ records ws
@@ -55,13 +55,7 @@ first-records (w ∷ ws) rest =
       first-records ws rest,
     )
 
--- the numbers of the stops
-stop-high : (why : Stop) → 101 ≤ stopNumber why
-stop-high Done = omega arith
-stop-high Limit = omega arith
-stop-high Spent = omega arith
-stop-high Full = omega arith
-
+-- 101 is the number of the stop done
 stop-done : (why : Stop) → isDoneStop why ≡ eqb (stopNumber why) 101
 stop-done Done = refl
 stop-done Limit = refl
@@ -198,8 +192,7 @@ module _ (sheet mark : List ℕ) (budget : ℕ) (rings next : List ℕ) where
       (mol : Molecule) (q : Search) → readSheet sheet .answer ≡ Accepted → readSheet sheet .molecule ≡ mol →
       searchFor mol mark ≡ acceptedSearch q → 599 ≤ length next → AnsweredOn mol q
   answered mol q read is named room =
-      let made : searchFor (readSheet sheet .molecule) mark .answer ≡ Accepted =
-      ap (λ (m : Molecule). searchFor m mark .answer) is ∙ ap (λ (a : Made). a .answer) named in
+      let made = ap (λ (m : Molecule). searchFor m mark .answer) is ∙ ap (λ (a : Made). a .answer) named in
       subst (AnsweredOn mol) (ap (λ (a : Made). a .search) named)
       (subst (λ (m : Molecule). AnsweredOn m (searchFor m mark .search)) is
       (went-answered (resume-accepted sheet mark budget rings next read made room)))
@@ -211,8 +204,9 @@ abbrev opening : Molecule → List ℕ → List Call
 opening mol mark = cond (eqb (length mark) 0) [] (restores mol mark ∷ [])
 
 -- the call is handed the sheet and the mark as it stands
-abbrev pub HandedOn : Listing → Kept → HostCall → Type 0
-HandedOn L k c = (c .sheet ≡ L .sheet) × (c .mark ≡ k .mark)
+pub record HandedOn (L : Listing) (k : Kept) (c : HostCall) : Type 0 where
+  pub same-sheet : c .sheet ≡ L .sheet
+  pub same-mark : c .mark ≡ k .mark
 
 module _
     {L : Listing} {said : Bool} {k : Kept} {x : Standing} (v : Agrees L said k x)
@@ -229,7 +223,7 @@ module _
 
   pub no-room : length (c .next) < 599 → isRefused c ≡ true
   unfolding isRefused resume
-  no-room short = rw (h .0, h .1, L .read, L .is-record, v .named, lt-leb 599 (length (c .next)) short)
+  no-room short = rw (h .same-sheet, h .same-mark, L .read, L .is-record, v .named, lt-leb 599 (length (c .next)) short)
 
   ran-reached : (n : ℕ) × ReachedIn L (said || isDoneStop (outcome .stop)) n ran-to
   unfolding saysDone
@@ -245,7 +239,7 @@ module _
   module _ (room : 599 ≤ length (c .next)) where
     told : Answered (L .mol) (x .search) (c .budget) (c .rings) (c .next) (returned c)
     told =
-        rw (h .0, h .1)
+        rw (h .same-sheet, h .same-mark)
         (answered (L .sheet) (k .mark) (c .budget) (c .rings) (c .next)
         (L .mol) (x .search) (L .read) (L .is-record) (v .named) room)
 
@@ -255,7 +249,7 @@ module _
 
     pub not-refused : isRefused c ≡ false
     unfolding isRefused
-    not-refused = le-ltb (returned c .number) 101 (omega (arith, number-is, stop-high (outcome .stop)))
+    not-refused = le-ltb (returned c .number) 101 (omega (arith, number-is, stops (outcome .stop)))
 
     -- the mark that it leaves is that of the search that the run returned
     abbrev new-mark : List ℕ
@@ -332,7 +326,7 @@ module _
     call-progress (inl more) =
         inl (omega (arith, v .listed-known, ran-agrees .listed-known, ap (λ (q : Search). q .listed) ran-is))
     call-progress (inr (inl e)) = inr (inl (told .number-is ∙ ap endedNumber e))
-    call-progress (inr (inr e)) = inr (inr (told .number-is ∙ ap endedNumber (e .0)))
+    call-progress (inr (inr (e, at-limit))) = inr (inr (told .number-is ∙ ap endedNumber e))
 
     -- ---- what the call does
 
@@ -341,7 +335,7 @@ module _
 
     calls-are : callsIn c ≡ opening (L .mol) (k .mark) ++ last-two
     unfolding callsIn
-    calls-are = rw (h .0, L .is-record, h .1, v .named, ran-is)
+    calls-are = rw (h .same-sheet, L .is-record, h .same-mark, v .named, ran-is)
 
     -- the restore is one of the mark of the search as it stands, and leaves all as it is
     abbrev Opened : List ℕ → Type 0
@@ -356,7 +350,7 @@ module _
         go (inl e) =
             rw (e, ne-eqb (length (markText (L .mol) (x .search))) 0 (mark-some (L .mol) (x .search)))
             ((inr (refl, refl), tt), unfold standing in (restored-in L (v .reached)))
-        go (inr e) = rw (e .0) (tt, unfold standing in refl)
+        go (inr (none, first-none, unmoved)) = rw none (tt, unfold standing in refl)
 
     two-history : History (L .mol) x last-two
     two-history = (inr (refl, refl), rw (moved-in L (v .reached) (c .budget) (c .rings)) (inr (refl, refl), tt))

@@ -29,9 +29,9 @@ fn search_for(m: Molecule, mark: &[u8]) -> Made
 // Runs a search and saves the one that the run returns.
 fn run_and_save(m: Molecule, q: Search, budget: u64, rings: &mut [u8], next_mark: &mut [u8]) -> u32
     requires { ⌜ (wellFormed m ≡ true) × (restorable m q ≡ true) ⌝ }
-    ensures { λ r. ⌜ r ≡ runAndSave m q budget (now (rings .entry)) (now («next_mark» .entry)) .number ⌝ }
-    ensures { λ _. ⌜ now (rings .exit) ≡ runAndSave m q budget (now (rings .entry)) (now («next_mark» .entry)) .rings ⌝ }
-    ensures { λ _. ⌜ now («next_mark» .exit) ≡ runAndSave m q budget (now (rings .entry)) (now («next_mark» .entry)) .nextMark ⌝ }
+    ensures { λ r.
+        let x = runAndSave m q budget (now (rings .entry)) (now («next_mark» .entry)) in
+        ⌜ (r ≡ x .number) × (now (rings .exit) ≡ x .rings) × (now («next_mark» .exit) ≡ x .nextMark) ⌝ }
 {
     let ran = runner::run_checked(m, q, budget, rings);
     let search = ran.search;
@@ -49,9 +49,10 @@ pub extern "C" fn ringlist_resume(
     rings: &mut [u8],
     next_mark: &mut [u8],
 ) -> u32
-    ensures { λ r. ⌜ r ≡ resume (now (sheet .entry)) (now (mark .entry)) budget (now (rings .entry)) (now («next_mark» .entry)) .number ⌝ }
-    ensures { λ _. ⌜ now (rings .exit) ≡ resume (now (sheet .entry)) (now (mark .entry)) budget (now (rings .entry)) (now («next_mark» .entry)) .rings ⌝ }
-    ensures { λ _. ⌜ now («next_mark» .exit) ≡ resume (now (sheet .entry)) (now (mark .entry)) budget (now (rings .entry)) (now («next_mark» .entry)) .nextMark ⌝ }
+    ensures { λ r.
+        let x =
+        resume (now (sheet .entry)) (now (mark .entry)) budget (now (rings .entry)) (now («next_mark» .entry)) in
+        ⌜ (r ≡ x .number) × (now (rings .exit) ≡ x .rings) × (now («next_mark» .exit) ≡ x .nextMark) ⌝ }
 {
     let read = sheet::read_sheet(sheet);
     let read_answer = read.answer;
@@ -75,7 +76,8 @@ pub extern "C" fn ringlist_resume(
     }
 }
 
-// The bytes of the mark at the start of a buffer, by the length of p that it names; 0 where the buffer holds no such mark.
+// The bytes of the mark at the start of a buffer, by the length of p that it names;
+// 0 where the buffer holds no such mark.
 #[no_mangle]
 pub extern "C" fn ringlist_mark_length(mark: &[u8]) -> usize
     ensures { λ r. ⌜ r ≡ markSize (now (mark .entry)) ⌝ }

@@ -1,4 +1,5 @@
-// Marks (document 01): a search is saved as bytes, rules 9, 12, 13, and bytes restore a search, rules 9, 14, 15, 16, 17.
+// Marks (document 01): a search is saved as bytes, rules 9, 12, 13;
+// bytes restore a search, rules 9, 14, 15, 16, 17.
 ghost use mathlib.Core.Path.{_≡_};
 ghost use Rattle.search.specs.Mark.{saveAnswer, saveOutput, restoreMark};
 use molecule::Molecule;
@@ -9,7 +10,9 @@ use search::Search;
 
 // Saves a search as a mark: rules 9, 12, 13.
 pub fn save(m: Molecule, q: Search, out: &mut [u8]) -> Saved
-    ensures { λ r. ⌜ (r ≡ saveAnswer m q (now (out .entry))) × (now (out .exit) ≡ saveOutput m q (now (out .entry))) ⌝ }
+    ensures { λ r. ⌜
+        (r ≡ saveAnswer m q (now (out .entry))) ×
+        (now (out .exit) ≡ saveOutput m q (now (out .entry))) ⌝ }
 {
     if !molecule::well_formed(m) {
         return Saved::Refused(Refusal::Record);

@@ -30,7 +30,8 @@ use Rattle.search.specs.declared.Saved.{Saved}
 use Rattle.search.specs.declared.Saved.the-variants.{Written, Refused}
 use Rattle.search.specs.Place.{familyOf, beginning, searchAt, restorable}
 use Rattle.search.specs.Entries.{acceptedSearch}
-use Rattle.search.specs.Mark.{markText, saveAnswer, saveOutput, valueOf, valueAt, markLength, markBeginning, markSearch, restoreMark}
+use Rattle.search.specs.Mark.{markText, saveAnswer, saveOutput, valueOf, valueAt, markLength, markBeginning}
+use Rattle.search.specs.Mark.{markSearch, belongs, restoreMark}
 use Rattle.search.proofs.Text.{valuesOf, values-four, values-length}
 use Rattle.search.proofs.Lines.{textOf, text-length, layout-facts, layout-text}
 pub use Rattle.search.proofs.Readings.{family-lawful, family-atoms, Restorable, restorable-facts, restorable-of, restorable-iff}
@@ -60,8 +61,29 @@ value-most bs = go (readField bs) refl
     go (Value v) e = read-fits bs v e .1
     go Bad e = omega arith
 
+own-facts :
+    (mol : Molecule) (bytes : List ℕ) → belongs mol bytes ≡ true →
+    (valueAt 4 bytes 12 ≡ mol .atoms) × (valueAt 4 bytes 16 ≡ mol .bonds)
+own-facts mol bytes e =
+    let (n, m) = and-parts (eqb (valueAt 4 bytes 12) (mol .atoms)) (eqb (valueAt 4 bytes 16) (mol .bonds)) e in
+    (eqb-true (valueAt 4 bytes 12) (mol .atoms) n, eqb-true (valueAt 4 bytes 16) (mol .bonds) m)
+
+same-text :
+    {head₀ head counts₀ counts atoms₀ atoms : List ℕ} → head₀ ≡ head → counts₀ ≡ counts → atoms₀ ≡ atoms →
+    textOf head₀ counts₀ atoms₀ ≡ textOf head counts atoms
+same-text h c a = rw (h, c, a)
+
 module _ (mol : Molecule) (bytes : List ℕ) (q : Search) (f : Restored mol bytes q) where
-  -- the state that the mark names
+  -- kind, s and t, and the state that the mark names
+  abbrev kind : ℕ
+  kind = valueAt 4 bytes 0
+
+  abbrev s : ℕ
+  s = valueAt 4 bytes 4
+
+  abbrev t : ℕ
+  t = valueAt 4 bytes 8
+
   abbrev named : State
   named = record {
     stack = reverse (markBeginning bytes);
@@ -72,22 +94,21 @@ module _ (mol : Molecule) (bytes : List ℕ) (q : Search) (f : Restored mol byte
   }
 
   abbrev whole : Search
-  whole = searchAt (valueAt 4 bytes 0) (valueAt 4 bytes 4) (valueAt 4 bytes 8) named
+  whole = searchAt kind s t named
 
   named-length : length (named .stack) ≡ markLength bytes
   named-length =
-      length-reverse (markBeginning bytes) ∙ ap length (values-four bytes 90 (markLength bytes)) ∙
-      values-length 4 bytes 90 (markLength bytes)
+      length-reverse (markBeginning bytes)
+      ∙ ap length (values-four bytes 90 (markLength bytes))
+      ∙ values-length 4 bytes 90 (markLength bytes)
 
   named-search : whole ≡ q
   named-search = unfold markSearch in (f .search)
 
-  named-valid : Valid (familyOf mol (valueAt 4 bytes 0) (valueAt 4 bytes 4) (valueAt 4 bytes 8)) named
+  named-valid : Valid (familyOf mol kind s t) named
   named-valid =
-      let place = place-facts (familyOf mol (valueAt 4 bytes 0) (valueAt 4 bytes 4) (valueAt 4 bytes 8))
-      (markBeginning bytes) (valueAt 4 bytes 24) (f .place) in
-      placed-valid (familyOf mol (valueAt 4 bytes 0) (valueAt 4 bytes 4) (valueAt 4 bytes 8)) named
-      (rw reverse-reverse place)
+      let place = place-facts (familyOf mol kind s t) (markBeginning bytes) (valueAt 4 bytes 24) (f .place) in
+      placed-valid (familyOf mol kind s t) named (rw reverse-reverse place)
 
   named-bounded : Bounded named
   named-bounded =
@@ -99,23 +120,18 @@ module _ (mol : Molecule) (bytes : List ℕ) (q : Search) (f : Restored mol byte
 
   named-restorable : restorable mol q ≡ true
   named-restorable =
-      rw (← named-search)
-      (valid-restorable mol (valueAt 4 bytes 0) (valueAt 4 bytes 4) (valueAt 4 bytes 8) (f .formed)
-      (f .kinds) named named-valid named-bounded)
+      rw (← named-search) (valid-restorable mol kind s t (f .formed) (f .kinds) named named-valid named-bounded)
 
   named-full : length (q .prefix) ≡ 128
   named-full =
       let most = layout-facts bytes (f .layout) .most in
-      rw (← named-search)
-      (search-length (valueAt 4 bytes 0) (valueAt 4 bytes 4) (valueAt 4 bytes 8) named (omega (arith, named-length)))
+      rw (← named-search) (search-length kind s t named (omega (arith, named-length)))
 
   -- its numbers are the values of the fields
   named-head : headOf mol whole ≡ valuesOf 4 bytes 0 7
   unfolding searchAt
   named-head =
-      let own = and-parts (eqb (valueAt 4 bytes 12) (mol .atoms)) (eqb (valueAt 4 bytes 16) (mol .bonds)) (f .own) in
-      let n-is : valueAt 4 bytes 12 ≡ mol .atoms = eqb-true (valueAt 4 bytes 12) (mol .atoms) (own .0) in
-      let m-is : valueAt 4 bytes 16 ≡ mol .bonds = eqb-true (valueAt 4 bytes 16) (mol .bonds) (own .1) in
+      let (n-is, m-is) = own-facts mol bytes (f .own) in
       rw (named-length, n-is, m-is)
 
   named-counts : countsOf whole ≡ valuesOf 20 bytes 29 3
@@ -124,21 +140,16 @@ module _ (mol : Molecule) (bytes : List ℕ) (q : Search) (f : Restored mol byte
 
   named-atoms : beginning whole ≡ valuesOf 4 bytes 90 (markLength bytes)
   named-atoms =
-      beginning-at (valueAt 4 bytes 0) (valueAt 4 bytes 4) (valueAt 4 bytes 8) named ∙
-      reverse-reverse (markBeginning bytes) ∙ values-four bytes 90 (markLength bytes)
+      beginning-at kind s t named
+      ∙ reverse-reverse (markBeginning bytes)
+      ∙ values-four bytes 90 (markLength bytes)
 
   named-text : markText mol q ≡ bytes
   named-text =
-      ap (markText mol) (sym named-search) ∙ mark-text mol whole ∙
-      same (headOf mol whole) (countsOf whole) (beginning whole) named-head named-counts named-atoms ∙
-      sym (layout-text bytes (layout-facts bytes (f .layout)))
-    where
-      same :
-          (head counts atoms : List ℕ) → head ≡ valuesOf 4 bytes 0 7 → counts ≡ valuesOf 20 bytes 29 3 →
-          atoms ≡ valuesOf 4 bytes 90 (markLength bytes) →
-          textOf head counts atoms ≡ textOf (valuesOf 4 bytes 0 7) (valuesOf 20 bytes 29 3)
-          (valuesOf 4 bytes 90 (markLength bytes))
-      same head counts atoms h c a = rw (h, c, a)
+      ap (markText mol) (sym named-search)
+      ∙ mark-text mol whole
+      ∙ same-text named-head named-counts named-atoms
+      ∙ sym (layout-text bytes (layout-facts bytes (f .layout)))
 
 -- Any accepted mark, saved again, has the same bytes
 pub restored-saves :
@@ -163,8 +174,10 @@ restorable-prefix mol q formed kept full i = omega (arith, prefix-most mol q kep
 pub rule12 :
     (mol : Molecule) (q : Search) → wellFormed mol ≡ true → length (q .prefix) ≡ 128 →
     (restorable mol q ≡ true) ↔ ((bytes : List ℕ) × (restoreMark mol bytes ≡ acceptedSearch q))
-rule12 mol q formed full =
-    (λ kept. (markText mol q, saved-restores mol q formed kept full), λ r. restored-restorable mol (r .0) q (r .1) .1)
+rule12 mol q formed full = (
+  λ kept. (markText mol q, saved-restores mol q formed kept full),
+  λ (bytes, restored). restored-restorable mol bytes q restored .1,
+)
 
 -- ---- saving
 
@@ -208,27 +221,28 @@ module _ (mol : Molecule) (q : Search) (out : List ℕ) where
     pub mark : take k (saveOutput mol q out) ≡ markText mol q
     pub rest : drop k (saveOutput mol q out) ≡ drop k out
 
+  written-output : (k : ℕ) → saveAnswer mol q out ≡ Written k → saveOutput mol q out ≡ markText mol q ++ drop k out
+  unfolding saveOutput
+  written-output k e = rw e
+
   pub save-written : (k : ℕ) → saveAnswer mol q out ≡ Written k → Wrote k
   save-written k e =
       go (unfold saveAnswer in
       (written-means (wellFormed mol) (restorable mol q) (leb (length (markText mol q)) (length out))
       (length (markText mol q)) k refusal.MarkRoom refusal.Search refusal.Record e))
     where
-      after : saveOutput mol q out ≡ markText mol q ++ drop k out
-      after = unfold saveOutput in (rw e)
-
       go :
-          (wellFormed mol ≡ true) × (restorable mol q ≡ true) × (leb (length (markText mol q)) (length out) ≡ true) ×
-          (k ≡ length (markText mol q)) → Wrote k
-      go h =
-          let room : length (markText mol q) ≤ length out = leb-true (length (markText mol q)) (length out) (h .2) in
+          (wellFormed mol ≡ true) × (restorable mol q ≡ true) ×
+          (leb (length (markText mol q)) (length out) ≡ true) × (k ≡ length (markText mol q)) → Wrote k
+      go (formed, kept, room, size) =
+          let fits : length (markText mol q) ≤ length out = leb-true (length (markText mol q)) (length out) room in
           record {
-            formed = h .0;
-            kept = h .1;
-            size = h .3;
+            formed = formed;
+            kept = kept;
+            size = size;
             fits = omega arith;
-            mark = rw after (take-at (markText mol q) (drop k out) k (sym (h .3)));
-            rest = rw after (drop-at (markText mol q) (drop k out) k (sym (h .3)));
+            mark = rw (written-output k e) (take-at (markText mol q) (drop k out) k (sym size));
+            rest = rw (written-output k e) (drop-at (markText mol q) (drop k out) k (sym size));
           }
 
   pub save-refused : (r : Refusal) → saveAnswer mol q out ≡ Refused r → saveOutput mol q out ≡ out
@@ -242,7 +256,5 @@ module _ (mol : Molecule) (q : Search) (out : List ℕ) where
       go : (x : Saved) → saveAnswer mol q out ≡ x → length (saveOutput mol q out) ≡ length out
       go (Written k) e =
           let w = save-written k e in
-          let bytes : length (saveOutput mol q out) ≡ length (markText mol q ++ drop k out) = unfold saveOutput in
-          (rw e) in
-          bytes ∙ rw (length-append, length-drop) (omega arith)
+          ap length (written-output k e) ∙ rw (length-append, length-drop) (omega arith)
       go (Refused r) e = ap length (save-refused r e)

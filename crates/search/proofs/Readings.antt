@@ -10,7 +10,8 @@ use lib.ListN.{length, getD, length-append, List·getD-append}
 use lib.Dec.{leb, ltb, eqb}
 use borrow.Author.Tests.{le-leb, leb-true, ltb-true, ltb-false, eq-eqb, eqb-true, ne-eqb, eqb-false, not-true}
 use Rattle.graph.specs.Every.{allBelow}
-use Rattle.graph.proofs.Below.{apart, either, and-parts, and-both, not-of, allBelow-at, allBelow-of}
+use Rattle.graph.specs.Chordless.{Adjacency}
+use Rattle.graph.proofs.Below.{apart, either, and-parts, and-both, allBelow-at, allBelow-of}
 use Rattle.enumeration.specs.Words.{Family, isOpen}
 use Rattle.enumeration.specs.Machine.{isEmpty}
 use Rattle.enumeration.specs.Run.{limit}
@@ -28,26 +29,26 @@ use Rattle.search.specs.Place.{familyOf, family, beginning, endsKept, ki
 -- ---- the family of a search
 
 module _ (mol : Molecule) (kind s t : ℕ) where
+  abbrev bonds : Adjacency
+  bonds = bonded (mol .atoms) (mol .rows)
+
+  abbrev either-family : Bool → Family
+  either-family b = cond b (rings (mol .atoms) bonds) (paths (mol .atoms) bonds s t)
+
   -- Whatever the kind, s and t
   pub family-lawful : Lawful (familyOf mol kind s t)
   unfolding familyOf
   family-lawful = go (eqb kind 0)
     where
-      go :
-          (b : Bool) →
-          Lawful (cond b (rings (mol .atoms) (bonded (mol .atoms) (mol .rows)))
-          (paths (mol .atoms) (bonded (mol .atoms) (mol .rows)) s t))
-      go true = rings-lawful (mol .atoms) (bonded (mol .atoms) (mol .rows))
-      go false = paths-lawful (mol .atoms) (bonded (mol .atoms) (mol .rows)) s t
+      go : (b : Bool) → Lawful (either-family b)
+      go true = rings-lawful (mol .atoms) bonds
+      go false = paths-lawful (mol .atoms) bonds s t
 
   pub family-atoms : familyOf mol kind s t .atoms ≡ mol .atoms
   unfolding familyOf
   family-atoms = go (eqb kind 0)
     where
-      go :
-          (b : Bool) →
-          cond b (rings (mol .atoms) (bonded (mol .atoms) (mol .rows)))
-          (paths (mol .atoms) (bonded (mol .atoms) (mol .rows)) s t) .atoms ≡ mol .atoms
+      go : (b : Bool) → either-family b .atoms ≡ mol .atoms
       go true = refl
       go false = refl
 
@@ -56,16 +57,16 @@ module _ (F : Family) (L : Lawful F) where
   pub open-short : (w : List ℕ) → isOpen F w ≡ true → length w ≤ F .atoms - 1
   open-short [] e = omega arith
   open-short (x ∷ p) e =
-      let t = open-has F (λ v m. (L .short v m, L .inRange v m)) x p e in
-      omega (arith, L .short (x ∷ p ++ t .0 ∷ t .1) (t .2), length-append (x ∷ p) (t .0 ∷ t .1))
+      let (y, w, member) = open-has F (λ v m. (L .short v m, L .inRange v m)) x p e in
+      omega (arith, L .short (x ∷ p ++ y ∷ w) member, length-append (x ∷ p) (y ∷ w))
 
   pub open-range :
       (w : List ℕ) → isOpen F w ≡ true → (i : ℕ) → i < length w → (1 ≤ getD w i 0) × (getD w i 0 ≤ F .atoms)
   open-range [] e i h = absurd (omega arith)
   open-range (x ∷ p) e i h =
-      let t = open-has F (λ v m. (L .short v m, L .inRange v m)) x p e in
-      rw (List·getD-append (x ∷ p) (t .0 ∷ t .1) 0 i h) at
-      (L .inRange (x ∷ p ++ t .0 ∷ t .1) (t .2) i (omega (arith, length-append (x ∷ p) (t .0 ∷ t .1))))
+      let (y, w, member) = open-has F (λ v m. (L .short v m, L .inRange v m)) x p e in
+      let inside : i < length (x ∷ p ++ y ∷ w) = omega (arith, length-append (x ∷ p) (y ∷ w)) in
+      rw (List·getD-append (x ∷ p) (y ∷ w) 0 i h) at (L .inRange (x ∷ p ++ y ∷ w) member i inside)
 
 -- ---- the kind
 
@@ -80,16 +81,16 @@ pub record Ends (n s t : ℕ) : Type 0 where
 pub ends-facts : (n s t : ℕ) → endsKept n s t ≡ true → Ends n s t
 unfolding endsKept
 ends-facts n s t e =
-    let outer = and-parts (isAtom n s && isAtom n t) (not (eqb s t)) e in
-    let inner = and-parts (isAtom n s) (isAtom n t) (outer .0) in
-    let a = atom-bounds n s (inner .0) in
-    let b = atom-bounds n t (inner .1) in
+    let (atoms, differ) = and-parts (isAtom n s && isAtom n t) (not (eqb s t)) e in
+    let (s-atom, t-atom) = and-parts (isAtom n s) (isAtom n t) atoms in
+    let (s-low, s-high) = atom-bounds n s s-atom in
+    let (t-low, t-high) = atom-bounds n t t-atom in
     record {
-      s-low = a .0;
-      s-high = a .1;
-      t-low = b .0;
-      t-high = b .1;
-      differ = eqb-false s t (not-true (eqb s t) (outer .1));
+      s-low = s-low;
+      s-high = s-high;
+      t-low = t-low;
+      t-high = t-high;
+      differ = eqb-false s t (not-true (eqb s t) differ);
     }
 
 pub atom-of : (n a : ℕ) → 1 ≤ a → a ≤ n → isAtom n a ≡ true
@@ -98,35 +99,37 @@ atom-of n a low high = and-both (leb 1 a) (leb a n) (le-leb 1 a low) (le-leb a n
 pub ends-of : (n s t : ℕ) → Ends n s t → endsKept n s t ≡ true
 unfolding endsKept
 ends-of n s t f =
-    and-both (isAtom n s && isAtom n t) (not (eqb s t))
-    (and-both (isAtom n s) (isAtom n t) (atom-of n s (f .s-low) (f .s-high)) (atom-of n t (f .t-low) (f .t-high)))
-    (not-of (eqb s t) (ne-eqb s t (f .differ)))
+    rw (atom-of n s (f .s-low) (f .s-high), atom-of n t (f .t-low) (f .t-high), ne-eqb s t (f .differ))
 
 abbrev pub KindFacts : ℕ → ℕ → ℕ → ℕ → Type 0
 KindFacts n kind s t = ((kind ≡ 0) × (s ≡ 0) × (t ≡ 0)) ⊎ ((kind ≡ 1) × Ends n s t)
 
-pub kind-facts : (n kind s t : ℕ) → kindKept n kind s t ≡ true → KindFacts n kind s t
-unfolding kindKept
-kind-facts n kind s t e = go (or-either (eqb kind 0 && eqb s 0 && eqb t 0) (eqb kind 1 && endsKept n s t) e)
-  where
-    go : ((eqb kind 0 && eqb s 0 && eqb t 0) ≡ true) ⊎ ((eqb kind 1 && endsKept n s t) ≡ true) → KindFacts n kind s t
-    go (inl h) =
-        let outer = and-parts (eqb kind 0 && eqb s 0) (eqb t 0) h in
-        let inner = and-parts (eqb kind 0) (eqb s 0) (outer .0) in
-        inl (eqb-true kind 0 (inner .0), eqb-true s 0 (inner .1), eqb-true t 0 (outer .1))
-    go (inr h) =
-        let parts = and-parts (eqb kind 1) (endsKept n s t) h in
-        inr (eqb-true kind 1 (parts .0), ends-facts n s t (parts .1))
+module _ (n kind s t : ℕ) where
+  abbrev of-rings : Bool
+  of-rings = eqb kind 0 && eqb s 0 && eqb t 0
 
-pub kind-of : (n kind s t : ℕ) → KindFacts n kind s t → kindKept n kind s t ≡ true
-unfolding kindKept
-kind-of n kind s t (inl f) =
-    or-left (eqb kind 0 && eqb s 0 && eqb t 0) (eqb kind 1 && endsKept n s t)
-    (and-both (eqb kind 0 && eqb s 0) (eqb t 0)
-    (and-both (eqb kind 0) (eqb s 0) (eq-eqb kind 0 (f .0)) (eq-eqb s 0 (f .1))) (eq-eqb t 0 (f .2)))
-kind-of n kind s t (inr f) =
-    or-right (eqb kind 0 && eqb s 0 && eqb t 0) (eqb kind 1 && endsKept n s t)
-    (and-both (eqb kind 1) (endsKept n s t) (eq-eqb kind 1 (f .0)) (ends-of n s t (f .1)))
+  abbrev of-paths : Bool
+  of-paths = eqb kind 1 && endsKept n s t
+
+  pub kind-facts : kindKept n kind s t ≡ true → KindFacts n kind s t
+  unfolding kindKept
+  kind-facts e = go (or-either of-rings of-paths e)
+    where
+      go : (of-rings ≡ true) ⊎ (of-paths ≡ true) → KindFacts n kind s t
+      go (inl h) =
+          let (first, t-zero) = and-parts (eqb kind 0 && eqb s 0) (eqb t 0) h in
+          let (kind-zero, s-zero) = and-parts (eqb kind 0) (eqb s 0) first in
+          inl (eqb-true kind 0 kind-zero, eqb-true s 0 s-zero, eqb-true t 0 t-zero)
+      go (inr h) =
+          let (kind-one, ends) = and-parts (eqb kind 1) (endsKept n s t) h in
+          inr (eqb-true kind 1 kind-one, ends-facts n s t ends)
+
+  pub kind-of : KindFacts n kind s t → kindKept n kind s t ≡ true
+  unfolding kindKept
+  kind-of (inl (kind-zero, s-zero, t-zero)) =
+      or-left of-rings of-paths (rw (eq-eqb kind 0 kind-zero, eq-eqb s 0 s-zero, eq-eqb t 0 t-zero))
+  kind-of (inr (kind-one, ends)) =
+      or-right of-rings of-paths (rw (eq-eqb kind 1 kind-one, ends-of n s t ends))
 
 -- kind, s and t are small
 pub kind-small : (n kind s t : ℕ) → kindKept n kind s t ≡ true → (kind ≤ 1) × (s ≤ n) × (t ≤ n)
@@ -152,36 +155,34 @@ pub record Placed (F : Family) (p : List ℕ) (c : ℕ) : Type 0 where
   pub next-low : 1 ≤ c
   pub next-high : NextHigh (F .atoms) p c
 
-pub place-facts : (F : Family) (p : List ℕ) (c : ℕ) → placeKept F p c ≡ true → Placed F p c
-unfolding placeKept
-place-facts F p c e =
-    let parts = and-parts (isOpen F p) (isAtom (F .atoms) c || isEmpty p && eqb c (suc (F .atoms))) e in
-    go (parts .0) (or-either (isAtom (F .atoms) c) (isEmpty p && eqb c (suc (F .atoms))) (parts .1))
-  where
-    go :
-        isOpen F p ≡ true → (isAtom (F .atoms) c ≡ true) ⊎ ((isEmpty p && eqb c (suc (F .atoms))) ≡ true) → Placed F p c
-    go o (inl h) =
-        let b = atom-bounds (F .atoms) c h in record { place-open = o; next-low = b .0; next-high = inl (b .1) }
-    go o (inr h) =
-        let b = and-parts (isEmpty p) (eqb c (suc (F .atoms))) h in
-        let last : c ≡ suc (F .atoms) = eqb-true c (suc (F .atoms)) (b .1) in
-        record { place-open = o; next-low = omega arith; next-high = inr (empty-is p (b .0), last) }
+module _ (F : Family) (p : List ℕ) (c : ℕ) where
+  abbrev is-last : Bool
+  is-last = isEmpty p && eqb c (suc (F .atoms))
 
-pub place-of : (F : Family) (p : List ℕ) (c : ℕ) → Placed F p c → placeKept F p c ≡ true
-unfolding placeKept
-place-of F p c f =
-    and-both (isOpen F p) (isAtom (F .atoms) c || isEmpty p && eqb c (suc (F .atoms))) (f .place-open)
-    (go (f .next-high))
-  where
-    empty : p ≡ [] → isEmpty p ≡ true
-    empty e = rw e (unfold isEmpty in refl)
+  pub place-facts : placeKept F p c ≡ true → Placed F p c
+  unfolding placeKept
+  place-facts e =
+      let (opened, nexts) = and-parts (isOpen F p) (isAtom (F .atoms) c || is-last) e in
+      go opened (or-either (isAtom (F .atoms) c) is-last nexts)
+    where
+      go : isOpen F p ≡ true → (isAtom (F .atoms) c ≡ true) ⊎ (is-last ≡ true) → Placed F p c
+      go opened (inl h) =
+          let (low, high) = atom-bounds (F .atoms) c h in
+          record { place-open = opened; next-low = low; next-high = inl high }
+      go opened (inr h) =
+          let (empty, last) = and-parts (isEmpty p) (eqb c (suc (F .atoms))) h in
+          let is : c ≡ suc (F .atoms) = eqb-true c (suc (F .atoms)) last in
+          record { place-open = opened; next-low = omega arith; next-high = inr (empty-is p empty, is) }
 
-    go : NextHigh (F .atoms) p c → isAtom (F .atoms) c || isEmpty p && eqb c (suc (F .atoms)) ≡ true
-    go (inl h) =
-        or-left (isAtom (F .atoms) c) (isEmpty p && eqb c (suc (F .atoms))) (atom-of (F .atoms) c (f .next-low) h)
-    go (inr h) =
-        or-right (isAtom (F .atoms) c) (isEmpty p && eqb c (suc (F .atoms)))
-        (and-both (isEmpty p) (eqb c (suc (F .atoms))) (empty (h .0)) (eq-eqb c (suc (F .atoms)) (h .1)))
+  pub place-of : Placed F p c → placeKept F p c ≡ true
+  unfolding placeKept
+  place-of f = and-both (isOpen F p) (isAtom (F .atoms) c || is-last) (f .place-open) (go (f .next-high))
+    where
+      go : NextHigh (F .atoms) p c → isAtom (F .atoms) c || is-last ≡ true
+      go (inl high) = or-left (isAtom (F .atoms) c) is-last (atom-of (F .atoms) c (f .next-low) high)
+      go (inr (none, last)) =
+          let empty : isEmpty p ≡ true = rw none (unfold isEmpty in refl) in
+          or-right (isAtom (F .atoms) c) is-last (rw (empty, eq-eqb c (suc (F .atoms)) last))
 
 -- ---- rule 12
 
@@ -198,64 +199,61 @@ pub record Restorable (mol : Molecule) (q : Search) : Type 0 where
 
 -- the seven parts of a test
 and7 :
-    (a b c d e f g : Bool) → a && b && c && d && e && f && g ≡ true → (a ≡ true) × (b ≡ true) × (c ≡ true) ×
-    (d ≡ true) × (e ≡ true) × (f ≡ true) × (g ≡ true)
+    (a b c d e f g : Bool) → a && b && c && d && e && f && g ≡ true →
+    (a ≡ true) × (b ≡ true) × (c ≡ true) × (d ≡ true) × (e ≡ true) × (f ≡ true) × (g ≡ true)
 and7 a b c d e f g h =
-    let h6 = and-parts (a && b && c && d && e && f) g h in
-    let h5 = and-parts (a && b && c && d && e) f (h6 .0) in
-    let h4 = and-parts (a && b && c && d) e (h5 .0) in
-    let h3 = and-parts (a && b && c) d (h4 .0) in
-    let h2 = and-parts (a && b) c (h3 .0) in
-    let h1 = and-parts a b (h2 .0) in
-    (h1 .0, h1 .1, h2 .1, h3 .1, h4 .1, h5 .1, h6 .1)
+    let (h6, is-g) = and-parts (a && b && c && d && e && f) g h in
+    let (h5, is-f) = and-parts (a && b && c && d && e) f h6 in
+    let (h4, is-e) = and-parts (a && b && c && d) e h5 in
+    let (h3, is-d) = and-parts (a && b && c) d h4 in
+    let (h2, is-c) = and-parts (a && b) c h3 in
+    let (is-a, is-b) = and-parts a b h2 in
+    (is-a, is-b, is-c, is-d, is-e, is-f, is-g)
+
+-- the places of an array past a length hold 0
+module _ (prefix : List ℕ) (len : ℕ) where
+  abbrev zeroAt : ℕ → Bool
+  zeroAt i = ltb i len || eqb (getD prefix i 0) 0
+
+  pub zeros-past : allBelow 128 zeroAt ≡ true → (i : ℕ) → len ≤ i → i < 128 → getD prefix i 0 ≡ 0
+  zeros-past e i l h = go (or-either (ltb i len) (eqb (getD prefix i 0) 0) (allBelow-at 128 zeroAt e i h))
+    where
+      go : (ltb i len ≡ true) ⊎ (eqb (getD prefix i 0) 0 ≡ true) → getD prefix i 0 ≡ 0
+      go (inl b) = absurd (omega (arith, ltb-true i len b))
+      go (inr b) = eqb-true (getD prefix i 0) 0 b
+
+  pub past-zeros : ((i : ℕ) → len ≤ i → i < 128 → getD prefix i 0 ≡ 0) → allBelow 128 zeroAt ≡ true
+  past-zeros f = allBelow-of 128 zeroAt (λ i h. go i h (either (ltb i len)))
+    where
+      go : (i : ℕ) → i < 128 → (ltb i len ≡ true) ⊎ (ltb i len ≡ false) → zeroAt i ≡ true
+      go i h (inl b) = or-left (ltb i len) (eqb (getD prefix i 0) 0) b
+      go i h (inr b) =
+          let zero = f i (ltb-false i len b) h in
+          or-right (ltb i len) (eqb (getD prefix i 0) 0) (eq-eqb (getD prefix i 0) 0 zero)
 
 module _ (mol : Molecule) (q : Search) where
-  abbrev paddedAt : ℕ → Bool
-  paddedAt i = ltb i (q .len) || eqb (getD (q .prefix) i 0) 0
-
-  padded-at : allBelow 128 paddedAt ≡ true → (i : ℕ) → q .len ≤ i → i < 128 → getD (q .prefix) i 0 ≡ 0
-  padded-at e i l h = go (or-either (ltb i (q .len)) (eqb (getD (q .prefix) i 0) 0) (allBelow-at 128 paddedAt e i h))
-    where
-      go : (ltb i (q .len) ≡ true) ⊎ (eqb (getD (q .prefix) i 0) 0 ≡ true) → getD (q .prefix) i 0 ≡ 0
-      go (inl b) = absurd (omega (arith, ltb-true i (q .len) b))
-      go (inr b) = eqb-true (getD (q .prefix) i 0) 0 b
-
-  padded-of : ((i : ℕ) → q .len ≤ i → i < 128 → getD (q .prefix) i 0 ≡ 0) → allBelow 128 paddedAt ≡ true
-  padded-of f = allBelow-of 128 paddedAt (λ i h. go i h (either (ltb i (q .len))))
-    where
-      go : (i : ℕ) → i < 128 → (ltb i (q .len) ≡ true) ⊎ (ltb i (q .len) ≡ false) → paddedAt i ≡ true
-      go i h (inl b) = or-left (ltb i (q .len)) (eqb (getD (q .prefix) i 0) 0) b
-      go i h (inr b) =
-          or-right (ltb i (q .len)) (eqb (getD (q .prefix) i 0) 0)
-          (eq-eqb (getD (q .prefix) i 0) 0 (f i (ltb-false i (q .len) b) h))
+  abbrev same-atoms : family mol q .atoms ≡ mol .atoms
+  same-atoms = family-atoms mol (q .kind) (q .s) (q .t)
 
   pub restorable-facts : restorable mol q ≡ true → Restorable mol q
   unfolding restorable
   restorable-facts e =
-      go (and7 (leb (q .len) 127) (allBelow 128 paddedAt) (kindKept (mol .atoms) (q .kind) (q .s) (q .t))
-      (placeKept (family mol q) (beginning q) (q .next)) (leb (q .trials) limit) (leb (q .extensions) limit)
-      (leb (q .listed) limit) e)
-    where
-      go :
-          (leb (q .len) 127 ≡ true) × (allBelow 128 paddedAt ≡ true) ×
-          (kindKept (mol .atoms) (q .kind) (q .s) (q .t) ≡ true) ×
-          (placeKept (family mol q) (beginning q) (q .next) ≡ true) × (leb (q .trials) limit ≡ true) ×
-          (leb (q .extensions) limit ≡ true) × (leb (q .listed) limit ≡ true) → Restorable mol q
-      go h =
-          let place = place-facts (family mol q) (beginning q) (q .next) (h .3) in
-          record {
-            short = leb-true (q .len) 127 (h .0);
-            padded = padded-at (h .1);
-            kind-kept = h .2;
-            place-open = place .place-open;
-            next-low = place .next-low;
-            next-high =
-                subst (λ (n : ℕ). NextHigh n (beginning q) (q .next)) (family-atoms mol (q .kind) (q .s) (q .t))
-                (place .next-high);
-            trials-most = leb-true (q .trials) limit (h .4);
-            extensions-most = leb-true (q .extensions) limit (h .5);
-            listed-most = leb-true (q .listed) limit (h .6);
-          }
+      let (short, zeros, kinds, place, trials, extensions, listed) = and7
+      (leb (q .len) 127) (allBelow 128 (zeroAt (q .prefix) (q .len)))
+      (kindKept (mol .atoms) (q .kind) (q .s) (q .t)) (placeKept (family mol q) (beginning q) (q .next))
+      (leb (q .trials) limit) (leb (q .extensions) limit) (leb (q .listed) limit) e in
+      let placed = place-facts (family mol q) (beginning q) (q .next) place in
+      record {
+        short = leb-true (q .len) 127 short;
+        padded = zeros-past (q .prefix) (q .len) zeros;
+        kind-kept = kinds;
+        place-open = placed .place-open;
+        next-low = placed .next-low;
+        next-high = subst (λ (n : ℕ). NextHigh n (beginning q) (q .next)) same-atoms (placed .next-high);
+        trials-most = leb-true (q .trials) limit trials;
+        extensions-most = leb-true (q .extensions) limit extensions;
+        listed-most = leb-true (q .listed) limit listed;
+      }
 
   -- rule 17 of the place of a search that rule 12 allows
   pub restorable-place : Restorable mol q → placeKept (family mol q) (beginning q) (q .next) ≡ true
@@ -264,9 +262,7 @@ module _ (mol : Molecule) (q : Search) where
       (record {
         place-open = f .place-open;
         next-low = f .next-low;
-        next-high =
-            subst (λ (n : ℕ). NextHigh n (beginning q) (q .next)) (sym (family-atoms mol (q .kind) (q .s) (q .t)))
-            (f .next-high);
+        next-high = subst (λ (n : ℕ). NextHigh n (beginning q) (q .next)) (sym same-atoms) (f .next-high);
       })
 
   pub restorable-of : Restorable mol q → restorable mol q ≡ true
@@ -274,7 +270,7 @@ module _ (mol : Molecule) (q : Search) where
   restorable-of f =
       rw (
         le-leb (q .len) 127 (f .short),
-        padded-of (f .padded),
+        past-zeros (q .prefix) (q .len) (f .padded),
         f .kind-kept,
         restorable-place f,
         le-leb (q .trials) limit (f .trials-most),

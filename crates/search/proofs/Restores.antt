@@ -7,9 +7,7 @@ use mathlib.Core.Bool.{Bool, true, false, cond}
 use mathlib.Core.List.{List, [], _∷_}
 use mathlib.Core.Logic.{inl, inr}
 use lib.ListN.{length, getD}
-use lib.Dec.{eqb}
 use borrow.Author.Tests.{eq-eqb}
-use Rattle.graph.proofs.Below.{and-both}
 use Rattle.graph.proofs.All.{All, all-of, none, _◁_}
 use Rattle.fields.specs.Field.{limit}
 use Rattle.refusal.specs.declared.Refusal.{Refusal}
@@ -21,9 +19,11 @@ use Rattle.search.specs.declared.Search.{Search}
 use Rattle.search.specs.declared.Made.{Made}
 use Rattle.search.specs.Place.{familyOf, beginning, stateOf, kindKept, placeKept, restorable}
 use Rattle.search.specs.Entries.{acceptedSearch, refusedSearch}
-use Rattle.search.specs.Mark.{markText, valueAt, markLength, layoutKept, markBeginning, markSearch, belongs, restoreMark}
+use Rattle.search.specs.Mark.{markText, valueAt, markLength, layoutKept, markBeginning, markSearch}
+use Rattle.search.specs.Mark.{belongs, restoreMark}
 use Rattle.search.proofs.Text.{Fits, valuesOf, values-four}
-use Rattle.search.proofs.Lines.{textOf, Layout, layout-of, head-values, count-values, atom-values, mark-length-is, text-layout}
+use Rattle.search.proofs.Lines.{textOf, Layout, layout-of, LinesOf, head-values, count-values, atom-values}
+use Rattle.search.proofs.Lines.{mark-length-is, text-layout}
 use Rattle.search.proofs.Readings.{NextHigh, restorable-facts, restorable-place, kind-small}
 use Rattle.search.proofs.Views.{beginning-length, beginning-range, search-state}
 
@@ -35,27 +35,35 @@ pub record Restored (mol : Molecule) (bytes : List ℕ) (q : Search) : Type 0 wh
   pub own : belongs mol bytes ≡ true
   pub kinds : kindKept (mol .atoms) (valueAt 4 bytes 0) (valueAt 4 bytes 4) (valueAt 4 bytes 8) ≡ true
   pub place :
-      placeKept (familyOf mol (valueAt 4 bytes 0) (valueAt 4 bytes 4) (valueAt 4 bytes 8)) (markBeginning bytes)
-      (valueAt 4 bytes 24) ≡ true
+      placeKept (familyOf mol (valueAt 4 bytes 0) (valueAt 4 bytes 4) (valueAt 4 bytes 8))
+      (markBeginning bytes) (valueAt 4 bytes 24) ≡ true
   pub search : markSearch bytes ≡ q
 
 -- a test that was passed on the way to an accepted answer
 passed :
-    (t : Bool) (x : Made) (r : Refusal) (q : Search) → cond t x (refusedSearch r) ≡ acceptedSearch q →
-    (t ≡ true) × (x ≡ acceptedSearch q)
+    (t : Bool) (x : Made) (r : Refusal) (q : Search) →
+    cond t x (refusedSearch r) ≡ acceptedSearch q → (t ≡ true) × (x ≡ acceptedSearch q)
 passed true x r q e = (refl, e)
-passed false x r q e = let f = ap (λ (m : Made). m .answer) e in let z : _≡_ {A = ℕ} 0 1 = cc in absurd (omega arith)
+passed false x r q e =
+    let f = ap (λ (m : Made). m .answer) e in
+    let z : _≡_ {A = ℕ} 0 1 = cc in
+    absurd (omega arith)
 
 module _ (mol : Molecule) (bytes : List ℕ) (q : Search) where
+  -- the tests of rules 16 and 17, and what each rule leaves to the next
+  abbrev kind-test : Bool
+  kind-test = kindKept (mol .atoms) (valueAt 4 bytes 0) (valueAt 4 bytes 4) (valueAt 4 bytes 8)
+
+  abbrev place-test : Bool
+  place-test =
+      placeKept (familyOf mol (valueAt 4 bytes 0) (valueAt 4 bytes 4) (valueAt 4 bytes 8))
+      (markBeginning bytes) (valueAt 4 bytes 24)
+
   abbrev rule17 : Made
-  rule17 =
-      cond (placeKept (familyOf mol (valueAt 4 bytes 0) (valueAt 4 bytes 4) (valueAt 4 bytes 8)) (markBeginning bytes)
-      (valueAt 4 bytes 24)) (acceptedSearch (markSearch bytes)) (refusedSearch refusal.MarkPlace)
+  rule17 = cond place-test (acceptedSearch (markSearch bytes)) (refusedSearch refusal.MarkPlace)
 
   abbrev rule16 : Made
-  rule16 =
-      cond (kindKept (mol .atoms) (valueAt 4 bytes 0) (valueAt 4 bytes 4) (valueAt 4 bytes 8)) rule17
-      (refusedSearch refusal.MarkKind)
+  rule16 = cond kind-test rule17 (refusedSearch refusal.MarkKind)
 
   abbrev rule15 : Made
   rule15 = cond (belongs mol bytes) rule16 (refusedSearch refusal.MarkMolecule)
@@ -66,22 +74,18 @@ module _ (mol : Molecule) (bytes : List ℕ) (q : Search) where
   pub restored-facts : restoreMark mol bytes ≡ acceptedSearch q → Restored mol bytes q
   unfolding restoreMark
   restored-facts e =
-      let h9 = passed (wellFormed mol) rule14 refusal.Record q e in
-      let h14 = passed (layoutKept bytes) rule15 refusal.MarkBytes q (h9 .1) in
-      let h15 = passed (belongs mol bytes) rule16 refusal.MarkMolecule q (h14 .1) in
-      let h16 = passed
-      (kindKept (mol .atoms) (valueAt 4 bytes 0) (valueAt 4 bytes 4) (valueAt 4 bytes 8)) rule17 refusal.MarkKind q
-      (h15 .1) in
-      let h17 = passed
-      (placeKept (familyOf mol (valueAt 4 bytes 0) (valueAt 4 bytes 4) (valueAt 4 bytes 8)) (markBeginning bytes)
-      (valueAt 4 bytes 24)) (acceptedSearch (markSearch bytes)) refusal.MarkPlace q (h16 .1) in
+      let (formed, e14) = passed (wellFormed mol) rule14 refusal.Record q e in
+      let (layout, e15) = passed (layoutKept bytes) rule15 refusal.MarkBytes q e14 in
+      let (own, e16) = passed (belongs mol bytes) rule16 refusal.MarkMolecule q e15 in
+      let (kinds, e17) = passed kind-test rule17 refusal.MarkKind q e16 in
+      let (place, named) = passed place-test (acceptedSearch (markSearch bytes)) refusal.MarkPlace q e17 in
       record {
-        formed = h9 .0;
-        layout = h14 .0;
-        own = h15 .0;
-        kinds = h16 .0;
-        place = h17 .0;
-        search = ap (λ (m : Made). m .search) (h17 .1);
+        formed = formed;
+        layout = layout;
+        own = own;
+        kinds = kinds;
+        place = place;
+        search = ap (λ (m : Made). m .search) named;
       }
 
   pub restored-of : Restored mol bytes q → restoreMark mol bytes ≡ acceptedSearch q
@@ -118,21 +122,28 @@ module _ (mol : Molecule) (q : Search) (formed : wellFormed mol ≡ true) (kept 
       let rule = rule9 mol formed in
       let k = kind-small (mol .atoms) (q .kind) (q .s) (q .t) (f .kind-kept) in
       let high = next-most (mol .atoms) (beginning q) (q .next) (f .next-high) in
-      small-fits (q .kind) (omega arith) ◁ small-fits (q .s) (omega arith) ◁ small-fits (q .t)
-      (omega arith) ◁ small-fits (mol .atoms) (omega arith) ◁ small-fits (mol .bonds) (omega arith) ◁ small-fits
-      (q .len) (omega arith) ◁ small-fits (q .next) (omega arith) ◁ none
+      small-fits (q .kind) (omega arith)
+      ◁ small-fits (q .s) (omega arith)
+      ◁ small-fits (q .t) (omega arith)
+      ◁ small-fits (mol .atoms) (omega arith)
+      ◁ small-fits (mol .bonds) (omega arith)
+      ◁ small-fits (q .len) (omega arith)
+      ◁ small-fits (q .next) (omega arith)
+      ◁ none
 
   counts-fit : All (Fits 20) (countsOf q)
   counts-fit =
       let f = restorable-facts mol q kept in
-      count-fits (q .trials) (f .trials-most) ◁ count-fits (q .extensions) (f .extensions-most) ◁ count-fits (q .listed)
-      (f .listed-most) ◁ none
+      count-fits (q .trials) (f .trials-most)
+      ◁ count-fits (q .extensions) (f .extensions-most)
+      ◁ count-fits (q .listed) (f .listed-most)
+      ◁ none
 
   atoms-fit : All (Fits 4) (beginning q)
   atoms-fit =
+      let few = rule9 mol formed .atoms-high in
       all-of (beginning q)
-      (λ i h. small-fits (getD (beginning q) i 0)
-      (omega (arith, beginning-range mol q kept i h, rule9 mol formed .atoms-high)))
+      (λ i h. small-fits (getD (beginning q) i 0) (omega (arith, beginning-range mol q kept i h)))
 
   -- ---- restoring it
 
@@ -141,24 +152,23 @@ module _ (mol : Molecule) (q : Search) (formed : wellFormed mol ≡ true) (kept 
     len-is : q .len ≡ length (beginning q)
     len-is = sym (beginning-length q full (restorable-facts mol q kept .short))
 
+    text : LinesOf bytes (headOf mol q) (countsOf q) (beginning q)
+    text = record { is = is; seven = refl; three = refl; heads = head-fits; lows = counts-fit; fits = atoms-fit }
+
     heads : valuesOf 4 bytes 0 7 ≡ headOf mol q
-    heads = head-values bytes (headOf mol q) (countsOf q) (beginning q) is refl refl head-fits counts-fit atoms-fit
+    heads = head-values text
 
     counts : valuesOf 20 bytes 29 3 ≡ countsOf q
-    counts = count-values bytes (headOf mol q) (countsOf q) (beginning q) is refl refl head-fits counts-fit atoms-fit
+    counts = count-values text
 
     atoms : markBeginning bytes ≡ beginning q
     atoms =
         values-four bytes 90 (markLength bytes)
-        ∙ ap (valuesOf 4 bytes 90)
-        (mark-length-is bytes (headOf mol q) (countsOf q)
-        (beginning q) is refl refl head-fits counts-fit atoms-fit len-is)
-        ∙ atom-values bytes (headOf mol q) (countsOf q) (beginning q) is refl refl head-fits counts-fit atoms-fit
+        ∙ ap (valuesOf 4 bytes 90) (mark-length-is text len-is)
+        ∙ atom-values text
 
     lines : Layout bytes
-    lines =
-        text-layout bytes (headOf mol q) (countsOf q) (beginning q) is refl refl head-fits counts-fit atoms-fit len-is
-        (rw (← len-is) (restorable-facts mol q kept .short))
+    lines = text-layout text len-is (rw (← len-is) (restorable-facts mol q kept .short))
 
     kind-is : valueAt 4 bytes 0 ≡ q .kind
     kind-is = ap (λ l. getD l 0 0) heads
@@ -174,9 +184,9 @@ module _ (mol : Molecule) (q : Search) (formed : wellFormed mol ≡ true) (kept 
 
     own-is : belongs mol bytes ≡ true
     own-is =
-        and-both (eqb (valueAt 4 bytes 12) (mol .atoms)) (eqb (valueAt 4 bytes 16) (mol .bonds))
-        (eq-eqb (valueAt 4 bytes 12) (mol .atoms) (ap (λ l. getD l 3 0) heads))
-        (eq-eqb (valueAt 4 bytes 16) (mol .bonds) (ap (λ l. getD l 4 0) heads))
+        let n-is : valueAt 4 bytes 12 ≡ mol .atoms = ap (λ l. getD l 3 0) heads in
+        let m-is : valueAt 4 bytes 16 ≡ mol .bonds = ap (λ l. getD l 4 0) heads in
+        rw (eq-eqb (valueAt 4 bytes 12) (mol .atoms) n-is, eq-eqb (valueAt 4 bytes 16) (mol .bonds) m-is)
 
     search-is : markSearch bytes ≡ q
     unfolding markSearch

@@ -45,25 +45,28 @@ place-on : (c at i : ℕ) → at + c * suc i ≡ at + c + c * i
 place-on c at i = omega (arith, mul-suc c i)
 
 module _ (c : ℕ) (some : 0 < c) (bytes : List ℕ) where
+  -- what stands past a field
+  past-field : (v : ℕ) (rest : List ℕ) (at : ℕ) → drop at bytes ≡ fieldText c v ++ rest → drop (at + c) bytes ≡ rest
+  past-field v rest at e =
+      sym (drop-drop c at bytes) ∙ ap (drop c) e ∙ drop-at (fieldText c v) rest c (field-length c v)
+
   -- where the bytes from a place on begin with the text of values, its fields read as them
   pub fields-read :
-      (vs post : List ℕ) (at : ℕ) → All (Fits c) vs → drop at bytes ≡ fieldsText c vs ++ post → (i : ℕ) →
-      i < length vs → fieldAt c bytes (at + c * i) ≡ Value (getD vs i 0)
+      (vs post : List ℕ) (at : ℕ) → All (Fits c) vs → drop at bytes ≡ fieldsText c vs ++ post →
+      (i : ℕ) → i < length vs → fieldAt c bytes (at + c * i) ≡ Value (getD vs i 0)
   unfolding fieldsText
   fields-read [] post at fits e i h = absurd (omega arith)
-  fields-read (v ∷ vs) post at (f ◁ fits) e zero h =
+  fields-read (v ∷ vs) post at ((small, most) ◁ fits) e zero h =
       rw (mul-zero, add-zero, e, append-assoc, take-at (fieldText c v) (fieldsText c vs ++ post) c (field-length c v))
-      (written-reads-back c v (f .0) (f .1) some)
+      (written-reads-back c v small most some)
   fields-read (v ∷ vs) post at (f ◁ fits) e (suc i) h =
-      rw (place-on c at i)
-      (fields-read vs post (at + c) fits
-      (sym (drop-drop c at bytes) ∙
-      rw (e, append-assoc) (drop-at (fieldText c v) (fieldsText c vs ++ post) c (field-length c v))) i (omega arith))
+      let past = past-field v (fieldsText c vs ++ post) at (e ∙ append-assoc (fieldText c v) (fieldsText c vs) post) in
+      rw (place-on c at i) (fields-read vs post (at + c) fits past i (omega arith))
 
   -- so they are kept, and their values are those values
   pub fields-keep :
-      (vs post : List ℕ) (at k : ℕ) → All (Fits c) vs → drop at bytes ≡ fieldsText c vs ++ post → length vs ≡ k →
-      fieldsKept c bytes at k ≡ true
+      (vs post : List ℕ) (at k : ℕ) → All (Fits c) vs → drop at bytes ≡ fieldsText c vs ++ post →
+      length vs ≡ k → fieldsKept c bytes at k ≡ true
   unfolding fieldsKept
   fields-keep vs post at k fits e l =
       allBelow-of k (λ i. isValue (fieldAt c bytes (at + c * i)))
@@ -75,13 +78,12 @@ module _ (c : ℕ) (some : 0 < c) (bytes : List ℕ) where
   values-by [] at f = refl
   values-by (v ∷ vs) at f =
       let here : fieldAt c bytes at ≡ Value v = rw (mul-zero, add-zero) at (f 0 (omega arith)) in
-      let more : valuesOf c bytes (at + c) (length vs) ≡ vs =
-      values-by vs (at + c) (λ i h. rw (← place-on c at i) (f (suc i) (omega arith))) in
-      rw (here, more)
+      let more = values-by vs (at + c) (λ i h. rw (← place-on c at i) (f (suc i) (omega arith))) in
+      rw here (ap (λ l. v ∷ l) more)
 
   pub values-read :
-      (vs post : List ℕ) (at k : ℕ) → All (Fits c) vs → drop at bytes ≡ fieldsText c vs ++ post → length vs ≡ k →
-      valuesOf c bytes at k ≡ vs
+      (vs post : List ℕ) (at k : ℕ) → All (Fits c) vs → drop at bytes ≡ fieldsText c vs ++ post →
+      length vs ≡ k → valuesOf c bytes at k ≡ vs
   values-read vs post at k fits e l = rw (← l) (values-by vs at (fields-read vs post at fits e))
 
 -- a field that reads as a value reads as its value
@@ -107,10 +109,8 @@ module _ (c : ℕ) (bytes : List ℕ) where
   all-written at (suc k) h f =
       let here : isValue (fieldAt c bytes at) ≡ true = rw (mul-zero, add-zero) at (f 0 (omega arith)) in
       let size : c * suc k ≡ c + c * k = omega (arith, mul-suc c k) in
-      let more : take (c * k) (drop (at + c) bytes) ≡ fieldsText c (valuesOf c bytes (at + c) k) =
-      all-written (at + c) k (omega arith) (λ i j. rw (← place-on c at i) (f (suc i) (omega arith))) in
-      let first : take c (drop at bytes) ≡ fieldText c (valueAt c bytes at) =
-      one-written at (omega (arith, mul-suc c k)) here in
+      let more = all-written (at + c) k (omega arith) (λ i j. rw (← place-on c at i) (f (suc i) (omega arith))) in
+      let first = one-written at (omega (arith, mul-suc c k)) here in
       rw (size, take-add c (c * k) (drop at bytes), drop-drop c at bytes) (ap₂ (λ (a b : List ℕ). a ++ b) first more)
 
   pub fields-written :

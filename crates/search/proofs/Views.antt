@@ -8,7 +8,8 @@ use mathlib.Core.Path.{_≡_, refl, ap, sym, subst, _∙_}
 use mathlib.Core.Bool.{true, false}
 use mathlib.Core.List.{List, [], _++_, reverse, reverse-reverse}
 use mathlib.Core.Logic.{_⊎_, inl, inr}
-use lib.ListN.{length, getD, take, drop, replicate, length-append, length-drop, length-replicate, length-reverse, take-append-drop, List·getD-eq-default}
+use lib.ListN.{length, getD, take, drop, replicate, length-append, length-drop, length-replicate, length-reverse}
+use lib.ListN.{take-append-drop, List·getD-eq-default}
 use lib.Seq.{take-at, getD-take, getD-drop, getD-append-add, length-take-le, ext-getD}
 use borrow.Author.Tests.{eq-eqb}
 use Rattle.graph.proofs.Below.{either, clash}
@@ -23,8 +24,10 @@ use Rattle.molecule.specs.declared.Molecule.{Molecule}
 use Rattle.molecule.specs.Record.{wellFormed}
 use Rattle.molecule.proofs.Bonds.{rule9}
 use Rattle.search.specs.declared.Search.{Search}
-use Rattle.search.specs.Place.{familyOf, family, beginning, stateOf, held, searchAt, freshSearch, kindKept, restorable}
-use Rattle.search.proofs.Readings.{Restorable, Placed, NextHigh, place-facts, restorable-facts, restorable-place, restorable-of, family-lawful, family-atoms, open-range}
+use Rattle.search.specs.Place.{familyOf, family, beginning, stateOf, held, searchAt, freshSearch}
+use Rattle.search.specs.Place.{kindKept, restorable}
+use Rattle.search.proofs.Readings.{Restorable, restorable-facts, restorable-place, restorable-of}
+use Rattle.search.proofs.Readings.{Placed, NextHigh, place-facts, family-lawful, family-atoms, open-range}
 
 -- ---- a valid state is one whose place keeps rule 17
 
@@ -35,9 +38,9 @@ module _ (F : Family) (st : State) where
     where
       go : isDone (F .atoms) st ≡ false → NextHigh (F .atoms) (reverse (st .stack)) (st .next) → st .next ≤ F .atoms
       go d (inl h) = h
-      go d (inr h) =
-          let none : st .stack ≡ [] = sym (reverse-reverse (st .stack)) ∙ ap reverse (h .0) in
-          let done : isDone (F .atoms) st ≡ true = rw none (eq-eqb (st .next) (suc (F .atoms)) (h .1)) in
+      go d (inr (empty, last)) =
+          let none : st .stack ≡ [] = sym (reverse-reverse (st .stack)) ∙ ap reverse empty in
+          let done : isDone (F .atoms) st ≡ true = rw none (eq-eqb (st .next) (suc (F .atoms)) last) in
           absurd (clash (isDone (F .atoms) st) done d)
 
   pub valid-placed : Valid F st → Placed F (reverse (st .stack)) (st .next)
@@ -47,7 +50,7 @@ module _ (F : Family) (st : State) where
       go :
           (isDone (F .atoms) st ≡ true) ⊎ (isDone (F .atoms) st ≡ false) →
           NextHigh (F .atoms) (reverse (st .stack)) (st .next)
-      go (inl d) = let f = done-place (F .atoms) st d in inr (ap reverse (f .0), f .1)
+      go (inl d) = let (none, last) = done-place (F .atoms) st d in inr (ap reverse none, last)
       go (inr d) = inl (v .within d)
 
 -- ---- the array of a beginning
@@ -82,9 +85,7 @@ module _ (kind s t : ℕ) (st : State) where
   pub state-search : stateOf (searchAt kind s t st) ≡ st
   unfolding stateOf
   state-search =
-      let same : reverse (beginning (searchAt kind s t st)) ≡ st .stack =
-      ap reverse beginning-at ∙ reverse-reverse (st .stack) in
-      rw same (unfold searchAt in refl)
+      rw (ap reverse beginning-at ∙ reverse-reverse (st .stack)) (unfold searchAt in refl)
 
   pub search-length : length (st .stack) ≤ 128 → length (searchAt kind s t st .prefix) ≡ 128
   unfolding searchAt
@@ -101,10 +102,16 @@ module _ (q : Search) (full : length (q .prefix) ≡ 128) (short : q .len ≤ 12
     padding : drop (q .len) (q .prefix) ≡ replicate (128 - q .len) 0
     padding =
         ext-getD 0 (drop (q .len) (q .prefix)) (replicate (128 - q .len) 0)
-        (rw (length-drop, length-replicate) (omega arith))
-        (λ i h. getD-drop (q .len) (q .prefix) i 0 ∙
-        padded (q .len + i) (omega arith) (omega (arith, length-drop (q .len) (q .prefix))) ∙
-        sym (zeros (128 - q .len) i))
+        (rw (length-drop, length-replicate) (omega arith)) each
+      where
+        each :
+            (i : ℕ) → i < length (drop (q .len) (q .prefix)) →
+            getD (drop (q .len) (q .prefix)) i 0 ≡ getD (replicate (128 - q .len) 0) i 0
+        each i h =
+            let inside : q .len + i < 128 = omega (arith, length-drop (q .len) (q .prefix)) in
+            getD-drop (q .len) (q .prefix) i 0
+            ∙ padded (q .len + i) (omega arith) inside
+            ∙ sym (zeros (128 - q .len) i)
 
     pub held-beginning : held (beginning q) ≡ q .prefix
     unfolding held
@@ -115,17 +122,15 @@ module _ (mol : Molecule) (q : Search) (kept : restorable mol q ≡ true) where
   unfolding stateOf searchAt
   search-state full =
       let f = restorable-facts mol q kept in
-      let size : length (reverse (beginning q)) ≡ q .len = length-reverse (beginning q) ∙
-      beginning-length q full (f .short) in
-      let array : held (reverse (reverse (beginning q))) ≡ q .prefix = ap held (reverse-reverse (beginning q)) ∙
-      held-beginning q full (f .short) (f .padded) in
+      let size = length-reverse (beginning q) ∙ beginning-length q full (f .short) in
+      let array = ap held (reverse-reverse (beginning q)) ∙ held-beginning q full (f .short) (f .padded) in
       rw (size, array)
 
   pub restorable-valid : Valid (family mol q) (stateOf q)
   unfolding stateOf
   restorable-valid =
-      let place = place-facts (family mol q) (beginning q) (q .next)
-      (restorable-place mol q (restorable-facts mol q kept)) in
+      let kept17 = restorable-place mol q (restorable-facts mol q kept) in
+      let place = place-facts (family mol q) (beginning q) (q .next) kept17 in
       placed-valid (family mol q) (stateOf q) (rw reverse-reverse place)
 
   pub restorable-bounded : Bounded (stateOf q)
@@ -146,11 +151,12 @@ module _ (mol : Molecule) (q : Search) (kept : restorable mol q ≡ true) where
   pub prefix-most : length (q .prefix) ≡ 128 → (i : ℕ) → getD (q .prefix) i 0 ≤ mol .atoms
   prefix-most full i = go (restorable-facts mol q kept) (decLt i (q .len)) (decLt i 128)
     where
+      same : i < q .len → getD (beginning q) i 0 ≡ getD (q .prefix) i 0
+      same h = unfold beginning in (getD-take (q .len) (q .prefix) i 0 h)
+
       inside : Restorable mol q → i < q .len → getD (q .prefix) i 0 ≤ mol .atoms
       inside f h =
-          let same : getD (beginning q) i 0 ≡ getD (q .prefix) i 0 = unfold beginning in
-          (getD-take (q .len) (q .prefix) i 0 h) in
-          omega (arith, beginning-range i (rw (beginning-length q full (f .short)) h) .1)
+          omega (arith, same h, beginning-range i (rw (beginning-length q full (f .short)) h) .1)
 
       go : Restorable mol q → Dec (i < q .len) → Dec (i < 128) → getD (q .prefix) i 0 ≤ mol .atoms
       go f (yes h) m = inside f h
@@ -177,13 +183,17 @@ module _ (mol : Molecule) (kind s t : ℕ) (ok : wellFormed mol ≡ true) (st : 
 
 module _ (mol : Molecule) (kind s t : ℕ) (ok : wellFormed mol ≡ true)
     (kinds : kindKept (mol .atoms) kind s t ≡ true) where
+  placed-at :
+      (st : State) → Valid (familyOf mol kind s t) st →
+      Placed (familyOf mol kind s t) (beginning (searchAt kind s t st)) (st .next)
+  placed-at st v = rw (beginning-at kind s t st) (valid-placed (familyOf mol kind s t) st v)
+
   pub valid-restorable :
       (st : State) → Valid (familyOf mol kind s t) st → Bounded st → restorable mol (searchAt kind s t st) ≡ true
   unfolding searchAt
   valid-restorable st v b =
-      let same : familyOf mol kind s t .atoms ≡ mol .atoms = family-atoms mol kind s t in
-      let place : Placed (familyOf mol kind s t) (beginning (searchAt kind s t st)) (st .next) =
-      rw (beginning-at kind s t st) (valid-placed (familyOf mol kind s t) st v) in
+      let p = beginning (searchAt kind s t st) in
+      let place = placed-at st v in
       restorable-of mol (searchAt kind s t st)
       (record {
         short = valid-most mol kind s t ok st v;
@@ -191,7 +201,7 @@ module _ (mol : Molecule) (kind s t : ℕ) (ok : wellFormed mol ≡ true)
         kind-kept = kinds;
         place-open = place .place-open;
         next-low = place .next-low;
-        next-high = subst (λ (n : ℕ). NextHigh n (beginning (searchAt kind s t st)) (st .next)) same (place .next-high);
+        next-high = subst (λ (n : ℕ). NextHigh n p (st .next)) (family-atoms mol kind s t) (place .next-high);
         trials-most = b .trials-most;
         extensions-most = b .extensions-most;
         listed-most = b .listed-most;
@@ -208,8 +218,9 @@ pub run-restorable :
     (mol : Molecule) (q : Search) → wellFormed mol ≡ true → restorable mol q ≡ true → (budget room : ℕ) →
     restorable mol (searchAt (q .kind) (q .s) (q .t) (run (family mol q) budget room (stateOf q) .state)) ≡ true
 run-restorable mol q ok kept budget room =
+    let F = family mol q in
+    let lawful = family-lawful mol (q .kind) (q .s) (q .t) in
     valid-restorable mol (q .kind) (q .s) (q .t) ok (restorable-facts mol q kept .kind-kept)
-    (run (family mol q) budget room (stateOf q) .state)
-    (run-keeps-valid (family mol q) (family-lawful mol (q .kind) (q .s) (q .t)) budget room (stateOf q)
-    (restorable-valid mol q kept))
-    (run-keeps-bounded (family mol q) budget room (stateOf q) (restorable-bounded mol q kept))
+    (run F budget room (stateOf q) .state)
+    (run-keeps-valid F lawful budget room (stateOf q) (restorable-valid mol q kept))
+    (run-keeps-bounded F budget room (stateOf q) (restorable-bounded mol q kept))

@@ -6,7 +6,8 @@ use enumeration::Stop;
 use refusal::Answer;
 use refusal::Refusal;
 
-// Kind 0 lists rings, kind 1 paths from s to t. The present beginning is the first `len` places of `prefix`; the places past it hold 0.
+// Kind 0 lists rings, kind 1 paths from s to t.
+// The present beginning is the first `len` places of `prefix`; the places past it hold 0.
 pub struct Search {
     pub kind: usize,
     pub s: usize,

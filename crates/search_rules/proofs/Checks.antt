@@ -9,8 +9,9 @@ use mathlib.Core.List.{List, []}
 use mathlib.Core.Logic.{_⊎_, inl, inr}
 use lib.ListN.{length, getD}
 use lib.Dec.{leb, ltb, eqb}
-use borrow.Author.Tests.{eq-eqb, ne-eqb, eqb-true, lt-ltb, le-ltb, ltb-true, ltb-false, le-leb, lt-leb, leb-true}
-use Rattle.graph.proofs.Below.{clash, false-of, either, same-test, and-both, and-parts, allBelow-at, allBelow-of}
+use borrow.Author.Count.{below-more}
+use borrow.Author.Tests.{eq-eqb, ne-eqb, eqb-true, lt-ltb, le-ltb, le-leb, lt-leb, leb-true}
+use Rattle.graph.proofs.Below.{clash, false-of, same-test, and-parts, allBelow-of}
 use Rattle.graph.proofs.Loops.{all-fails}
 use Rattle.enumeration.specs.Words.{isOpen}
 use Rattle.enumeration.specs.Run.{limit}
@@ -21,51 +22,55 @@ use Rattle.molecule.proofs.Bonds.{atom-bounds}
 use Rattle.search.specs.declared.Search.{Search}
 use Rattle.search.specs.Place.{family, beginning, endsKept, kindKept, restorable}
 use Rattle.search.proofs.Readings.{NextHigh, Restorable, restorable-facts, restorable-of, atom-of}
-use Rattle.search_rules.specs.Parts.{paddedAt, padded, nextKept}
-use Rattle.openness.proofs.Arrays.{taken-length}
+use Rattle.search.proofs.Readings.{zeros-past, past-zeros}
+use Rattle.search.proofs.Views.{beginning-length}
+use Rattle.search_rules.specs.Parts.{paddedAt, padded, nextKept, countsKept}
 
 -- ---- the places past the length
 
 module _ (prefix : List ℕ) (len i : ℕ) where
-  pub padded-before : i < len → paddedAt prefix len i ≡ true
+  padded-before : i < len → paddedAt prefix len i ≡ true
   unfolding paddedAt
   padded-before h = rw (lt-ltb i len h)
 
-  pub padded-zero : len ≤ i → getD prefix i 0 ≡ 0 → paddedAt prefix len i ≡ true
+  padded-zero : len ≤ i → getD prefix i 0 ≡ 0 → paddedAt prefix len i ≡ true
   unfolding paddedAt
   padded-zero l e = or-right (ltb i len) (eqb (getD prefix i 0) 0) (eq-eqb (getD prefix i 0) 0 e)
 
-  pub padded-other : len ≤ i → (getD prefix i 0 ≡ 0 → ⊥) → paddedAt prefix len i ≡ false
+  padded-other : len ≤ i → (getD prefix i 0 ≡ 0 → ⊥) → paddedAt prefix len i ≡ false
   unfolding paddedAt
   padded-other l d = rw (le-ltb i len l, ne-eqb (getD prefix i 0) 0 d)
 
-  padded-facts : paddedAt prefix len i ≡ true → len ≤ i → getD prefix i 0 ≡ 0
-  unfolding paddedAt
-  padded-facts e l = go (or-either (ltb i len) (eqb (getD prefix i 0) 0) e)
-    where
-      go : (ltb i len ≡ true) ⊎ (eqb (getD prefix i 0) 0 ≡ true) → getD prefix i 0 ≡ 0
-      go (inl b) = absurd (omega (arith, ltb-true i len b))
-      go (inr b) = eqb-true (getD prefix i 0) 0 b
+-- The places before one are below the length or hold 0; it is not below the length
+pub record Passed (prefix : List ℕ) (len i : ℕ) : Type 0 where
+  pub past : len ≤ i
+  pub zeros : (k : ℕ) → k < i → paddedAt prefix len k ≡ true
+
+pub passed-none : (prefix : List ℕ) (len : ℕ) → Passed prefix len len
+passed-none prefix len = record { past = omega arith; zeros = padded-before prefix len }
+
+module _ {prefix : List ℕ} {len i : ℕ} (p : Passed prefix len i) where
+  pub passed-more : getD prefix i 0 ≡ 0 → Passed prefix len (i + 1)
+  passed-more e =
+      let here = padded-zero prefix len i (p .past) e in
+      record { past = omega arith; zeros = below-more _ _ (p .zeros) here }
+
+  pub passed-other : i < 128 → (getD prefix i 0 ≡ 0 → ⊥) → padded prefix len ≡ false
+  unfolding padded
+  passed-other h d = all-fails 128 (paddedAt prefix len) i h (padded-other prefix len i (p .past) d)
+
+  pub passed-all : 128 ≤ i → padded prefix len ≡ true
+  unfolding padded
+  passed-all h = allBelow-of 128 (paddedAt prefix len) (λ k l. p .zeros k (omega arith))
 
 module _ (prefix : List ℕ) (len : ℕ) where
-  pub padded-fails : (i : ℕ) → i < 128 → paddedAt prefix len i ≡ false → padded prefix len ≡ false
-  unfolding padded
-  padded-fails i h e = all-fails 128 (paddedAt prefix len) i h e
-
-  pub padded-of : ((i : ℕ) → i < 128 → paddedAt prefix len i ≡ true) → padded prefix len ≡ true
-  unfolding padded
-  padded-of f = allBelow-of 128 (paddedAt prefix len) f
-
   padded-at : padded prefix len ≡ true → (i : ℕ) → len ≤ i → i < 128 → getD prefix i 0 ≡ 0
-  unfolding padded
-  padded-at e i l h = padded-facts prefix len i (allBelow-at 128 (paddedAt prefix len) e i h) l
+  unfolding padded paddedAt
+  padded-at = zeros-past prefix len
 
   padded-from : ((i : ℕ) → len ≤ i → i < 128 → getD prefix i 0 ≡ 0) → padded prefix len ≡ true
-  padded-from f = padded-of (λ i h. go i h (either (ltb i len)))
-    where
-      go : (i : ℕ) → i < 128 → (ltb i len ≡ true) ⊎ (ltb i len ≡ false) → paddedAt prefix len i ≡ true
-      go i h (inl b) = padded-before prefix len i (ltb-true i len b)
-      go i h (inr b) = let l = ltb-false i len b in padded-zero prefix len i l (f i l h)
+  unfolding padded paddedAt
+  padded-from = past-zeros prefix len
 
 -- ---- kind, s and t
 
@@ -105,6 +110,9 @@ module _ (n kind s t : ℕ) where
 -- ---- the next atom
 
 module _ (n len c : ℕ) where
+  abbrev is-last : Bool
+  is-last = eqb len 0 && eqb c (suc n)
+
   pub next-atom : isAtom n c ≡ true → nextKept n len c ≡ true
   unfolding nextKept
   next-atom e = rw e
@@ -118,105 +126,113 @@ module _ (n len c : ℕ) where
     unfolding nextKept
     next-after e = rw (none, eq-eqb len 0 e, add-one n)
 
-  next-low : nextKept n len c ≡ true → 1 ≤ c
+  -- c is an atom, or it is n + 1 after an empty beginning
+  next-facts : nextKept n len c ≡ true → ((1 ≤ c) × (c ≤ n)) ⊎ ((len ≡ 0) × (c ≡ suc n))
   unfolding nextKept
-  next-low e = go (or-either (isAtom n c) (eqb len 0 && eqb c (suc n)) e)
+  next-facts e = go (or-either (isAtom n c) is-last e)
     where
-      go : (isAtom n c ≡ true) ⊎ ((eqb len 0 && eqb c (suc n)) ≡ true) → 1 ≤ c
-      go (inl h) = atom-bounds n c h .0
-      go (inr h) = omega (arith, eqb-true c (suc n) (and-parts (eqb len 0) (eqb c (suc n)) h .1))
+      go : (isAtom n c ≡ true) ⊎ (is-last ≡ true) → ((1 ≤ c) × (c ≤ n)) ⊎ ((len ≡ 0) × (c ≡ suc n))
+      go (inl h) = inl (atom-bounds n c h)
+      go (inr h) =
+          let (empty, last) = and-parts (eqb len 0) (eqb c (suc n)) h in
+          inr (eqb-true len 0 empty, eqb-true c (suc n) last)
+
+  next-low : nextKept n len c ≡ true → 1 ≤ c
+  next-low e = elim (next-facts e) [
+    | inl (low, high) ↦ low
+    | inr (empty, last) ↦ omega arith
+  ]
 
   next-high : (p : List ℕ) → (len ≡ 0 → p ≡ []) → nextKept n len c ≡ true → NextHigh n p c
-  unfolding nextKept
-  next-high p f e = go (or-either (isAtom n c) (eqb len 0 && eqb c (suc n)) e)
-    where
-      go : (isAtom n c ≡ true) ⊎ ((eqb len 0 && eqb c (suc n)) ≡ true) → NextHigh n p c
-      go (inl h) = inl (atom-bounds n c h .1)
-      go (inr h) =
-          let b = and-parts (eqb len 0) (eqb c (suc n)) h in inr (f (eqb-true len 0 (b .0)), eqb-true c (suc n) (b .1))
+  next-high p f e = elim (next-facts e) [
+    | inl (low, high) ↦ inl high
+    | inr (empty, last) ↦ inr (f empty, last)
+  ]
 
   next-of : (p : List ℕ) → (p ≡ [] → len ≡ 0) → 1 ≤ c → NextHigh n p c → nextKept n len c ≡ true
   unfolding nextKept
-  next-of p f l (inl h) = or-left (isAtom n c) (eqb len 0 && eqb c (suc n)) (atom-of n c l h)
-  next-of p f l (inr h) =
-      or-right (isAtom n c) (eqb len 0 && eqb c (suc n))
-      (and-both (eqb len 0) (eqb c (suc n)) (eq-eqb len 0 (f (h .0))) (eq-eqb c (suc n) (h .1)))
+  next-of p f low (inl high) = or-left (isAtom n c) is-last (atom-of n c low high)
+  next-of p f low (inr (none, last)) =
+      or-right (isAtom n c) is-last (rw (eq-eqb len 0 (f none), eq-eqb c (suc n) last))
 
 -- ---- the counts
 
 module _ (a b c : ℕ) where
-  pub counts-first : limit < a → (leb a limit && leb b limit && leb c limit) ≡ false
+  pub counts-first : limit < a → countsKept a b c ≡ false
   counts-first h = rw (lt-leb a limit h)
 
   module _ (first : a ≤ limit) where
-    pub counts-second : limit < b → (leb a limit && leb b limit && leb c limit) ≡ false
+    pub counts-second : limit < b → countsKept a b c ≡ false
     counts-second h = rw (le-leb a limit first, lt-leb b limit h)
 
-    pub counts-third : b ≤ limit → (leb a limit && leb b limit && leb c limit) ≡ leb c limit
+    pub counts-third : b ≤ limit → countsKept a b c ≡ leb c limit
     counts-third h = rw (le-leb a limit first, le-leb b limit h)
+
+  counts-of : a ≤ limit → b ≤ limit → c ≤ limit → countsKept a b c ≡ true
+  counts-of first second third = counts-third first second ∙ le-leb c limit third
+
+  counts-within : countsKept a b c ≡ true → (a ≤ limit) × (b ≤ limit) × (c ≤ limit)
+  counts-within e =
+      let (first, in-c) = and-parts (leb a limit && leb b limit) (leb c limit) e in
+      let (in-a, in-b) = and-parts (leb a limit) (leb b limit) first in
+      (leb-true a limit in-a, leb-true b limit in-b, leb-true c limit in-c)
 
 -- ---- rule 12
 
-module _ (mol : Molecule) (q : Search) where
-  abbrev countsKept : Bool
-  countsKept = leb (q .trials) limit && leb (q .extensions) limit && leb (q .listed) limit
+-- What the tests before openness find
+pub record Tested (mol : Molecule) (q : Search) : Type 0 where
+  pub full : length (q .prefix) ≡ 128
+  pub short : q .len ≤ 127
+  pub pads : padded (q .prefix) (q .len) ≡ true
+  pub kinds : kindKept (mol .atoms) (q .kind) (q .s) (q .t) ≡ true
+  pub nexts : nextKept (mol .atoms) (q .len) (q .next) ≡ true
+  pub counts : countsKept (q .trials) (q .extensions) (q .listed) ≡ true
 
-  refute : (Restorable mol q → ⊥) → restorable mol q ≡ false
-  refute f = false-of (restorable mol q) (λ e. f (restorable-facts mol q e))
+module _ (mol : Molecule) (q : Search) where
+  -- a test that rule 12 implies and that fails
+  refute : (b : Bool) → (Restorable mol q → b ≡ true) → b ≡ false → restorable mol q ≡ false
+  refute b f e = false-of (restorable mol q) (λ r. clash b (f (restorable-facts mol q r)) e)
 
   pub not-short : 127 < q .len → restorable mol q ≡ false
-  not-short h = refute (λ f. let g = f .short in omega arith)
+  not-short h = refute (leb (q .len) 127) (λ f. le-leb (q .len) 127 (f .short)) (lt-leb (q .len) 127 h)
 
   pub not-padded : padded (q .prefix) (q .len) ≡ false → restorable mol q ≡ false
-  not-padded e = refute (λ f. clash (padded (q .prefix) (q .len)) (padded-from (q .prefix) (q .len) (f .padded)) e)
+  not-padded = refute _ (λ f. padded-from (q .prefix) (q .len) (f .padded))
 
   pub not-kind : kindKept (mol .atoms) (q .kind) (q .s) (q .t) ≡ false → restorable mol q ≡ false
-  not-kind e = refute (λ f. clash (kindKept (mol .atoms) (q .kind) (q .s) (q .t)) (f .kind-kept) e)
+  not-kind = refute _ (λ f. f .kind-kept)
 
-  pub not-counts : countsKept ≡ false → restorable mol q ≡ false
-  not-counts e =
-      refute
-      (λ f. clash countsKept
-      (and-both (leb (q .trials) limit && leb (q .extensions) limit) (leb (q .listed) limit)
-      (and-both (leb (q .trials) limit) (leb (q .extensions) limit) (le-leb (q .trials) limit (f .trials-most))
-      (le-leb (q .extensions) limit (f .extensions-most)))
-      (le-leb (q .listed) limit (f .listed-most)))
-      e)
+  pub not-counts : countsKept (q .trials) (q .extensions) (q .listed) ≡ false → restorable mol q ≡ false
+  not-counts = refute _ (λ f. counts-of _ _ _ (f .trials-most) (f .extensions-most) (f .listed-most))
 
-  module _ (full : length (q .prefix) ≡ 128) (short : q .len ≤ 127) where
-    begins-none : beginning q ≡ [] → q .len ≡ 0
-    unfolding beginning
-    begins-none e = sym (taken-length (q .prefix) (q .len) full (omega arith)) ∙ ap length e
+  none-begins : q .len ≡ 0 → beginning q ≡ []
+  unfolding beginning
+  none-begins e = rw e
 
-    none-begins : q .len ≡ 0 → beginning q ≡ []
-    unfolding beginning
-    none-begins e = rw e
+  pub not-next :
+      length (q .prefix) ≡ 128 → q .len ≤ 127 →
+      nextKept (mol .atoms) (q .len) (q .next) ≡ false → restorable mol q ≡ false
+  not-next full short = refute _ (λ f. next-of _ _ _ (beginning q) begins-none (f .next-low) (f .next-high))
+    where
+      begins-none : beginning q ≡ [] → q .len ≡ 0
+      begins-none e = sym (beginning-length q full short) ∙ ap length e
 
-    pub not-next : nextKept (mol .atoms) (q .len) (q .next) ≡ false → restorable mol q ≡ false
-    not-next e =
-        refute (λ f. clash (nextKept (mol .atoms) (q .len) (q .next))
-        (next-of (mol .atoms) (q .len) (q .next) (beginning q) begins-none (f .next-low) (f .next-high)) e)
-
-    -- every other test passed
-    pub checked-open :
-        padded (q .prefix) (q .len) ≡ true → kindKept (mol .atoms) (q .kind) (q .s) (q .t) ≡ true →
-        nextKept (mol .atoms) (q .len) (q .next) ≡ true → countsKept ≡ true →
-        isOpen (family mol q) (beginning q) ≡ restorable mol q
-    checked-open pad kinds next counts =
-        same-test (isOpen (family mol q) (beginning q)) (restorable mol q)
-        (λ e. let outer = and-parts (leb (q .trials) limit && leb (q .extensions) limit)
-        (leb (q .listed) limit) counts in
-        let inner = and-parts (leb (q .trials) limit) (leb (q .extensions) limit) (outer .0) in
-        restorable-of mol q
-        (record {
-          short = short;
-          padded = padded-at (q .prefix) (q .len) pad;
-          kind-kept = kinds;
-          place-open = e;
-          next-low = next-low (mol .atoms) (q .len) (q .next) next;
-          next-high = next-high (mol .atoms) (q .len) (q .next) (beginning q) none-begins next;
-          trials-most = leb-true (q .trials) limit (inner .0);
-          extensions-most = leb-true (q .extensions) limit (inner .1);
-          listed-most = leb-true (q .listed) limit (outer .1);
-        }))
-        (λ e. restorable-facts mol q e .place-open)
+  -- every other test passed: openness decides
+  pub checked-open : Tested mol q → (r : Bool) → r ≡ isOpen (family mol q) (beginning q) → r ≡ restorable mol q
+  checked-open t r told =
+      same-test _ _ (λ e. restorable-of mol q (kept e)) (λ e. told ∙ restorable-facts mol q e .place-open)
+    where
+      kept : r ≡ true → Restorable mol q
+      kept e =
+          let (trials, extensions, listed) = counts-within _ _ _ (t .counts) in
+          record {
+            short = t .short;
+            padded = padded-at (q .prefix) (q .len) (t .pads);
+            kind-kept = t .kinds;
+            place-open = sym told ∙ e;
+            next-low = next-low _ _ _ (t .nexts);
+            next-high = next-high _ _ _ (beginning q) none-begins (t .nexts);
+            trials-most = trials;
+            extensions-most = extensions;
+            listed-most = listed;
+          }

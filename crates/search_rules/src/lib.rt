@@ -1,13 +1,11 @@
 // Rules 12, 16 and 17 on a search (document 01, "Turned back by number"), on a molecule that rule 9 allows.
 ghost use mathlib.Core.Path.{_≡_};
-ghost use mathlib.Core.Bool.{true, _&&_};
+ghost use mathlib.Core.Bool.{true};
 ghost use Prim.Native.Nat.{_≤_};
 ghost use lib.ListN.{length};
-ghost use lib.Dec.{leb};
-ghost use Rattle.enumeration.specs.Run.{limit};
 ghost use Rattle.molecule.specs.Record.{wellFormed};
 ghost use Rattle.search.specs.Place.{family, beginning, endsKept, kindKept, placeKept, restorable};
-ghost use Rattle.search_rules.specs.Parts.{padded, nextKept};
+ghost use Rattle.search_rules.specs.Parts.{padded, nextKept, countsKept};
 use molecule::Molecule;
 use search::Search;
 
@@ -70,7 +68,7 @@ fn next_kept(n: usize, len: usize, c: usize) -> bool
 
 // Whether no count is above the limit.
 fn counts_kept(trials: u64, extensions: u64, listed: u64) -> bool
-    ensures { λ r. ⌜ r ≡ (leb trials limit && leb extensions limit && leb listed limit) ⌝ }
+    ensures { λ r. ⌜ r ≡ countsKept trials extensions listed ⌝ }
 {
     if 9_999_999_999_999_999_999 < trials {
         return false;
@@ -83,7 +81,9 @@ fn counts_kept(trials: u64, extensions: u64, listed: u64) -> bool
 
 // Rule 17, of a search whose mark keeps the rules before it.
 pub fn place_kept(m: Molecule, q: Search) -> bool
-    requires { ⌜ (wellFormed m ≡ true) × (kindKept (m .atoms) (q .kind) (q .s) (q .t) ≡ true) × (q .len ≤ 127) × (length (q .prefix) ≡ 128) ⌝ }
+    requires { ⌜
+        (wellFormed m ≡ true) × (kindKept (m .atoms) (q .kind) (q .s) (q .t) ≡ true) ×
+        (q .len ≤ 127) × (length (q .prefix) ≡ 128) ⌝ }
     ensures { λ r. ⌜ r ≡ placeKept (family m q) (beginning q) (q .next) ⌝ }
 {
     let rows = m.rows;

@@ -1,4 +1,5 @@
-// Starting a search (document 01, "The search, trial by trial"): a fresh ring search, rule 9; a fresh path search, rules 9, 10, 11.
+// Starting a search (document 01, "The search, trial by trial"): a fresh ring search, rule 9;
+// a fresh path search, rules 9, 10, 11.
 ghost use mathlib.Core.Path.{_≡_};
 ghost use Rattle.search.specs.Entries.{startRings, startPaths};
 use molecule::Molecule;

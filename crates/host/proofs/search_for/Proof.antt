@@ -9,11 +9,11 @@ use Rattle.host.proofs.search_for.Tie as tie
 
 returns : tie.Need-returns
 returns c =
-    let start = c .before .before .before in
-    ap acceptedSearch (c .fresh-search .ensures) ∙ search-fresh (start .args .m) (start .args .mark .now) (start .pre) (c .before .if1 .taken)
+    let start : tie.Start = search in
+    ap acceptedSearch (c .fresh-search .ensures) ∙ search-fresh _ _ (start .pre) (c .before .if1 .taken)
 
 returns-2 : tie.Need-returns-2
-returns-2 c = c .restore-checked .ensures ∙ search-restored (c .before .before .before .args .m) (c .before .before .before .args .mark .now) (c .before .if1 .left)
+returns-2 c = c .restore-checked .ensures ∙ search-restored _ _ (c .before .if1 .left)
 
 pub search-for-spec : {M : Type 1} → statement M
 search-for-spec = tie.close (tie.spec (λ c κs. search needs) returns (λ c κs. search needs) returns-2)

@@ -6,13 +6,19 @@ use Rattle.search_rules.proofs.counts_kept.Statement.{statement}
 use Rattle.search_rules.proofs.counts_kept.Tie as tie
 
 returns : tie.Need-returns
-returns c = sym (counts-first (c .before .args .trials) (c .before .args .extensions) (c .before .args .listed) (c .if1 .taken))
+returns c =
+    let args = c .before .args in
+    sym (counts-first (args .trials) (args .extensions) (args .listed) (c .if1 .taken))
 
 returns-2 : tie.Need-returns-2
-returns-2 c = sym (counts-second (c .before .before .args .trials) (c .before .before .args .extensions) (c .before .before .args .listed) (c .before .if1 .left) (c .if2 .taken))
+returns-2 c =
+    let args = c .before .before .args in
+    sym (counts-second (args .trials) (args .extensions) (args .listed) (c .before .if1 .left) (c .if2 .taken))
 
 returns-3 : tie.Need-returns-3
-returns-3 c = sym (counts-third (c .before .before .args .trials) (c .before .before .args .extensions) (c .before .before .args .listed) (c .before .if1 .left) (c .if2 .left))
+returns-3 c =
+    let args = c .before .before .args in
+    sym (counts-third (args .trials) (args .extensions) (args .listed) (c .before .if1 .left) (c .if2 .left))
 
 pub counts-kept-spec : {M : Type 1} → statement M
 counts-kept-spec = tie.close (tie.spec returns returns-2 returns-3)
