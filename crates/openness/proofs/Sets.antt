@@ -19,37 +19,45 @@ use Rattle.chordless.specs.Reach.{clear, touchesOnlyLast, touchesOnlyFirst, tou
 use Rattle.atomset.specs.Set.{has}
 use Rattle.openness.specs.Parts.{Near}
 
+-- the set of the atoms bonded to atom a
+abbrev pub Row : Adjacency → ℕ → List ℕ → Type 0
+Row adj a row = (u : ℕ) → has row u ≡ adj a u
+
 -- ---- the loop over the places
 
-pub near-none :
-    (adj : Adjacency) (p : List ℕ) (low : ℕ) (set : List ℕ) → ((u : ℕ) → has set u ≡ false) → Near adj p low low set
-near-none adj p low set e =
+near-none :
+    {adj : Adjacency} {p : List ℕ} {low : ℕ} {set : List ℕ} → ((u : ℕ) → has set u ≡ false) → Near adj p low low set
+near-none {set = set} e =
     record { some = λ u h. absurd (clash (has set u) h (e u)); every = λ u i l h b. absurd (omega arith) }
 
-pub near-more :
-    (adj : Adjacency) (p : List ℕ) (low i a : ℕ) (set row more : List ℕ) → low ≤ i → a ≡ atomAt p i →
-    ((u : ℕ) → has row u ≡ adj a u) → ((u : ℕ) → has more u ≡ (has set u || has row u))
-    → Near adj p low i set → Near adj p low (i + 1) more
-near-more adj p low i a set row more l e r m k =
+-- one more place
+near-more :
+    {adj : Adjacency} {p : List ℕ} {low i a : ℕ} {set more : List ℕ} {row : ℕ → Bool} → low ≤ i → a ≡ atomAt p i →
+    ((u : ℕ) → row u ≡ adj a u) → ((u : ℕ) → has more u ≡ (has set u || row u)) → Near adj p low i set →
+    Near adj p low (i + 1) more
+near-more {adj} {p} {low} {i} {a} {set} {more} {row} l e r m k =
     record {
-      some = λ u h. some u (or-either (has set u) (has row u) (sym (m u) ∙ h));
+      some = λ u h. some u (or-either (has set u) (row u) (sym (m u) ∙ h));
       every = λ u j lj h b. every u j lj b (either (eqb j i)) h;
     }
   where
+    at : (u : ℕ) → row u ≡ adj (atomAt p i) u
+    at = rw (← e) r
+
     some :
-        (u : ℕ) → (has set u ≡ true) ⊎ (has row u ≡ true) → (j : ℕ) × (low ≤ j) × (j < i + 1) ×
-        (adj (atomAt p j) u ≡ true)
-    some u (inl h) = let f = k .some u h in (f .0, f .1, omega arith, f .3)
-    some u (inr h) = (i, l, omega arith, ap (λ (x : ℕ). adj x u) (sym e) ∙ sym (r u) ∙ h)
+        (u : ℕ) → (has set u ≡ true) ⊎ (row u ≡ true) →
+        (j : ℕ) × (low ≤ j) × (j < i + 1) × (adj (atomAt p j) u ≡ true)
+    some u (inl h) = let (j, from, below, bond) = k .some u h in (j, from, omega arith, bond)
+    some u (inr h) = (i, l, omega arith, sym (at u) ∙ h)
 
     every :
         (u j : ℕ) → low ≤ j → adj (atomAt p j) u ≡ true → (eqb j i ≡ true) ⊎ (eqb j i ≡ false) → j < i + 1 →
         has more u ≡ true
     every u j lj b (inl q) h =
-        m u ∙ or-right (has set u) (has row u)
-        (r u ∙ ap (λ (x : ℕ). adj x u) (e ∙ ap (atomAt p) (sym (eqb-true j i q))) ∙ b)
+        let bond = rw (eqb-true j i q) at b in
+        m u ∙ or-right (has set u) (row u) (at u ∙ bond)
     every u j lj b (inr q) h =
-        let d = eqb-false j i q in m u ∙ or-left (has set u) (has row u) (k .every u j lj (omega arith) b)
+        let d = eqb-false j i q in m u ∙ or-left (has set u) (row u) (k .every u j lj (omega arith) b)
 
 -- a longer list with the same atoms, and an equal bound
 pub near-same :
@@ -61,13 +69,32 @@ near-same {adj} top e f k =
       every = λ u i l h b. k .every u i l (omega arith) (ap (λ (x : ℕ). adj x u) (sym (f i (omega arith))) ∙ b);
     }
 
+-- the set has what is near the places from low on that are passed: those before i
+pub record NearTo (adj : Adjacency) (p : List ℕ) (low high : ℕ) (set : List ℕ) (i : ℕ) : Type 0 where
+  pub from : low ≤ i
+  pub within : i ≤ high
+  pub near : Near adj p low i set
+
+module _ {adj : Adjacency} {p : List ℕ} {low high : ℕ} where
+  pub near-to-start : {set : List ℕ} → low ≤ high → ((u : ℕ) → has set u ≡ false) → NearTo adj p low high set low
+  near-to-start h e = record { from = omega arith; within = h; near = near-none e }
+
+  pub near-to-more :
+      {i a : ℕ} {set more : List ℕ} {row : ℕ → Bool} → NearTo adj p low high set i → i < high → a ≡ atomAt p i →
+      ((u : ℕ) → row u ≡ adj a u) → ((u : ℕ) → has more u ≡ (has set u || row u)) → NearTo adj p low high more (i + 1)
+  near-to-more k h e r m =
+      record { from = omega (arith, k .from); within = omega arith; near = near-more (k .from) e r m (k .near) }
+
+  pub near-to-end : {i : ℕ} {set : List ℕ} → NearTo adj p low high set i → high ≤ i → Near adj p low high set
+  near-to-end k h = near-same high (omega (arith, k .within)) (λ i g. refl) (k .near)
+
 -- ---- a beginning of two atoms or more: first, inner, last
 
 -- the sets of the atoms bonded to each part
 pub record Around (adj : Adjacency) (p first inner last : List ℕ) : Type 0 where
-  pub first-is : (u : ℕ) → has first u ≡ adj (atomAt p 0) u
+  pub first-is : Row adj (atomAt p 0) first
   pub inner-is : Near adj p 1 (length p - 1) inner
-  pub last-is : (u : ℕ) → has last u ≡ adj (atomAt p (length p - 1)) u
+  pub last-is : Row adj (atomAt p (length p - 1)) last
 
 pub beq-yes : (a : Bool) → Bool·beq a true ≡ a
 beq-yes true = refl
@@ -77,7 +104,7 @@ beq-no : (a : Bool) → Bool·beq a false ≡ not a
 beq-no true = refl
 beq-no false = refl
 
-module _ (adj : Adjacency) (p first inner last : List ℕ) (k : Around adj p first inner last) (long : 2 ≤ length p)
+module _ {adj : Adjacency} {p first inner last : List ℕ} (k : Around adj p first inner last) (long : 2 ≤ length p)
     (u : ℕ) where
   abbrev testAt : (ℕ → Bool) → ℕ → Bool
   testAt want i = Bool·beq (adj (atomAt p i) u) (want i)
@@ -176,9 +203,9 @@ module _ (adj : Adjacency) (p first inner last : List ℕ) (k : Around adj p fir
 
 pub record Behind (adj : Adjacency) (p others last : List ℕ) : Type 0 where
   pub others-is : Near adj p 0 (length p - 1) others
-  pub last-is : (u : ℕ) → has last u ≡ adj (atomAt p (length p - 1)) u
+  pub last-is : Row adj (atomAt p (length p - 1)) last
 
-module _ (adj : Adjacency) (p others last : List ℕ) (k : Behind adj p others last) (long : 1 ≤ length p) (u : ℕ) where
+module _ {adj : Adjacency} {p others last : List ℕ} (k : Behind adj p others last) (long : 1 ≤ length p) (u : ℕ) where
   abbrev testOne : Bool → ℕ → Bool
   testOne want i = Bool·beq (adj (atomAt p i) u) (want && eqb (suc i) (length p))
 
