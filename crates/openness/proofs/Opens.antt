@@ -5,10 +5,11 @@ use Prim.Native.Nat.{ℕ, zero, suc, _+_, _≤_, _<_}
 use native.Mathlib.Omega.{arith}
 use native.Mathlib.Numerals.{add-one}
 use mathlib.Core.Path.{_≡_, refl, sym, ap, _∙_}
-use mathlib.Core.Bool.{true, false}
+use mathlib.Core.Bool.{Bool, true, false, not}
 use mathlib.Core.List.{List, [], _∷_, _++_, append-assoc, append-nil}
 use lib.ListN.{length, take, drop, take-append-drop}
 use lib.Seq.{take-suc, take-append-le}
+use borrow.Author.Tests.{not-true, not-false}
 use Rattle.graph.specs.Chordless.{atomAt}
 use Rattle.graph.proofs.Below.{clash, false-of}
 use Rattle.enumeration.specs.Words.{Family, isOpen}
@@ -112,15 +113,18 @@ module _ {n : ℕ} {table : List ℕ} {kind s t : ℕ} {prefix : List ℕ} {len 
       }
 
   pub open-stops :
-      length prefix ≡ 128 → len ≤ 127 → i < len → isOpen (familyBy n table kind s t) (take (suc i) prefix) ≡ false →
+      {opens : Bool} → length prefix ≡ 128 → len ≤ 127 → i < len →
+      opens ≡ isOpen (familyBy n table kind s t) (take (suc i) prefix) → not opens ≡ true →
       isOpen (familyBy n table kind s t) (take len prefix) ≡ false
-  open-stops size short h e =
-      open-cut (familyBy n table kind s t) (family-by-lawful n table kind s t) prefix i len size h short e
+  open-stops {opens} size short h e fails =
+      open-cut (familyBy n table kind s t) (family-by-lawful n table kind s t) prefix i len size h short
+      (sym e ∙ not-true opens fails)
 
   pub open-more :
-      i < len → isOpen (familyBy n table kind s t) (take (suc i) prefix) ≡ true →
-      OpenTo n table kind s t prefix len (i + 1)
-  open-more h e = record { within = omega arith; opened = rw (add-one i) e }
+      {opens : Bool} → i < len → opens ≡ isOpen (familyBy n table kind s t) (take (suc i) prefix) →
+      not opens ≡ false → OpenTo n table kind s t prefix len (i + 1)
+  open-more {opens} h e passes =
+      record { within = omega arith; opened = rw (add-one i) (sym e ∙ not-false opens passes) }
 
   pub open-all : len ≤ i → isOpen (familyBy n table kind s t) (take len prefix) ≡ true
   open-all h = let all : i ≡ len = omega (arith, k .within) in rw all at (k .opened)

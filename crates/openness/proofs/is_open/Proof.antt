@@ -2,8 +2,7 @@
 -- The first atom that does not open it decides, since a beginning of an open one is open.
 use Prim.Native.Nat.{_-_}
 use native.Mathlib.Omega.{arith}
-use mathlib.Core.Path.{sym, _∙_}
-use borrow.Author.Tests.{not-true, not-false}
+use mathlib.Core.Path.{sym}
 use Rattle.openness.proofs.Opens.{OpenTo, open-start, open-beginning, open-stops, open-more, open-all}
 use Rattle.openness.proofs.is_open.Statement.{statement}
 use Rattle.openness.proofs.is_open.Tie as tie
@@ -30,14 +29,13 @@ returns c =
     let start : Place tie.Start = search in
     let turn : Place tie.In-loop = search in
     let (words, kinds, size, short) = start .pre in
-    sym (open-stops (turn .before .loop .inv) size short (turn .loop-test .taken)
-    (sym (c .before .opens-at .ensures) ∙ not-true _ (c .if1 .taken)))
+    sym (open-stops (turn .before .loop .inv) size short (turn .loop-test .taken) (c .before .opens-at .ensures)
+    (c .if1 .taken))
 
 loop-again : tie.Need-loop-again Inv-loop μ-loop
 loop-again c =
     let turn : Place tie.In-loop = search in
-    open-more (turn .before .loop .inv) (turn .loop-test .taken)
-    (sym (c .before .opens-at .ensures) ∙ not-false _ (c .if1 .left))
+    open-more (turn .before .loop .inv) (turn .loop-test .taken) (c .before .opens-at .ensures) (c .if1 .left)
 
 returns-2 : tie.Need-returns-2 Inv-loop μ-loop
 returns-2 c = sym (open-all (c .before .loop .inv) (c .loop-test .left))
