@@ -28,22 +28,36 @@ use Rattle.openness.proofs.Sets.{Behind, only-last, none-met}
 
 -- ---- a beginning that is not empty
 
--- the sets that are computed before the test of t: the atoms bonded to
--- one of the others, to the last atom, to either; and the members
-pub record PathSets (n : ℕ) (adj : Adjacency) (s t : ℕ) (p others last met members : List ℕ) : Type 0 where
-  pub behind : Behind adj p others last
-  pub members-is : (v : ℕ) → has members v ≡ (eqb v t && (has last v && not (has others v)))
-  pub met-is : (v : ℕ) → has met v ≡ (has others v || has last v)
+-- what its plan is made of: n, the ends, and the atoms bonded to
+-- one of the others, to the last atom, and to either
+pub record PathParts : Type 0 where
+  pub n : ℕ
+  pub s : ℕ
+  pub t : ℕ
+  pub others : List ℕ
+  pub last : List ℕ
+  pub met : List ℕ
+
+-- v is an atom
+abbrev pub isOne : PathParts → ℕ → Bool
+isOne k v = leb 1 v && leb v (k .n)
+
+-- v is bonded to the last atom alone
+abbrev pub isNext : PathParts → ℕ → Bool
+isNext k v = has (k .last) v && not (has (k .others) v)
+
+-- the sets that are computed before the test of t
+pub record PathSets (adj : Adjacency) (p : List ℕ) (k : PathParts) (members : List ℕ) : Type 0 where
+  pub behind : Behind adj p (k .others) (k .last)
+  pub met-is : (v : ℕ) → has (k .met) v ≡ (has (k .others) v || has (k .last) v)
+  pub members-is : (v : ℕ) → has members v ≡ (eqb v (k .t) && isNext k v)
 
 -- and those after it
-pub record PathSwept (n : ℕ) (adj : Adjacency) (s t : ℕ) (others last met goal between swept opens : List ℕ) : Type 0
-  where
-    pub goal-is : (v : ℕ) → has goal v ≡ eqb v t
-    pub between-is : (v : ℕ) → has between v ≡ (leb 1 v && leb v n && not (has met v))
-    pub swept-is : Swept adj (has between) (has goal) (has swept)
-    pub opens-is :
-        (v : ℕ) →
-        has opens v ≡ (leb 1 v && leb v n && not (eqb v s) && (has last v && not (has others v)) && has swept v)
+pub record PathSwept (adj : Adjacency) (k : PathParts) (goal between swept opens : List ℕ) : Type 0 where
+  pub goal-is : (v : ℕ) → has goal v ≡ eqb v (k .t)
+  pub between-is : (v : ℕ) → has between v ≡ (isOne k v && not (has (k .met) v))
+  pub swept-is : Swept adj (has between) (has goal) (has swept)
+  pub opens-is : (v : ℕ) → has opens v ≡ (isOne k v && not (eqb v (k .s)) && isNext k v && has swept v)
 
 eqb-swap : (a b : ℕ) → eqb a b ≡ eqb b a
 eqb-swap a b =
@@ -56,71 +70,74 @@ path-first n adj s t [] h e = absurd (omega arith)
 path-first n adj s t (x ∷ p) h e =
     let (c, r, f) = paths-open n adj s t x p .0 e in path-stem n adj s t x p c r f .first
 
-module _ {n : ℕ} {adj : Adjacency} {s t : ℕ} {p others last met members : List ℕ} (irr : Irreflexive n adj)
-    (long : 1 ≤ length p) (opened : isOpen (paths n adj s t) p ≡ true)
-    (k : PathSets n adj s t p others last met members) where
-  told-member : (v : ℕ) → has members v ≡ paths n adj s t .member (p ++ v ∷ [])
-  told-member v =
-      k .members-is v ∙ ap (λ (b : Bool). eqb v t && b) (sym (only-last (k .behind) long v)) ∙
-      sym (path-member n adj s t p v long opened)
+module _ {adj : Adjacency} {p : List ℕ} {k : PathParts} {members : List ℕ} (irr : Irreflexive (k .n) adj)
+    (long : 1 ≤ length p) (opened : isOpen (paths (k .n) adj (k .s) (k .t)) p ≡ true) (r : PathSets adj p k members)
+  where
+    told-member : (v : ℕ) → has members v ≡ paths (k .n) adj (k .s) (k .t) .member (p ++ v ∷ [])
+    told-member v =
+        r .members-is v ∙ ap (λ (b : Bool). eqb v (k .t) && b) (sym (only-last (r .behind) long v)) ∙
+        sym (path-member (k .n) adj (k .s) (k .t) p v long opened)
 
-  met-clear : (v : ℕ) → not (has met v) ≡ clear adj p v
-  met-clear v = ap not (k .met-is v) ∙ sym (none-met (k .behind) long v)
+    met-clear : (v : ℕ) → not (has (k .met) v) ≡ clear adj p v
+    met-clear v = ap not (r .met-is v) ∙ sym (none-met (r .behind) long v)
 
-  -- t is bonded to the beginning
-  none-opens : has met t ≡ true → (v : ℕ) → isOpen (paths n adj s t) (p ++ v ∷ []) ≡ false
-  none-opens h v =
-      false-of (isOpen (paths n adj s t) (p ++ v ∷ []))
-      (λ o. let ahead = path-opens n adj s t irr p v long opened .0 o .ahead in
-      clash (clear adj p t) ahead (sym (met-clear t) ∙ ap not h))
+    -- t is bonded to the beginning
+    none-opens : has (k .met) (k .t) ≡ true → (v : ℕ) → isOpen (paths (k .n) adj (k .s) (k .t)) (p ++ v ∷ []) ≡ false
+    none-opens h v =
+        false-of (isOpen (paths (k .n) adj (k .s) (k .t)) (p ++ v ∷ []))
+        (λ o. let ahead = path-opens (k .n) adj (k .s) (k .t) irr p v long opened .0 o .ahead in
+        clash (clear adj p (k .t)) ahead (sym (met-clear (k .t)) ∙ ap not h))
 
-  -- t is not
-  module _ {goal between swept opens : List ℕ} (h : has met t ≡ false)
-      (w : PathSwept n adj s t others last met goal between swept opens) where
-    sweeps : Sweeps n 0 adj (free n adj 0 p) (λ b. eqb b t) (has swept)
-    sweeps = swept-sweeps n 0 (swept-same (λ a b. refl) between-free (w .goal-is) (w .swept-is))
-      where
-        between-free : (u : ℕ) → has between u ≡ free n adj 0 p u
-        between-free u =
-            w .between-is u ∙ ap (λ (b : Bool). leb 1 u && leb u n && b) (met-clear u) ∙ (unfold free in refl)
+    -- t is not
+    module _ {goal between swept opens : List ℕ} (h : has (k .met) (k .t) ≡ false)
+        (w : PathSwept adj k goal between swept opens) where
+      between-free : (u : ℕ) → has between u ≡ free (k .n) adj 0 p u
+      unfolding free
+      between-free u = w .between-is u ∙ ap (λ (b : Bool). isOne k u && b) (met-clear u)
 
-    touching :
-        (v : ℕ) →
-        (leb 1 v && leb v n && not (eqb v s) && (has last v && not (has others v))) ≡
-        (leb 1 v && leb v n && not (eqb (atomAt p 0) v) && touchesOnlyLast adj p v && clear adj p t)
-    touching v =
-        let ahead = sym (met-clear t) ∙ ap not h in
-        rw (ahead, only-last (k .behind) long v, path-first n adj s t p long opened, eqb-swap s v)
-        (sym (and-true (leb 1 v && leb v n && not (eqb v s) && (has last v && not (has others v)))))
+      sweeps : Sweeps (k .n) 0 adj (free (k .n) adj 0 p) (λ b. eqb b (k .t)) (has swept)
+      sweeps = swept-sweeps (k .n) 0 (swept-same (λ a b. refl) between-free (w .goal-is) (w .swept-is))
 
-    told-opens : (v : ℕ) → has opens v ≡ isOpen (paths n adj s t) (p ++ v ∷ [])
-    told-opens v =
-        w .opens-is v ∙ ap (λ (b : Bool). b && has swept v) (touching v) ∙
-        sym (path-sweep n adj s t irr p (has swept) long opened sweeps v)
+      open-test :
+          (v : ℕ) →
+          (isOne k v && not (eqb v (k .s)) && isNext k v) ≡
+          (isOne k v && not (eqb (atomAt p 0) v) && touchesOnlyLast adj p v && clear adj p (k .t))
+      open-test v =
+          let ahead = sym (met-clear (k .t)) ∙ ap not h in
+          let first = path-first (k .n) adj (k .s) (k .t) p long opened in
+          rw (ahead, only-last (r .behind) long v, first, eqb-swap (k .s) v)
+          (sym (and-true (isOne k v && not (eqb v (k .s)) && isNext k v)))
+
+      told-opens : (v : ℕ) → has opens v ≡ isOpen (paths (k .n) adj (k .s) (k .t)) (p ++ v ∷ [])
+      told-opens v =
+          w .opens-is v ∙ ap (λ (b : Bool). b && has swept v) (open-test v) ∙
+          sym (path-sweep (k .n) adj (k .s) (k .t) irr p (has swept) long opened sweeps v)
 
 -- the sets of an open beginning tell of every atom
-module _ {n : ℕ} {table : List ℕ} {s t : ℕ} {prefix : List ℕ} {len : ℕ} {others last met members : List ℕ}
-    (b : PathBegun n table s t prefix len)
-    (k : PathSets n (linkedBy table) s t (take len prefix) others last met members) where
+module _ {table prefix : List ℕ} {len : ℕ} {k : PathParts} {members : List ℕ}
+    (b : PathBegun (k .n) table (k .s) (k .t) prefix len)
+    (r : PathSets (linkedBy table) (take len prefix) k members) where
   abbrev Told : List ℕ → Type 0
-  Told opens = Everywhere (paths n (linkedBy table) s t) (take len prefix) (record { members = members; opens = opens })
+  Told opens =
+      Everywhere (paths (k .n) (linkedBy table) (k .s) (k .t)) (take len prefix)
+      (record { members = members; opens = opens })
 
-  pub path-shut : {opens : List ℕ} → has met t ≡ true → ((v : ℕ) → has opens v ≡ false) → Told opens
+  pub path-shut : {opens : List ℕ} → has (k .met) (k .t) ≡ true → ((v : ℕ) → has opens v ≡ false) → Told opens
   path-shut h e v =
       let irr = b .opened .words .irreflexive in
       record {
-        members = told-member irr (path-length b) (b .opened .isOpened) k v;
-        opens = e v ∙ sym (none-opens irr (path-length b) (b .opened .isOpened) k h v);
+        members = told-member irr (path-length b) (b .opened .isOpened) r v;
+        opens = e v ∙ sym (none-opens irr (path-length b) (b .opened .isOpened) r h v);
       }
 
   pub path-told :
-      {goal between swept opens : List ℕ} → has met t ≡ false →
-      PathSwept n (linkedBy table) s t others last met goal between swept opens → Told opens
+      {goal between swept opens : List ℕ} → has (k .met) (k .t) ≡ false →
+      PathSwept (linkedBy table) k goal between swept opens → Told opens
   path-told h w v =
       let irr = b .opened .words .irreflexive in
       record {
-        members = told-member irr (path-length b) (b .opened .isOpened) k v;
-        opens = told-opens irr (path-length b) (b .opened .isOpened) k h w v;
+        members = told-member irr (path-length b) (b .opened .isOpened) r v;
+        opens = told-opens irr (path-length b) (b .opened .isOpened) r h w v;
       }
 
 -- ---- the empty beginning

@@ -28,7 +28,8 @@ row-requires : tie.Need-row-requires Inv-loop μ-loop
 row-requires c κs =
     let start : Place tie.Start = search in
     let turn : Place tie.In-loop = search in
-    rw (c .u8-usize .ensures .same) (start .pre .atoms _ (turn .loop-test .taken))
+    let read : Place tie.After-u8-usize = search in
+    rw (read .u8-usize .ensures .same) (start .pre .atoms _ (turn .loop-test .taken))
 
 add-i : tie.Need-add-i Inv-loop μ-loop
 add-i c = let start : Place tie.Start = search in omega (arith, start .pre .most)
@@ -37,8 +38,9 @@ loop-again : tie.Need-loop-again Inv-loop μ-loop
 loop-again c =
     let turn : Place tie.In-loop = search in
     let read : Place tie.After-u8-usize = search in
+    let row : Place tie.After-row = search in
     near-to-more (turn .before .loop .inv) (turn .loop-test .taken) (read .u8-usize .ensures .same)
-    (c .before .row .ensures) (c .union .ensures)
+    (row .row .ensures) (c .union .ensures)
 
 returns : tie.Need-returns Inv-loop μ-loop
 returns c = near-to-end (c .before .loop .inv) (c .loop-test .left)

@@ -1,16 +1,14 @@
 -- `openness::path_plan` meets its contract. Each set is read off the calls that make it, and `path-told` says what
 -- the sets tell; where t is bonded to the beginning, `path-shut` does.
-use Prim.Native.Nat.{ℕ, _≤_}
+use Prim.Native.Nat.{_≤_}
 use native.Mathlib.Omega.{arith}
-use mathlib.Core.Path.{_≡_, sym, _∙_}
-use mathlib.Core.Bool.{_&&_, not}
+use mathlib.Core.Path.{sym, _∙_}
 use lib.ListN.{take}
-use lib.Dec.{leb, eqb}
 use borrow.Author.Needs.{needs}
-use Rattle.atomset.specs.Set.{has, linkedBy}
+use Rattle.atomset.specs.Set.{linkedBy}
 use Rattle.search.proofs.Readings.{Ends, ends-facts}
 use Rattle.openness.proofs.Arrays.{path-last, path-others, path-behind}
-use Rattle.openness.proofs.Paths.{PathSets, PathSwept, path-shut, path-told}
+use Rattle.openness.proofs.Paths.{PathParts, PathSets, PathSwept, path-shut, path-told}
 use Rattle.openness.proofs.path_plan.Statement.{statement}
 use Rattle.openness.proofs.path_plan.Tie as tie
 
@@ -47,11 +45,20 @@ t-in-set c = (ends c .t-low, omega (arith, ends c .t-high, c .pre .opened .words
 s-in-set : (c : tie.Start) → (1 ≤ c .args .s) × (c .args .s ≤ 128)
 s-in-set c = (ends c .s-low, omega (arith, ends c .s-high, c .pre .opened .words .few))
 
+abbrev parts : tie.After-contains → PathParts
+parts c = record {
+  n = start (rows c) .args .n;
+  s = start (rows c) .args .s;
+  t = start (rows c) .args .t;
+  others = rows c .near .result;
+  last = rows c .before .row .result;
+  met = c .before .union .result;
+}
+
 sets :
     (c : tie.After-contains) →
     let args = start (rows c) .args in
-    PathSets (args .n) (linkedBy (args .table .now)) (args .s) (args .t) (take (args .len) (args .prefix .now))
-    (rows c .near .result) (rows c .before .row .result) (c .before .union .result)
+    PathSets (linkedBy (args .table .now)) (take (args .len) (args .prefix .now)) (parts c)
     (c .before .before .intersection .result)
 sets c =
     let start : tie.Start = search in
@@ -59,21 +66,19 @@ sets c =
     let row : tie.After-row = search in
     record {
       behind = path-behind (start .pre) (read .u8-usize .ensures .same) (rows c .near .ensures) (row .row .ensures);
+      met-is = c .before .union .ensures;
       members-is = λ v.
           rw (
             c .before .before .intersection .ensures v,
             goal c .single .ensures v,
             c .before .before .before .minus .ensures v,
           );
-      met-is = c .before .union .ensures;
     }
 
 sweeps :
     (c : tie.After-intersection3) →
     let at = tested (swept c) in
-    let args = start (rows at) .args in
-    PathSwept (args .n) (linkedBy (args .table .now)) (args .s) (args .t) (rows at .near .result)
-    (rows at .before .row .result) (at .before .union .result) (goal at .single .result)
+    PathSwept (linkedBy (start (rows at) .args .table .now)) (parts at) (goal at .single .result)
     (swept c .before .minus2 .result) (swept c .sweep .result) (c .intersection3 .result)
 sweeps c =
     let from-last : tie.After-minus = search in
