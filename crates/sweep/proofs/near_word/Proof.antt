@@ -43,7 +43,9 @@ loop-less c =
 loop-again : tie.Need-loop-again Inv-loop μ-loop
 loop-again c =
     let loop : Place tie.At-loop = search in
-    passed-more (loop .loop .inv) (c .before .before .lowest-bit .ensures) (c .before .row .ensures) (c .union .ensures)
+    let low : Place tie.After-lowest-bit = search in
+    let row : Place tie.After-row = search in
+    passed-more (loop .loop .inv) (low .lowest-bit .ensures) (row .row .ensures) (c .union .ensures)
 
 returns : tie.Need-returns Inv-loop μ-loop
 returns c = passed-all (c .before .loop .inv) (omega arith)
