@@ -20,8 +20,6 @@ use Rattle.search.proofs.Readings.{ends-facts}
 use Rattle.atomset.specs.Set.{has, linkedBy}
 use Rattle.sweep.specs.Swept.{Swept}
 use Rattle.sweep.proofs.Walks.{swept-same, swept-sweeps}
-use Rattle.openness.specs.declared.Plan.{Plan}
-use Rattle.openness.specs.Plan.{Tells}
 use Rattle.openness.specs.Parts.{Everywhere, PathBegun, TwoEnds}
 use Rattle.openness.proofs.Arrays.{path-length}
 use Rattle.openness.proofs.Sets.{Behind, only-last, none-met}

@@ -1,6 +1,6 @@
 -- The plan of a beginning, from what is found at each kind and length.
 -- A beginning of at most one atom has its next atom alone; a longer one has every atom.
-use Prim.Native.Nat.{ℕ, _≤_, _<_}
+use Prim.Native.Nat.{ℕ, _≤_}
 use native.Mathlib.Omega.{arith}
 use mathlib.Core.Path.{_≡_, refl, sym, _∙_}
 use mathlib.Core.Bool.{Bool, true, false, cond, and-true, and-false}
@@ -22,7 +22,7 @@ use Rattle.search.specs.Place.{kindKept, endsKept}
 use Rattle.search.proofs.Readings.{kind-facts, KindFacts, ends-facts, ends-of}
 use Rattle.openness.specs.declared.Plan.{Plan}
 use Rattle.openness.specs.Plan.{familyBy, Planned, Beginning}
-use Rattle.openness.specs.Parts.{Opened, RingBegun, PathBegun, OneAtom, TwoAtoms, TwoEnds, Everywhere, Alone}
+use Rattle.openness.specs.Parts.{RingBegun, PathBegun, OneAtom, TwoAtoms, TwoEnds, Everywhere, Alone}
 use Rattle.openness.proofs.Arrays.{open-atoms}
 
 -- ---- the family of a kind

@@ -1,6 +1,6 @@
 -- `openness::ring_plan` meets its contract. Each set is read off the calls that make it, and `ring-told` says what
 -- the sets tell. The atoms of the beginning are from 1 to n, since it is open.
-use Prim.Native.Nat.{ℕ, _≤_}
+use Prim.Native.Nat.{ℕ}
 use native.Mathlib.Omega.{arith}
 use mathlib.Core.Path.{_≡_}
 use mathlib.Core.Bool.{_&&_, not}
