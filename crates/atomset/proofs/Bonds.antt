@@ -23,11 +23,11 @@ pub record InRange (a b : ℕ) : Type 0 where
 pub linked-range : (table : List ℕ) (a b : ℕ) → linkedBy table a b ≡ true → InRange a b
 unfolding linkedBy
 linked-range table a b e =
-    let outer = and-parts (isAtom 128 a && isAtom 128 b)
-    (bit (getD table (2 * (a - 1) + (b - 1) / 64) 0) ((b - 1) % 64)) e in
-    let inner = and-parts (isAtom 128 a) (isAtom 128 b) (outer .0) in
-    let left = atom-bounds 128 a (inner .0) in
-    let right = atom-bounds 128 b (inner .1) in
+    let bond = bit (getD table (2 * (a - 1) + (b - 1) / 64) 0) ((b - 1) % 64) in
+    let (atoms, set) = and-parts (isAtom 128 a && isAtom 128 b) bond e in
+    let (is-a, is-b) = and-parts (isAtom 128 a) (isAtom 128 b) atoms in
+    let left = atom-bounds 128 a is-a in
+    let right = atom-bounds 128 b is-b in
     record { left-low = left .0; left-high = left .1; right-low = right .0; right-high = right .1 }
 
 module _ (mol : Molecule) (ok : wellFormed mol ≡ true) (table : List ℕ) (words : WordsOf (mol .rows) table) where
@@ -38,11 +38,13 @@ module _ (mol : Molecule) (ok : wellFormed mol ≡ true) (table : List ℕ) (wor
   mirror a b r e =
       sound-of-rules (mol .rows) (mol .atoms) (rule9 mol ok .rows-sound) (a - 1) (b - 1) (omega arith) (omega arith) e
 
+  cell-set : (a b : ℕ) → InRange a b → linkedBy table a b ≡ true → cell (mol .rows) (a - 1) (b - 1) ≡ true
+  cell-set a b r e = sym (words a b (r .left-low) (r .left-high) (r .right-low) (r .right-high)) ∙ e
+
   to-bonded : (a b : ℕ) → linkedBy table a b ≡ true → bonded (mol .atoms) (mol .rows) a b ≡ true
   to-bonded a b e =
       let r = linked-range table a b e in
-      let set : cell (mol .rows) (a - 1) (b - 1) ≡ true =
-      sym (words a b (r .left-low) (r .left-high) (r .right-low) (r .right-high)) ∙ e in
+      let set = cell-set a b r e in
       let m = mirror a b r set in
       bonded-cell (mol .atoms) (mol .rows) a b (r .left-low) (omega arith) (r .right-low) (omega arith) ∙ set
 

@@ -25,6 +25,9 @@ bit-next x k = ap (λ (n : ℕ). eqb (n % 2) 1) (ap (λ (n : ℕ). x / 2 ^ n) (s
 pub bit-none : (k : ℕ) → bit 0 k ≡ false
 bit-none k = rw (zero-div (2 ^ k))
 
+digit : (x : ℕ) → x % 2 < 2
+digit x = mod-lt x (zero-lt-suc 1)
+
 -- and, or
 
 and-digit : (p q : ℕ) → p < 2 → q < 2 → eqb (bitAnd p q) 1 ≡ (eqb p 1 && eqb q 1)
@@ -43,14 +46,17 @@ or-digit (suc (suc p)) q hp hq = absurd (omega arith)
 
 pub bit-and : (x y k : ℕ) → bit (bitAnd x y) k ≡ (bit x k && bit y k)
 bit-and x y k =
-    ap (λ (n : ℕ). eqb (n % 2) 1) (and-shr x y k) ∙ ap (λ (n : ℕ). eqb n 1) (and-mod (x / 2 ^ k) (y / 2 ^ k) 1)
-    ∙ and-digit (x / 2 ^ k % 2) (y / 2 ^ k % 2) (mod-lt (x / 2 ^ k) (zero-lt-suc 1))
-    (mod-lt (y / 2 ^ k) (zero-lt-suc 1))
+    let p = x / 2 ^ k in
+    let q = y / 2 ^ k in
+    ap (λ (n : ℕ). eqb (n % 2) 1) (and-shr x y k) ∙ ap (λ (n : ℕ). eqb n 1) (and-mod p q 1) ∙
+    and-digit (p % 2) (q % 2) (digit p) (digit q)
 
 pub bit-or : (x y k : ℕ) → bit (bitOr x y) k ≡ (bit x k || bit y k)
 bit-or x y k =
-    ap (λ (n : ℕ). eqb (n % 2) 1) (or-shr x y k) ∙ ap (λ (n : ℕ). eqb n 1) (or-mod (x / 2 ^ k) (y / 2 ^ k) 1)
-    ∙ or-digit (x / 2 ^ k % 2) (y / 2 ^ k % 2) (mod-lt (x / 2 ^ k) (zero-lt-suc 1)) (mod-lt (y / 2 ^ k) (zero-lt-suc 1))
+    let p = x / 2 ^ k in
+    let q = y / 2 ^ k in
+    ap (λ (n : ℕ). eqb (n % 2) 1) (or-shr x y k) ∙ ap (λ (n : ℕ). eqb n 1) (or-mod p q 1) ∙
+    or-digit (p % 2) (q % 2) (digit p) (digit q)
 
 -- a number less what it shares with another: no place borrows from the next
 
@@ -59,6 +65,16 @@ half-less x a r m e h l = omega arith
 
 odd-less : (x a r m : ℕ) → a ≡ r * 2 + m → r ≤ x / 2 → m ≤ x % 2 → (x - a) % 2 ≡ x % 2 - m
 odd-less x a r m e h l = omega arith
+
+and-half : (x y : ℕ) → (x - bitAnd x y) / 2 ≡ x / 2 - bitAnd (x / 2) (y / 2)
+and-half x y =
+    half-less x (bitAnd x y) (bitAnd (x / 2) (y / 2)) (min (x % 2) (y % 2)) (and-step x y) (and-le-l (x / 2) (y / 2))
+    (min-le-left (x % 2) (y % 2))
+
+and-odd : (x y : ℕ) → (x - bitAnd x y) % 2 ≡ x % 2 - min (x % 2) (y % 2)
+and-odd x y =
+    odd-less x (bitAnd x y) (bitAnd (x / 2) (y / 2)) (min (x % 2) (y % 2)) (and-step x y) (and-le-l (x / 2) (y / 2))
+    (min-le-left (x % 2) (y % 2))
 
 less-digit : (p q : ℕ) → p < 2 → q < 2 → eqb (p - min p q) 1 ≡ (eqb p 1 && not (eqb q 1))
 less-digit zero zero hp hq = refl
@@ -71,19 +87,12 @@ less-digit (suc (suc p)) q hp hq = absurd (omega arith)
 
 pub bit-less : (x y k : ℕ) → bit (x - bitAnd x y) k ≡ (bit x k && not (bit y k))
 bit-less x y zero =
-    bit-first (x - bitAnd x y)
-    ∙ ap (λ (n : ℕ). eqb n 1)
-    (odd-less x (bitAnd x y) (bitAnd (x / 2) (y / 2)) (min (x % 2) (y % 2)) (and-step x y) (and-le-l (x / 2) (y / 2))
-    (min-le-left (x % 2) (y % 2)))
-    ∙ less-digit (x % 2) (y % 2) (mod-lt x (zero-lt-suc 1)) (mod-lt y (zero-lt-suc 1))
-    ∙ ap₂ (λ (p q : Bool). p && not q) (sym (bit-first x)) (sym (bit-first y))
+    bit-first (x - bitAnd x y) ∙ ap (λ (n : ℕ). eqb n 1) (and-odd x y) ∙
+    less-digit (x % 2) (y % 2) (digit x) (digit y) ∙
+    ap₂ (λ (p q : Bool). p && not q) (sym (bit-first x)) (sym (bit-first y))
 bit-less x y (suc k) =
-    bit-next (x - bitAnd x y) k
-    ∙ ap (λ (n : ℕ). bit n k)
-    (half-less x (bitAnd x y) (bitAnd (x / 2) (y / 2)) (min (x % 2) (y % 2)) (and-step x y) (and-le-l (x / 2) (y / 2))
-    (min-le-left (x % 2) (y % 2)))
-    ∙ bit-less (x / 2) (y / 2) k
-    ∙ ap₂ (λ (p q : Bool). p && not q) (sym (bit-next x k)) (sym (bit-next y k))
+    bit-next (x - bitAnd x y) k ∙ ap (λ (n : ℕ). bit n k) (and-half x y) ∙ bit-less (x / 2) (y / 2) k ∙
+    ap₂ (λ (p q : Bool). p && not q) (sym (bit-next x k)) (sym (bit-next y k))
 
 -- one bit
 
@@ -111,7 +120,7 @@ bit-ones (suc i) (suc k) =
 -- the lowest bit of a word
 
 low-digit : (n : ℕ) → (n % 2 ≡ 0) ⊎ (n % 2 ≡ 1)
-low-digit n = split (n % 2) refl (mod-lt n (zero-lt-suc 1))
+low-digit n = split (n % 2) refl (digit n)
   where
     split : (d : ℕ) → n % 2 ≡ d → d < 2 → (n % 2 ≡ 0) ⊎ (n % 2 ≡ 1)
     split zero e h = inl e
@@ -121,7 +130,7 @@ low-digit n = split (n % 2) refl (mod-lt n (zero-lt-suc 1))
 pub trailing-below : (k n : ℕ) → 0 < n → n < 2 ^ k → trailingZeros k n < k
 unfolding trailingZeros
 trailing-below zero n p h = absurd (omega arith)
-trailing-below (suc k) n p h = split (low-digit n) (λ q. trailing-below k (n / 2) q (half))
+trailing-below (suc k) n p h = split (low-digit n) (λ q. trailing-below k (n / 2) q half)
   where
     half : n / 2 < 2 ^ k
     half = let small : n < 2 ^ k * 2 = rw (pow-suc 2 k) at h in omega arith
@@ -139,8 +148,8 @@ trailing-set (suc k) n h = split (low-digit n) h (λ q. trailing-set k (n / 2) q
   where
     split :
         (n % 2 ≡ 0) ⊎ (n % 2 ≡ 1) → under (n % 2) (trailingZeros k (n / 2)) < suc k →
-        (trailingZeros k (n / 2) < k → bit (n / 2) (trailingZeros k (n / 2)) ≡ true)
-        → bit n (under (n % 2) (trailingZeros k (n / 2))) ≡ true
+        (trailingZeros k (n / 2) < k → bit (n / 2) (trailingZeros k (n / 2)) ≡ true) →
+        bit n (under (n % 2) (trailingZeros k (n / 2))) ≡ true
     split (inl e) b rest =
         let below : suc (trailingZeros k (n / 2)) < suc k = rw e at b in
         let set : bit (n / 2) (trailingZeros k (n / 2)) ≡ true = rest (omega arith) in

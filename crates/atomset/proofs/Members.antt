@@ -12,7 +12,7 @@ use lib.Dec.{leb, ltb, eqb}
 use lib.Pow.{shl-exact}
 use lib.Bits.{bitAnd, bitOr}
 use lib.Count.{trailingZeros}
-use borrow.Author.Tests.{le-leb, leb-true, leb-false, lt-leb, lt-ltb, le-ltb, ltb-true, eq-eqb, ne-eqb, eqb-true, eqb-false}
+use borrow.Author.Tests.{le-leb, leb-true, leb-false, lt-leb, lt-ltb, le-ltb, ltb-true, ltb-false, eq-eqb, ne-eqb, eqb-true, eqb-false}
 use Rattle.graph.proofs.Below.{apart, clash, either, and-parts, same-test, false-of}
 use Rattle.molecule.specs.Record.{bit, isAtom}
 use Rattle.atomset.specs.Set.{has, isEmpty, Emptiness, Lowest, LowestBit}
@@ -84,8 +84,8 @@ has-range words a e =
 -- a set of two words, by the places of its atoms
 by-zone :
     (words : List ℕ) (a : ℕ) (t : Bool) → ((1 ≤ a → 128 < a) → t ≡ false) →
-    (1 ≤ a → a ≤ 64 → bit (getD words 0 0) (a - 1) ≡ t) → (65 ≤ a → a ≤ 128 → bit (getD words 1 0) (a - 65) ≡ t)
-    → has words a ≡ t
+    (1 ≤ a → a ≤ 64 → bit (getD words 0 0) (a - 1) ≡ t) →
+    (65 ≤ a → a ≤ 128 → bit (getD words 1 0) (a - 65) ≡ t) → has words a ≡ t
 by-zone words a t out low high = split (zone a)
   where
     split : Zone a → has words a ≡ t
@@ -93,41 +93,35 @@ by-zone words a t out low high = split (zone a)
     split (first l h) = has-first words a l h ∙ low l h
     split (second l h) = has-second words a l h ∙ high l h
 
--- An operation on the words that works place by place
+-- an operation on each of the two words
+abbrev wordwise : (ℕ → ℕ → ℕ) → List ℕ → List ℕ → List ℕ
+wordwise op x y = op (getD x 0 0) (getD y 0 0) ∷ op (getD x 1 0) (getD y 1 0) ∷ []
+
+-- one that works place by place
 module _ (op : ℕ → ℕ → ℕ) (test : Bool → Bool → Bool) (none : test false false ≡ false)
     (same : (x y k : ℕ) → bit (op x y) k ≡ test (bit x k) (bit y k)) where
-  has-both :
-      (x y : List ℕ) (a : ℕ) → has (op (getD x 0 0) (getD y 0 0) ∷ op (getD x 1 0) (getD y 1 0) ∷ []) a ≡
-      test (has x a) (has y a)
+  has-both : (x y : List ℕ) (a : ℕ) → has (wordwise op x y) a ≡ test (has x a) (has y a)
   has-both x y a = split (zone a)
     where
-      split :
-          Zone a → has (op (getD x 0 0) (getD y 0 0) ∷ op (getD x 1 0) (getD y 1 0) ∷ []) a ≡ test (has x a) (has y a)
+      split : Zone a → has (wordwise op x y) a ≡ test (has x a) (has y a)
       split (outside e o) =
-          has-outside (op (getD x 0 0) (getD y 0 0) ∷ op (getD x 1 0) (getD y 1 0) ∷ []) a e ∙ sym none ∙
+          has-outside (wordwise op x y) a e ∙ sym none ∙
           ap₂ test (sym (has-outside x a e)) (sym (has-outside y a e))
       split (first l h) =
-          has-first (op (getD x 0 0) (getD y 0 0) ∷ op (getD x 1 0) (getD y 1 0) ∷ []) a l h ∙
-          same (getD x 0 0) (getD y 0 0) (a - 1)
-          ∙ ap₂ test (sym (has-first x a l h)) (sym (has-first y a l h))
+          has-first (wordwise op x y) a l h ∙ same (getD x 0 0) (getD y 0 0) (a - 1) ∙
+          ap₂ test (sym (has-first x a l h)) (sym (has-first y a l h))
       split (second l h) =
-          has-second (op (getD x 0 0) (getD y 0 0) ∷ op (getD x 1 0) (getD y 1 0) ∷ []) a l h ∙
-          same (getD x 1 0) (getD y 1 0) (a - 65)
-          ∙ ap₂ test (sym (has-second x a l h)) (sym (has-second y a l h))
+          has-second (wordwise op x y) a l h ∙ same (getD x 1 0) (getD y 1 0) (a - 65) ∙
+          ap₂ test (sym (has-second x a l h)) (sym (has-second y a l h))
 
-pub has-union :
-    (x y : List ℕ) (a : ℕ) → has (bitOr (getD x 0 0) (getD y 0 0) ∷ bitOr (getD x 1 0) (getD y 1 0) ∷ []) a ≡
-    (has x a || has y a)
+pub has-union : (x y : List ℕ) (a : ℕ) → has (wordwise bitOr x y) a ≡ (has x a || has y a)
 has-union = has-both bitOr (λ p q. p || q) refl bit-or
 
-pub has-intersection :
-    (x y : List ℕ) (a : ℕ) → has (bitAnd (getD x 0 0) (getD y 0 0) ∷ bitAnd (getD x 1 0) (getD y 1 0) ∷ []) a ≡
-    (has x a && has y a)
+pub has-intersection : (x y : List ℕ) (a : ℕ) → has (wordwise bitAnd x y) a ≡ (has x a && has y a)
 has-intersection = has-both bitAnd (λ p q. p && q) refl bit-and
 
-pub has-minus : (x y : List ℕ) (a : ℕ)
-    → has ((getD x 0 0 - bitAnd (getD x 0 0) (getD y 0 0)) ∷ (getD x 1 0 - bitAnd (getD x 1 0) (getD y 1 0)) ∷ []) a ≡
-    (has x a && not (has y a))
+pub has-minus :
+    (x y : List ℕ) (a : ℕ) → has (wordwise (λ m n. m - bitAnd m n) x y) a ≡ (has x a && not (has y a))
 has-minus = has-both (λ m n. m - bitAnd m n) (λ p q. p && not q) refl bit-less
 
 pub has-empty : (a : ℕ) → has (0 ∷ 0 ∷ []) a ≡ false
@@ -202,8 +196,8 @@ pub has-up-to-second :
 has-up-to-second n l h a =
     by-zone ((2 ^ 64 - 1) ∷ (2 ^ (n - 64) - 1) ∷ []) a (isAtom n a) (λ o. not-atom n a h o)
     (λ la ha. bit-ones 64 (a - 1) ∙ ltb-less a 64 0 64 la refl ∙ le-leb a 64 ha ∙ sym (is-atom n a la (omega arith)))
-    (λ la ha. bit-ones (n - 64) (a - 65) ∙ ltb-less a n 64 (n - 64) la (omega arith) ∙
-    sym (atom-upper n a (omega arith)))
+    (λ la ha. let upper = atom-upper n a (omega arith) in
+    bit-ones (n - 64) (a - 65) ∙ ltb-less a n 64 (n - 64) la (omega arith) ∙ sym upper)
 
 -- the atoms up to n that are not up to `low`
 pub range-test : (low n a : ℕ) → (isAtom n a && not (isAtom low a)) ≡ (ltb low a && leb a n)
@@ -245,46 +239,53 @@ words-none words z =
 pub some-not-empty : (words : List ℕ) (a : ℕ) → has words a ≡ true → isEmpty words ≡ false
 some-not-empty words a e = false-of (isEmpty words) (λ t. clash (has words a) e (empty-none words t a))
 
-pub lowest-first : (words : List ℕ) (j : ℕ) → LowestBit (getD words 0 0) j → Lowest words (j + 1)
-lowest-first words j b =
-    let below = b .below in
-    let same : j + 1 - 1 ≡ j = omega arith in
+-- the lowest bit of word k is the lowest atom, where the words before it are 0
+lowest-word :
+    (words : List ℕ) (k j : ℕ) → k < 2 → ((w : ℕ) → w < k → getD words w 0 ≡ 0) → LowestBit (getD words k 0) j →
+    Lowest words (64 * k + j + 1)
+lowest-word words k j inside zeros b =
     record {
       low = omega arith;
-      high = omega arith;
-      member = has-first words (j + 1) (omega arith) (omega arith) ∙
-          ap (λ (k : ℕ). bit (getD words 0 0) k) same ∙ b .set;
-      least = least;
+      high = omega (arith, b .below);
+      member = has-word words k j inside (b .below) ∙ b .set;
+      least = λ a e. least a (has-range words a e) e;
     }
   where
-    least : (a : ℕ) → has words a ≡ true → j + 1 ≤ a
-    least a e = split (zone a)
+    least : (a : ℕ) → (1 ≤ a) × (a ≤ 128) → has words a ≡ true → 64 * k + j + 1 ≤ a
+    least a (low, high) e = split (either (ltb w k)) (either (eqb w k))
       where
-        split : Zone a → j + 1 ≤ a
-        split (outside o p) = absurd (clash (has words a) e (has-outside words a o))
-        split (first l h) = let up : j ≤ a - 1 = b .least (a - 1) (sym (has-first words a l h) ∙ e) in omega arith
-        split (second l h) = let below = b .below in omega arith
+        w : ℕ
+        w = (a - 1) / 64
+
+        i : ℕ
+        i = (a - 1) % 64
+
+        set : bit (getD words w 0) i ≡ true
+        set = has-atom words a low high ∙ e
+
+        split :
+            (ltb w k ≡ true) ⊎ (ltb w k ≡ false) → (eqb w k ≡ true) ⊎ (eqb w k ≡ false) → 64 * k + j + 1 ≤ a
+        split (inl l) q =
+            let none : bit (getD words w 0) i ≡ false = rw (zeros w (ltb-true w k l)) (bit-none i) in
+            absurd (clash (bit (getD words w 0) i) set none)
+        split (inr l) (inl q) =
+            let same : w ≡ k = eqb-true w k q in
+            let up : j ≤ i = b .least i (rw same at set) in
+            omega arith
+        split (inr l) (inr q) =
+            let above = ltb-false w k l in
+            let other = eqb-false w k q in
+            omega (arith, b .below)
+
+pub lowest-first : (words : List ℕ) (j : ℕ) → LowestBit (getD words 0 0) j → Lowest words (j + 1)
+lowest-first words j b =
+    let same : 64 * 0 + j + 1 ≡ j + 1 = omega arith in
+    rw same at (lowest-word words 0 j (omega arith) (λ w h. absurd (omega arith)) b)
 
 pub lowest-second : (words : List ℕ) (j : ℕ) → getD words 0 0 ≡ 0 → LowestBit (getD words 1 0) j → Lowest words (j + 65)
 lowest-second words j z b =
-    let below = b .below in
-    let same : j + 65 - 65 ≡ j = omega arith in
-    record {
-      low = omega arith;
-      high = omega arith;
-      member = has-second words (j + 65) (omega arith) (omega arith) ∙
-          ap (λ (k : ℕ). bit (getD words 1 0) k) same ∙ b .set;
-      least = least;
-    }
-  where
-    least : (a : ℕ) → has words a ≡ true → j + 65 ≤ a
-    least a e = split (zone a)
-      where
-        split : Zone a → j + 65 ≤ a
-        split (outside o p) = absurd (clash (has words a) e (has-outside words a o))
-        split (first l h) =
-            absurd (clash (has words a) e (has-first words a l h ∙ ap (λ (n : ℕ). bit n (a - 1)) z ∙ bit-none (a - 1)))
-        split (second l h) = let up : j ≤ a - 65 = b .least (a - 65) (sym (has-second words a l h) ∙ e) in omega arith
+    let same : 64 * 1 + j + 1 ≡ j + 65 = omega arith in
+    rw same at (lowest-word words 1 j (omega arith) (λ w h. let first : w ≡ 0 = omega arith in rw first z) b)
 
 pub lowest-in : (word : ℕ) → (word ≡ 0 → ⊥) → word < 2 ^ 64 → LowestBit word (trailingZeros 64 word)
 lowest-in word z h =
@@ -305,12 +306,11 @@ not-empty-first words z h =
     record {
       test = rw (ne-eqb (getD words 0 0) 0 z);
       none = λ e. absurd (apart (sym e));
-      some =
-          λ e. (
-            trailingZeros 64 (getD words 0 0) + 1,
-            lowest-first words (trailingZeros 64 (getD words 0 0)) (lowest-in (getD words 0 0) z h) .member,
-          );
+      some = λ e. (j + 1, lowest-first words j (lowest-in (getD words 0 0) z h) .member);
     }
+  where
+    j : ℕ
+    j = trailingZeros 64 (getD words 0 0)
 
 second-test : (words : List ℕ) → getD words 0 0 ≡ 0 → eqb (getD words 1 0) 0 ≡ isEmpty words
 unfolding isEmpty
@@ -323,5 +323,6 @@ empty-second words z h =
   where
     some : eqb (getD words 1 0) 0 ≡ false → (a : ℕ) × (has words a ≡ true)
     some e =
+        let j = trailingZeros 64 (getD words 1 0) in
         let low = lowest-in (getD words 1 0) (eqb-false (getD words 1 0) 0 e) h in
-        (trailingZeros 64 (getD words 1 0) + 65, lowest-second words (trailingZeros 64 (getD words 1 0)) z low .member)
+        (j + 65, lowest-second words j z low .member)

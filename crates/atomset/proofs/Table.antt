@@ -8,10 +8,11 @@ use mathlib.Core.Bool.{true, false, _&&_}
 use mathlib.Core.List.{List, [], _∷_}
 use mathlib.Core.Logic.{_⊎_, inl, inr}
 use native.Mathlib.Decide.{ℕ-discrete}
-use lib.ListN.{length, getD, set}
+use lib.ListN.{length, getD, set, replicate, length-set, length-replicate}
 use lib.Seq.{getD-set-same, getD-set-other}
 use lib.Dec.{leb, ltb}
 use borrow.Author.Tests.{le-leb, leb-true, ltb-true, ltb-false}
+use Rattle.widen.specs.Widened.{Widened}
 use Rattle.graph.proofs.Below.{either, and-parts}
 use Rattle.molecule.specs.Record.{bit, cell, isAtom}
 use Rattle.atomset.specs.Set.{has, linkedBy, Reads, Half, WordsOf}
@@ -44,78 +45,96 @@ reads-join bytes at m count lo hi small low high j h = split (either (ltb j (8 *
         high (j - 8 * m) (omega arith)
         ∙ ap₂ (λ (i k : ℕ). bit (getD bytes i 0) k) byte place
 
+-- the byte at a place, read into a word
+byte-read : (bytes : List ℕ) (at x : ℕ) → Widened 256 (getD bytes at 0) x → Reads bytes at 8 x
+byte-read bytes at x w = rw (w .same) (reads-byte bytes at)
+
 pub four-bytes :
-    (bytes : List ℕ) (at x0 x1 x2 x3 : ℕ) → x0 ≡ getD bytes at 0 → x1 ≡ getD bytes (at + 1) 0 →
-    x2 ≡ getD bytes (at + 2) 0 → x3 ≡ getD bytes (at + 3) 0
-    → x0 < 256 → x1 < 256 → x2 < 256 → x3 < 256 → Half bytes at (x0 + 256 * x1 + 65536 * x2 + 16777216 * x3)
-four-bytes bytes at x0 x1 x2 x3 e0 e1 e2 e3 h0 h1 h2 h3 =
-    let b0 : Reads bytes at 8 x0 = rw e0 (reads-byte bytes at) in
-    let b1 : Reads bytes (at + 1) 8 x1 = rw e1 (reads-byte bytes (at + 1)) in
-    let b2 : Reads bytes (at + 2) 8 x2 = rw e2 (reads-byte bytes (at + 2)) in
-    let b3 : Reads bytes (at + 3) 8 x3 = rw e3 (reads-byte bytes (at + 3)) in
-    let w1 : Reads bytes at 16 (x1 * 256 + x0) = reads-join bytes at 1 8 x0 x1 h0 b0 b1 in
-    let w2 : Reads bytes at 24 (x2 * 65536 + (x1 * 256 + x0)) =
-    reads-join bytes at 2 8 (x1 * 256 + x0) x2 (omega arith) w1 b2 in
-    let w3 : Reads bytes at 32 (x3 * 16777216 + (x2 * 65536 + (x1 * 256 + x0))) =
-    reads-join bytes at 3 8 (x2 * 65536 + (x1 * 256 + x0)) x3 (omega arith) w2 b3 in
-    let same : x3 * 16777216 + (x2 * 65536 + (x1 * 256 + x0)) ≡ x0 + 256 * x1 + 65536 * x2 + 16777216 * x3 =
-    omega arith in
-    record { small = omega arith; bits = rw same at w3 }
+    {bytes : List ℕ} {at x0 x1 x2 x3 : ℕ} → Widened 256 (getD bytes at 0) x0 → Widened 256 (getD bytes (at + 1) 0) x1 →
+    Widened 256 (getD bytes (at + 2) 0) x2 → Widened 256 (getD bytes (at + 3) 0) x3 →
+    Half bytes at (x0 + 256 * x1 + 65536 * x2 + 16777216 * x3)
+four-bytes {bytes} {at} {x0} {x1} {x2} {x3} w0 w1 w2 w3 =
+    let two = x1 * 256 + x0 in
+    let three = x2 * 65536 + two in
+    let r1 : Reads bytes at 8 x0 = byte-read bytes at x0 w0 in
+    let r2 : Reads bytes at 16 two = reads-join bytes at 1 8 x0 x1 (w0 .small) r1 (byte-read bytes (at + 1) x1 w1) in
+    let r3 : Reads bytes at 24 three =
+    reads-join bytes at 2 8 two x2 (omega (arith, w0 .small, w1 .small)) r2 (byte-read bytes (at + 2) x2 w2) in
+    let r4 : Reads bytes at 32 (x3 * 16777216 + three) =
+    reads-join bytes at 3 8 three x3 (omega (arith, w0 .small, w1 .small, w2 .small)) r3
+    (byte-read bytes (at + 3) x3 w3) in
+    let same : x3 * 16777216 + three ≡ x0 + 256 * x1 + 65536 * x2 + 16777216 * x3 = omega arith in
+    record { small = omega (arith, w0 .small, w1 .small, w2 .small, w3 .small); bits = rw same at r4 }
 
 pub two-halves :
-    (bytes : List ℕ) (at lo hi : ℕ) → Half bytes at lo → Half bytes (at + 4) hi →
+    {bytes : List ℕ} {at lo hi : ℕ} → Half bytes at lo → Half bytes (at + 4) hi →
     Reads bytes at 64 (lo + 4294967296 * hi)
-two-halves bytes at lo hi l h =
+two-halves {bytes} {at} {lo} {hi} l h =
     let w : Reads bytes at 64 (hi * 4294967296 + lo) = reads-join bytes at 4 32 lo hi (l .small) (l .bits) (h .bits) in
     let same : hi * 4294967296 + lo ≡ lo + 4294967296 * hi = omega arith in
     rw same at w
 
 -- a table that has every word of the rows has their bits
-pub table-linked : (rows table : List ℕ) → ((i : ℕ) → i < 256 → Reads rows (8 * i) 64 (getD table i 0))
-    → WordsOf rows table
+pub table-linked :
+    (rows table : List ℕ) → ((i : ℕ) → i < 256 → Reads rows (8 * i) 64 (getD table i 0)) → WordsOf rows table
 unfolding linkedBy cell Reads
 table-linked rows table words a b la ha lb hb =
-    let i : 2 * (a - 1) + (b - 1) / 64 < 256 = omega arith in
-    let j : (b - 1) % 64 < 64 = omega arith in
-    let byte : 8 * (2 * (a - 1) + (b - 1) / 64) + (b - 1) % 64 / 8 ≡ 16 * (a - 1) + (b - 1) / 8 = omega arith in
-    let place : (b - 1) % 64 % 8 ≡ (b - 1) % 8 = omega arith in
-    let same : bit (getD table (2 * (a - 1) + (b - 1) / 64) 0) ((b - 1) % 64) ≡
-    bit (getD rows (8 * (2 * (a - 1) + (b - 1) / 64) + (b - 1) % 64 / 8) 0) ((b - 1) % 64 % 8) =
-    words (2 * (a - 1) + (b - 1) / 64) i ((b - 1) % 64) j in
+    let i = 2 * (a - 1) + (b - 1) / 64 in
+    let j = (b - 1) % 64 in
+    let byte : 8 * i + j / 8 ≡ 16 * (a - 1) + (b - 1) / 8 = omega arith in
+    let place : j % 8 ≡ (b - 1) % 8 = omega arith in
+    let same : bit (getD table i 0) j ≡ bit (getD rows (8 * i + j / 8) 0) (j % 8) =
+    words i (omega arith) j (omega arith) in
     rw (le-leb 1 a la, le-leb a 128 ha, le-leb 1 b lb, le-leb b 128 hb)
     (same ∙ ap₂ (λ (p q : ℕ). bit (getD rows p 0) q) byte place)
 
--- the row of an atom
-pub row-linked :
-    (table : List ℕ) (a : ℕ) → 1 ≤ a → a ≤ 128 → (b : ℕ) →
-    has (getD table (2 * (a - 1)) 0 ∷ getD table (2 * (a - 1) + 1) 0 ∷ []) b ≡ linkedBy table a b
+-- the row of an atom: two words of the table
+abbrev rowOf : List ℕ → ℕ → List ℕ
+rowOf table a = getD table (2 * (a - 1)) 0 ∷ getD table (2 * (a - 1) + 1) 0 ∷ []
+
+pub row-linked : (table : List ℕ) (a : ℕ) → 1 ≤ a → a ≤ 128 → (b : ℕ) → has (rowOf table a) b ≡ linkedBy table a b
 unfolding has linkedBy
 row-linked table a l h b = rw (le-leb 1 a l, le-leb a 128 h) (split (either (isAtom 128 b)))
   where
-    pick :
-        (w : ℕ) → w < 2 → getD (getD table (2 * (a - 1)) 0 ∷ getD table (2 * (a - 1) + 1) 0 ∷ []) w 0 ≡
-        getD table (2 * (a - 1) + w) 0
+    pick : (w : ℕ) → w < 2 → getD (rowOf table a) w 0 ≡ getD table (2 * (a - 1) + w) 0
     pick zero p = ap (λ (i : ℕ). getD table i 0) (sym (add-zero (2 * (a - 1))))
     pick (suc zero) p = refl
     pick (suc (suc w)) p = absurd (omega arith)
 
-    split : (isAtom 128 b ≡ true) ⊎ (isAtom 128 b ≡ false)
-        →
-        (isAtom 128 b && bit (getD (getD table (2 * (a - 1)) 0 ∷ getD table (2 * (a - 1) + 1) 0 ∷ []) ((b - 1) / 64) 0)
-        ((b - 1) % 64))
-        ≡ (isAtom 128 b && bit (getD table (2 * (a - 1) + (b - 1) / 64) 0) ((b - 1) % 64))
+    split :
+        (isAtom 128 b ≡ true) ⊎ (isAtom 128 b ≡ false) →
+        (isAtom 128 b && bit (getD (rowOf table a) ((b - 1) / 64) 0) ((b - 1) % 64)) ≡
+        (isAtom 128 b && bit (getD table (2 * (a - 1) + (b - 1) / 64) 0) ((b - 1) % 64))
     split (inr e) = rw e
     split (inl e) =
         let top = leb-true b 128 (and-parts (leb 1 b) (leb b 128) e .1) in
         rw e (ap (λ (n : ℕ). bit n ((b - 1) % 64)) (pick ((b - 1) / 64) (omega arith)))
 
--- one more word of the table
-pub table-more :
-    (rows table : List ℕ) (i word : ℕ) → i < length table → Reads rows (8 * i) 64 word →
-    ((k : ℕ) → k < i → Reads rows (8 * k) 64 (getD table k 0))
-    → (k : ℕ) → k < i + 1 → Reads rows (8 * k) 64 (getD (set table i word) k 0)
-table-more rows table i word h r before k below = split (ℕ-discrete k i)
+-- the first i words of the table are read
+pub record ReadTo (rows table : List ℕ) (i : ℕ) : Type 0 where
+  pub within : i ≤ 256
+  pub size : length table ≡ 256
+  pub read : (k : ℕ) → k < i → Reads rows (8 * k) 64 (getD table k 0)
+
+pub read-none : {rows : List ℕ} → ReadTo rows (replicate 256 0) 0
+read-none =
+    record { within = omega arith; size = length-replicate {A = ℕ} 256 0; read = λ k h. absurd (omega arith) }
+
+-- one more
+pub read-more :
+    {rows table : List ℕ} {i : ℕ} (word : ℕ) → ReadTo rows table i → i < 256 → Reads rows (8 * i) 64 word →
+    ReadTo rows (set table i word) (i + 1)
+read-more {rows} {table} {i} word t h r =
+    record {
+      within = omega arith;
+      size = length-set table i word ∙ t .size;
+      read = λ k below. split k below (ℕ-discrete k i);
+    }
   where
-    split : Dec (k ≡ i) → Reads rows (8 * k) 64 (getD (set table i word) k 0)
-    split (yes e) = rw (e, getD-set-same table i word 0 h) r
-    split (no d) = rw (getD-set-other table i k word 0 d) (before k (omega arith))
+    split : (k : ℕ) → k < i + 1 → Dec (k ≡ i) → Reads rows (8 * k) 64 (getD (set table i word) k 0)
+    split k below (yes e) =
+        let inside : i < length table = omega (arith, t .size) in rw (e, getD-set-same table i word 0 inside) r
+    split k below (no d) = rw (getD-set-other table i k word 0 d) (t .read k (omega arith))
+
+pub read-all : {rows table : List ℕ} {i : ℕ} → ReadTo rows table i → 256 ≤ i → WordsOf rows table
+read-all {rows} {table} t h = table-linked rows table (λ k below. t .read k (omega arith))

@@ -1,4 +1,5 @@
 // Sets of atoms as two words, and the rows of a molecule as sets.
+use widen::u8_u64;
 ghost use mathlib.Core.Path.{_≡_};
 ghost use mathlib.Core.Bool.{false, _&&_, _||_, not};
 ghost use Prim.Native.Nat.{ℕ, _+_, _-_, _*_, _/_, _%_, _^_, _≤_, _<_};
@@ -127,21 +128,15 @@ pub fn lowest(x: [u64; 2]) -> usize
     lowest_bit(x[1]) + 65
 }
 
-fn wide(x: u8) -> u64
-    ensures { λ r. ⌜ (r ≡ x) × (r < 256) ⌝ }
-{
-    x as u64
-}
-
 // Four bytes as a number, the lowest first.
 fn half_at(rows: &[u8; 2048], at: usize) -> u64
     requires { ⌜ at < 2045 ⌝ }
     ensures { λ r. ⌜ Half (now (rows .entry)) at r ⌝ }
 {
-    wide(rows[at])
-        + 256 * wide(rows[at + 1])
-        + 65536 * wide(rows[at + 2])
-        + 16777216 * wide(rows[at + 3])
+    u8_u64(rows[at])
+        + 256 * u8_u64(rows[at + 1])
+        + 65536 * u8_u64(rows[at + 2])
+        + 16777216 * u8_u64(rows[at + 3])
 }
 
 // Eight bytes as a word, the lowest first.

@@ -3,11 +3,13 @@
 -- A member that goes on the longer beginning goes on the shorter one.
 use Prim.Native.Nat.{ℕ, zero, suc, _+_, _≤_, _<_}
 use native.Mathlib.Omega.{arith}
-use mathlib.Core.Path.{_≡_, refl, sym, ap, subst, _∙_}
-use mathlib.Core.Bool.{true, false}
+use native.Mathlib.Numerals.{add-one}
+use mathlib.Core.Path.{_≡_, refl, sym, ap, _∙_}
+use mathlib.Core.Bool.{Bool, true, false, not}
 use mathlib.Core.List.{List, [], _∷_, _++_, append-assoc, append-nil}
 use lib.ListN.{length, take, drop, take-append-drop}
 use lib.Seq.{take-suc, take-append-le}
+use borrow.Author.Tests.{not-true, not-false}
 use Rattle.graph.specs.Chordless.{atomAt}
 use Rattle.graph.proofs.Below.{clash, false-of}
 use Rattle.enumeration.specs.Words.{Family, isOpen}
@@ -29,26 +31,25 @@ module _ (F : Family) (L : Lawful F) where
   open-append : (x : ℕ) (p q : List ℕ) → isOpen F (x ∷ p ++ q) ≡ true → isOpen F (x ∷ p) ≡ true
   open-append x p [] e = rw append-nil at e
   open-append x p (b ∷ q) e =
-      let m = open-has F bounded x (p ++ b ∷ q) e in
-      open-of F bounded x p b (q ++ m .0 ∷ m .1) (rw (append-assoc (x ∷ p) (b ∷ q) (m .0 ∷ m .1)) at (m .2))
+      let (y, w, member) = open-has F bounded x (p ++ b ∷ q) e in
+      open-of F bounded x p b (q ++ y ∷ w) (rw (append-assoc (x ∷ p) (b ∷ q) (y ∷ w)) at member)
 
-  pub open-empty : isOpen F [] ≡ true
+  open-empty : isOpen F [] ≡ true
   unfolding isOpen
   open-empty = refl
 
   -- A beginning of an open one is open
-  pub open-take : (k : ℕ) (w : List ℕ) → isOpen F w ≡ true → isOpen F (take k w) ≡ true
+  open-take : (k : ℕ) (w : List ℕ) → isOpen F w ≡ true → isOpen F (take k w) ≡ true
   open-take zero w e = open-empty
   open-take (suc k) [] e = open-empty
   open-take (suc k) (x ∷ p) e = open-append x (take k p) (drop k p) (rw (take-append-drop k p) e)
 
-  pub open-cut :
+  open-cut :
       (prefix : List ℕ) (i len : ℕ) → length prefix ≡ 128 → i < len → len ≤ 127 →
       isOpen F (take (suc i) prefix) ≡ false → isOpen F (take len prefix) ≡ false
   open-cut prefix i len size h short e =
       false-of (isOpen F (take len prefix))
-      (λ o. clash (isOpen F (take (suc i) prefix))
-      (subst (λ (w : List ℕ). isOpen F w ≡ true) same (open-take (suc i) (take len prefix) o)) e)
+      (λ o. clash (isOpen F (take (suc i) prefix)) (rw same at (open-take (suc i) (take len prefix) o)) e)
     where
       same : take (suc i) (take len prefix) ≡ take (suc i) prefix
       same =
@@ -56,31 +57,74 @@ module _ (F : Family) (L : Lawful F) where
           sym (take-append-le (suc i) (take len prefix) (drop len prefix) (omega arith)) ∙
           ap (take (suc i)) (take-append-drop len prefix)
 
-module _ {n : ℕ} {table : List ℕ} {kind s t : ℕ} {prefix : List ℕ} {i : ℕ}
-    (b : Beginning n table kind s t prefix i) where
-  pub place-at : (v : ℕ) → v ≡ atomAt prefix i → take (suc i) prefix ≡ take i prefix ++ v ∷ []
-  place-at v e = let size = b .size in let short = b .short in rw e (take-suc prefix i 0 (omega arith))
+-- ---- one atom after an open beginning
+
+module _ {n : ℕ} {table : List ℕ} {kind s t : ℕ} {prefix : List ℕ} {i v : ℕ}
+    (b : Beginning n table kind s t prefix i) (e : v ≡ atomAt prefix i) where
+  place-at : take (suc i) prefix ≡ take i prefix ++ v ∷ []
+  place-at = rw e (take-suc prefix i 0 (omega (arith, b .size, b .short)))
 
   -- no atom stands at the place
-  pub opens-out :
-      (v : ℕ) → v ≡ atomAt prefix i → isAtom n v ≡ false → isOpen (familyBy n table kind s t) (take (suc i) prefix) ≡
-      false
-  opens-out v e a =
-      let short = b .short in
+  pub opens-out : isAtom n v ≡ false → isOpen (familyBy n table kind s t) (take (suc i) prefix) ≡ false
+  opens-out a =
       false-of (isOpen (familyBy n table kind s t) (take (suc i) prefix))
-      (λ o. let r = open-atoms (familyBy n table kind s t) n prefix (suc i) (family-by-lawful n table kind s t)
-      (family-by-atoms n table kind s t) (b .words .few) (b .size) (omega arith) o i (omega arith) in
-      clash (isAtom n v) (atom-of n v (omega arith) (omega arith)) a)
+      (λ o. let range = at-place o in clash (isAtom n v) (atom-of n v (omega arith) (omega arith)) a)
+    where
+      at-place :
+          isOpen (familyBy n table kind s t) (take (suc i) prefix) ≡ true →
+          (1 ≤ atomAt prefix i) × (atomAt prefix i ≤ n)
+      at-place o =
+          let L = family-by-lawful n table kind s t in
+          let short : suc i ≤ 128 = omega (arith, b .short) in
+          open-atoms prefix (suc i) L (family-by-atoms n table kind s t) (b .size) short o i (omega arith)
 
   pub opens-in :
-      (v : ℕ) (plan : Plan) → v ≡ atomAt prefix i → Planned (familyBy n table kind s t) (take i prefix) v plan →
+      {plan : Plan} → Planned (familyBy n table kind s t) (take i prefix) v plan →
       has (plan .opens) v ≡ isOpen (familyBy n table kind s t) (take (suc i) prefix)
-  opens-in v plan e k = k .next .opens ∙ ap (isOpen (familyBy n table kind s t)) (sym (place-at v e))
+  opens-in k = k .next .opens ∙ ap (isOpen (familyBy n table kind s t)) (sym place-at)
 
-pub beginning-of :
-    {n : ℕ} {table : List ℕ} {kind s t : ℕ} {prefix : List ℕ} {len : ℕ} → Words n table × (kindKept n kind s t ≡ true) ×
-    (length prefix ≡ 128) × (len ≤ 127)
-    → (i : ℕ) → i ≤ len → isOpen (familyBy n table kind s t) (take i prefix) ≡ true →
-    Beginning n table kind s t prefix i
-beginning-of pre i h e =
-    record { words = pre .0; kinds = pre .1; size = pre .2; short = omega (arith, pre .3); isOpened = e }
+-- ---- the loop over the places
+
+-- the atoms before place i are an open beginning
+pub record OpenTo (n : ℕ) (table : List ℕ) (kind s t : ℕ) (prefix : List ℕ) (len i : ℕ) : Type 0 where
+  pub within : i ≤ len
+  pub opened : isOpen (familyBy n table kind s t) (take i prefix) ≡ true
+
+pub open-start :
+    {n : ℕ} {table : List ℕ} {kind s t : ℕ} {prefix : List ℕ} {len : ℕ} → OpenTo n table kind s t prefix len 0
+open-start {n} {table} {kind} {s} {t} =
+    record {
+      within = omega arith;
+      opened = open-empty (familyBy n table kind s t) (family-by-lawful n table kind s t);
+    }
+
+module _ {n : ℕ} {table : List ℕ} {kind s t : ℕ} {prefix : List ℕ} {len i : ℕ}
+    (k : OpenTo n table kind s t prefix len i) where
+  pub open-beginning :
+      Words n table × (kindKept n kind s t ≡ true) × (length prefix ≡ 128) × (len ≤ 127) →
+      Beginning n table kind s t prefix i
+  open-beginning (words, kinds, size, short) =
+      record {
+        words = words;
+        kinds = kinds;
+        size = size;
+        short = omega (arith, k .within);
+        isOpened = k .opened;
+      }
+
+  pub open-stops :
+      {opens : Bool} → length prefix ≡ 128 → len ≤ 127 → i < len →
+      opens ≡ isOpen (familyBy n table kind s t) (take (suc i) prefix) → not opens ≡ true →
+      isOpen (familyBy n table kind s t) (take len prefix) ≡ false
+  open-stops {opens} size short h e fails =
+      open-cut (familyBy n table kind s t) (family-by-lawful n table kind s t) prefix i len size h short
+      (sym e ∙ not-true opens fails)
+
+  pub open-more :
+      {opens : Bool} → i < len → opens ≡ isOpen (familyBy n table kind s t) (take (suc i) prefix) →
+      not opens ≡ false → OpenTo n table kind s t prefix len (i + 1)
+  open-more {opens} h e passes =
+      record { within = omega arith; opened = rw (add-one i) (sym e ∙ not-false opens passes) }
+
+  pub open-all : len ≤ i → isOpen (familyBy n table kind s t) (take len prefix) ≡ true
+  open-all h = let all : i ≡ len = omega (arith, k .within) in rw all at (k .opened)

@@ -8,7 +8,9 @@ use lib.ListN.{length, take}
 use lib.Dec.{eqb}
 use Rattle.graph.specs.Chordless.{Adjacency, atomAt}
 use Rattle.enumeration.specs.Words.{Family, isOpen}
-use Rattle.atomset.specs.Set.{has}
+use Rattle.chordless.specs.Families.{rings, paths}
+use Rattle.atomset.specs.Set.{has, linkedBy}
+use Rattle.search.specs.Place.{endsKept}
 use Rattle.openness.specs.declared.Plan.{Plan}
 use Rattle.openness.specs.Plan.{Words, Tells}
 
@@ -27,6 +29,42 @@ pub record Opened (F : Family) (n : ℕ) (table prefix : List ℕ) (len : ℕ) :
   pub size : length prefix ≡ 128
   pub short : len ≤ 127
   pub isOpened : isOpen F (take len prefix) ≡ true
+
+-- the places from low on, below high, and the atoms up to there
+pub record Places (prefix : List ℕ) (low high : ℕ) : Type 0 where
+  pub within : low ≤ high
+  pub most : high ≤ 128
+  pub atoms : AtomsBelow prefix high
+
+-- an open beginning of a ring, of two atoms or more
+pub record RingBegun (n : ℕ) (table prefix : List ℕ) (len : ℕ) : Type 0 where
+  pub long : 2 ≤ len
+  pub opened : Opened (rings n (linkedBy table)) n table prefix len
+
+-- an open beginning of a path from s to t, of one atom or more
+pub record PathBegun (n : ℕ) (table : List ℕ) (s t : ℕ) (prefix : List ℕ) (len : ℕ) : Type 0 where
+  pub long : 1 ≤ len
+  pub ends : endsKept n s t ≡ true
+  pub opened : Opened (paths n (linkedBy table) s t) n table prefix len
+
+-- an atom that may begin a ring
+pub record OneAtom (n : ℕ) (table : List ℕ) (c : ℕ) : Type 0 where
+  pub words : Words n table
+  pub low : 1 ≤ c
+  pub high : c ≤ n
+
+-- two atoms that may begin a ring
+pub record TwoAtoms (n : ℕ) (table : List ℕ) (s v : ℕ) : Type 0 where
+  pub words : Words n table
+  pub first-low : 1 ≤ s
+  pub first-high : s ≤ n
+  pub second-low : 1 ≤ v
+  pub second-high : v ≤ n
+
+-- the ends of a path
+pub record TwoEnds (n : ℕ) (table : List ℕ) (s t : ℕ) : Type 0 where
+  pub words : Words n table
+  pub ends : endsKept n s t ≡ true
 
 -- the sets tell it of every atom
 abbrev pub Everywhere : Family → List ℕ → Plan → Type 0

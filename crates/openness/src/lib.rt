@@ -1,4 +1,5 @@
 // Members and open beginnings by sets of atoms (lemma 2 of document 003).
+use widen::u8_usize;
 ghost use Prim.Native.Nat.{suc, _≤_};
 ghost use mathlib.Core.Path.{_≡_};
 ghost use mathlib.Core.Bool.{true};
@@ -7,9 +8,10 @@ ghost use lib.ListN.{length, take};
 ghost use Rattle.enumeration.specs.Words.{isOpen};
 ghost use Rattle.chordless.specs.Families.{rings, paths};
 ghost use Rattle.atomset.specs.Set.{linkedBy};
-ghost use Rattle.search.specs.Place.{kindKept, endsKept};
+ghost use Rattle.search.specs.Place.{kindKept};
 ghost use Rattle.openness.specs.Plan.{familyBy, Words, Planned, Beginning};
-ghost use Rattle.openness.specs.Parts.{Near, AtomsBelow, Opened, Everywhere, Alone};
+ghost use Rattle.openness.specs.Parts.{Near, Everywhere, Alone};
+ghost use Rattle.openness.specs.Parts.{Places, RingBegun, PathBegun, TwoAtoms, OneAtom, TwoEnds};
 
 // The atoms that make a member of a beginning, and those that open it.
 pub struct Plan {
@@ -17,21 +19,15 @@ pub struct Plan {
     pub opens: [u64; 2],
 }
 
-fn wide(a: u8) -> usize
-    ensures { λ r. ⌜ r ≡ a ⌝ }
-{
-    a as usize
-}
-
 // The atoms bonded to an atom of the prefix at a place from `low` on, below `high`.
 fn near(table: &[u64; 256], prefix: &[u8; 128], low: usize, high: usize) -> [u64; 2]
-    requires { ⌜ (low ≤ high) × (high ≤ 128) × AtomsBelow (now prefix) high ⌝ }
+    requires { ⌜ Places (now prefix) low high ⌝ }
     ensures { λ r. ⌜ Near (linkedBy (now (table .entry))) (now (prefix .entry)) low high r ⌝ }
 {
     let mut all = atomset::empty();
     let mut i = low;
     while i < high {
-        let a = wide(prefix[i]);
+        let a = u8_usize(prefix[i]);
         let row = atomset::row(table, a);
         let more = atomset::union(all, row);
         all = more;
@@ -40,14 +36,15 @@ fn near(table: &[u64; 256], prefix: &[u8; 128], low: usize, high: usize) -> [u64
     all
 }
 
-// A ring beginning of two atoms or more: the closing atoms are the targets of the sweep, and no free atom is bonded to the beginning.
+// A ring beginning of two atoms or more: the closing atoms are the targets of the sweep,
+// and no free atom is bonded to the beginning.
 fn ring_plan(table: &[u64; 256], n: usize, prefix: &[u8; 128], len: usize) -> Plan
-    requires { ⌜ (2 ≤ len) × Opened (rings n (linkedBy (now table))) n (now table) (now prefix) len ⌝ }
+    requires { ⌜ RingBegun n (now table) (now prefix) len ⌝ }
     ensures { λ r. ⌜ Everywhere (rings n (linkedBy (now (table .entry)))) (take len (now (prefix .entry))) r ⌝ }
 {
-    let s = wide(prefix[0]);
-    let a = wide(prefix[1]);
-    let x = wide(prefix[len - 1]);
+    let s = u8_usize(prefix[0]);
+    let a = u8_usize(prefix[1]);
+    let x = u8_usize(prefix[len - 1]);
     let first = atomset::row(table, s);
     let inner = near(table, prefix, 1, len - 1);
     let last = atomset::row(table, x);
@@ -72,7 +69,7 @@ fn ring_plan(table: &[u64; 256], n: usize, prefix: &[u8; 128], len: usize) -> Pl
 
 // Whether the ring beginning s, v is open.
 fn pair_opens(table: &[u64; 256], n: usize, s: usize, v: usize) -> bool
-    requires { ⌜ Words n (now table) × (1 ≤ s) × (s ≤ n) × (1 ≤ v) × (v ≤ n) ⌝ }
+    requires { ⌜ TwoAtoms n (now table) s v ⌝ }
     ensures { λ r. ⌜ r ≡ isOpen (rings n (linkedBy (now (table .entry)))) (s ∷ v ∷ []) ⌝ }
 {
     if v <= s {
@@ -92,7 +89,7 @@ fn pair_opens(table: &[u64; 256], n: usize, s: usize, v: usize) -> bool
 
 // Whether some ring begins with c.
 fn ring_starts(table: &[u64; 256], n: usize, c: usize) -> bool
-    requires { ⌜ Words n (now table) × (1 ≤ c) × (c ≤ n) ⌝ }
+    requires { ⌜ OneAtom n (now table) c ⌝ }
     ensures { λ r. ⌜ r ≡ isOpen (rings n (linkedBy (now (table .entry)))) (c ∷ []) ⌝ }
 {
     let mut a = c + 1;
@@ -114,10 +111,10 @@ fn path_plan(
     prefix: &[u8; 128],
     len: usize,
 ) -> Plan
-    requires { ⌜ (1 ≤ len) × (endsKept n s t ≡ true) × Opened (paths n (linkedBy (now table)) s t) n (now table) (now prefix) len ⌝ }
+    requires { ⌜ PathBegun n (now table) s t (now prefix) len ⌝ }
     ensures { λ r. ⌜ Everywhere (paths n (linkedBy (now (table .entry))) s t) (take len (now (prefix .entry))) r ⌝ }
 {
-    let x = wide(prefix[len - 1]);
+    let x = u8_usize(prefix[len - 1]);
     let last = atomset::row(table, x);
     let others = near(table, prefix, 0, len - 1);
     let goal = atomset::single(t);
@@ -145,7 +142,7 @@ fn path_plan(
 
 // Whether some path from s to t begins with c.
 fn path_starts(table: &[u64; 256], n: usize, s: usize, t: usize, c: usize) -> bool
-    requires { ⌜ Words n (now table) × (endsKept n s t ≡ true) ⌝ }
+    requires { ⌜ TwoEnds n (now table) s t ⌝ }
     ensures { λ r. ⌜ r ≡ isOpen (paths n (linkedBy (now (table .entry))) s t) (c ∷ []) ⌝ }
 {
     if c != s {
@@ -176,7 +173,8 @@ fn alone(opening: bool, c: usize) -> Plan
     }
 }
 
-// What a trial finds at an open beginning: of the next atom c, and of every atom where the beginning has two atoms or more.
+// What a trial finds at an open beginning: of the next atom c, and of every atom where the beginning has two atoms
+// or more.
 pub fn plan_at(
     table: &[u64; 256],
     n: usize,
@@ -200,7 +198,7 @@ pub fn plan_at(
         return alone(ring_starts(table, n, c), c);
     }
     if len == 1 {
-        return alone(pair_opens(table, n, wide(prefix[0]), c), c);
+        return alone(pair_opens(table, n, u8_usize(prefix[0]), c), c);
     }
     ring_plan(table, n, prefix, len)
 }
@@ -218,7 +216,7 @@ fn opens_at(
     requires { ⌜ Beginning n (now table) kind s t (now prefix) i ⌝ }
     ensures { λ r. ⌜ r ≡ isOpen (familyBy n (now (table .entry)) kind s t) (take (suc i) (now (prefix .entry))) ⌝ }
 {
-    let v = wide(prefix[i]);
+    let v = u8_usize(prefix[i]);
     if !molecule::is_atom(n, v) {
         return false;
     }
@@ -237,7 +235,8 @@ pub fn is_open(
     prefix: &[u8; 128],
     len: usize,
 ) -> bool
-    requires { ⌜ Words n (now table) × (kindKept n kind s t ≡ true) × (length (now prefix) ≡ 128) × (len ≤ 127) ⌝ }
+    requires { ⌜
+        Words n (now table) × (kindKept n kind s t ≡ true) × (length (now prefix) ≡ 128) × (len ≤ 127) ⌝ }
     ensures { λ r. ⌜ r ≡ isOpen (familyBy n (now (table .entry)) kind s t) (take len (now (prefix .entry))) ⌝ }
 {
     let mut i: usize = 0;

@@ -32,15 +32,14 @@ load-le s p s′ p′ h (suc k) = let rest = load-le s p s′ p′ h k in let he
 
 load-less :
     (s p s′ p′ : ℕ → Bool) (x : ℕ) → ((a : ℕ) → cost (s′ a) (p′ a) ≤ cost (s a) (p a)) →
-    cost (s′ x) (p′ x) < cost (s x) (p x)
-    → (k : ℕ) → 1 ≤ x → x ≤ k → load s′ p′ k < load s p k
+    cost (s′ x) (p′ x) < cost (s x) (p x) → (k : ℕ) → 1 ≤ x → x ≤ k → load s′ p′ k < load s p k
 unfolding load
 load-less s p s′ p′ x h g zero l u = absurd (omega arith)
 load-less s p s′ p′ x h g (suc k) l u = split (ℕ-discrete x (suc k)) (λ b. load-less s p s′ p′ x h g k l b)
   where
     split :
-        Dec (x ≡ suc k) → (x ≤ k → load s′ p′ k < load s p k) → load s′ p′ k + cost (s′ (suc k)) (p′ (suc k)) <
-        load s p k + cost (s (suc k)) (p (suc k))
+        Dec (x ≡ suc k) → (x ≤ k → load s′ p′ k < load s p k) →
+        load s′ p′ k + cost (s′ (suc k)) (p′ (suc k)) < load s p k + cost (s (suc k)) (p (suc k))
     split (yes e) rest =
         let here : cost (s′ (suc k)) (p′ (suc k)) < cost (s (suc k)) (p (suc k)) = rw e at g in
         let below = load-le s p s′ p′ h k in
@@ -76,16 +75,19 @@ cost-less false true true = omega arith
 cost-less false true false = omega arith
 cost-less false false a = omega arith
 
-pub step-less : (adj : Adjacency) (allowed seen pending : List ℕ) (next : Front) → Stepped adj allowed seen pending next
-    → load (has (next .seen)) (has (next .pending)) 128 < load (has seen) (has pending) 128
-step-less adj allowed seen pending next s =
-    let x = s .some .0 in
-    let taken = s .some .1 in
+pub step-less :
+    {adj : Adjacency} {allowed seen pending : List ℕ} {next : Front} → Stepped adj allowed seen pending next →
+    load (has (next .seen)) (has (next .pending)) 128 < load (has seen) (has pending) 128
+step-less {adj} {allowed} {seen} {pending} {next} s =
+    let (x, taken) = s .some in
     let was = s .were-pending x taken in
-    let inside = has-range pending x was in
+    let (low, high) = has-range pending x was in
     let after = s .advanced in
-    load-less (has seen) (has pending) (has (next .seen)) (has (next .pending)) x
-    (λ a. rw (after .seen-is a, after .pending-is a)
-    (cost-le (has seen a) (s .near a) (has pending a) (s .taken a) (has allowed a)))
-    (rw (after .seen-is x, after .pending-is x, was, taken) (cost-less (has seen x) (s .near x) (has allowed x))) 128
-    (inside .0) (inside .1)
+    let loses : cost (has (next .seen) x) (has (next .pending) x) < cost (has seen x) (has pending x) =
+    rw (after .seen-is x, after .pending-is x, was, taken) (cost-less (has seen x) (s .near x) (has allowed x)) in
+    load-less (has seen) (has pending) (has (next .seen)) (has (next .pending)) x none-gains loses 128 low high
+  where
+    none-gains : (a : ℕ) → cost (has (next .seen) a) (has (next .pending) a) ≤ cost (has seen a) (has pending a)
+    none-gains a =
+        rw (s .advanced .seen-is a, s .advanced .pending-is a)
+        (cost-le (has seen a) (s .near a) (has pending a) (s .taken a) (has allowed a))

@@ -25,14 +25,13 @@ walk-same bonds atoms (through {v} {w} e a k) =
 -- The same bonds between atoms from 1 to n, where targets and allowed atoms are such atoms
 pub walk-within-range :
     (n : ℕ) {adj adj′ : Adjacency} {f g : ℕ → Bool} {b v : ℕ} →
-    ((u w : ℕ) → 1 ≤ u → u ≤ n → 1 ≤ w → w ≤ n → adj u w ≡ adj′ u w)
-    → ((u : ℕ) → f u ≡ true → (1 ≤ u) × (u ≤ n) × (g u ≡ true)) → 1 ≤ b → b ≤ n → 1 ≤ v → v ≤ n → Walk adj f b v →
-    Walk adj′ g b v
+    ((u w : ℕ) → 1 ≤ u → u ≤ n → 1 ≤ w → w ≤ n → adj u w ≡ adj′ u w) →
+    ((u : ℕ) → f u ≡ true → (1 ≤ u) × (u ≤ n) × (g u ≡ true)) → 1 ≤ b → b ≤ n → 1 ≤ v → v ≤ n →
+    Walk adj f b v → Walk adj′ g b v
 walk-within-range n {b} bonds atoms lb hb lv hv (there {v} e) = there (sym (bonds v b lv hv lb hb) ∙ e)
 walk-within-range n {b} bonds atoms lb hb lv hv (through {v} {w} e a k) =
-    let inside = atoms w a in
-    through (sym (bonds v w lv hv (inside .0) (inside .1)) ∙ e) (inside .2)
-    (walk-within-range n bonds atoms lb hb (inside .0) (inside .1) k)
+    let (lw, hw, may) = atoms w a in
+    through (sym (bonds v w lv hv lw hw) ∙ e) may (walk-within-range n bonds atoms lb hb lw hw k)
 
 reaches-same :
     {adj adj′ : Adjacency} {f g t u : ℕ → Bool} {v : ℕ} → ((a b : ℕ) → adj a b ≡ adj′ a b) → ((a : ℕ) → f a ≡ g a) →
@@ -55,9 +54,10 @@ swept-sweeps n low s v l h = s v
 -- the same between atoms from 1 to n
 pub swept-in-range :
     (n low : ℕ) {adj adj′ : Adjacency} {f g t u S : ℕ → Bool} →
-    ((a b : ℕ) → 1 ≤ a → a ≤ n → 1 ≤ b → b ≤ n → adj a b ≡ adj′ a b) → ((a : ℕ) → f a ≡ g a) → ((a : ℕ) → t a ≡ u a)
-    → ((a : ℕ) → g a ≡ true → (1 ≤ a) × (a ≤ n)) → ((a : ℕ) → u a ≡ true → (1 ≤ a) × (a ≤ n)) → Swept adj f t S →
-    Sweeps n low adj′ g u S
+    ((a b : ℕ) → 1 ≤ a → a ≤ n → 1 ≤ b → b ≤ n → adj a b ≡ adj′ a b) →
+    ((a : ℕ) → f a ≡ g a) → ((a : ℕ) → t a ≡ u a) →
+    ((a : ℕ) → g a ≡ true → (1 ≤ a) × (a ≤ n)) → ((a : ℕ) → u a ≡ true → (1 ≤ a) × (a ≤ n)) →
+    Swept adj f t S → Sweeps n low adj′ g u S
 swept-in-range n low {adj} {adj′} {f} {g} {t} {u} {S} bonds atoms ends inside last s v l h =
     (λ e. to (s v .0 e), λ r. s v .1 (back r))
   where
@@ -86,7 +86,7 @@ swept-in-range n low {adj} {adj′} {f} {g} {t} {u} {S} bonds atoms ends inside 
 -- A sweep over the word table of a record that rule 9 allows serves for the record's bonds
 pub sweeps-bonded :
     (mol : Molecule) → wellFormed mol ≡ true → (table : List ℕ) → WordsOf (mol .rows) table → {f g t u S : ℕ → Bool} →
-    ((a : ℕ) → f a ≡ g a) → ((a : ℕ) → t a ≡ u a)
-    → Swept (linkedBy table) f t S → (n low : ℕ) → Sweeps n low (bonded (mol .atoms) (mol .rows)) g u S
+    ((a : ℕ) → f a ≡ g a) → ((a : ℕ) → t a ≡ u a) → Swept (linkedBy table) f t S → (n low : ℕ) →
+    Sweeps n low (bonded (mol .atoms) (mol .rows)) g u S
 sweeps-bonded mol ok table words atoms ends s n low =
     swept-sweeps n low (swept-same (linked-bonded mol ok table words) atoms ends s)

@@ -4,6 +4,7 @@ use mathlib.Core.Path.{_≡_}
 use mathlib.Core.Bool.{Bool, true, _&&_, _||_, not}
 use mathlib.Core.List.{List}
 use mathlib.Core.Logic.{_↔_}
+use lib.ListN.{getD}
 use Rattle.graph.specs.Chordless.{Adjacency}
 use Rattle.molecule.specs.Record.{bit}
 use Rattle.chordless.specs.Reach.{Walk}
@@ -31,6 +32,11 @@ pub record Advanced (allowed seen pending : List ℕ) (taken near : ℕ → Bool
   pub seen-is : (a : ℕ) → has (next .seen) a ≡ (has seen a || near a)
   pub pending-is :
       (a : ℕ) → has (next .pending) a ≡ (has pending a && not (taken a) || near a && not (has seen a) && has allowed a)
+
+-- word k of the frontier has an atom
+pub record WordLeft (pending : List ℕ) (k : ℕ) : Type 0 where
+  pub inside : k < 2
+  pub some : getD pending k 0 ≡ 0 → ⊥
 
 -- One step: some atoms of the frontier are taken, and near are the atoms bonded to one of them
 pub record Stepped (adj : Adjacency) (allowed seen pending : List ℕ) (next : Front) : Type 0 where

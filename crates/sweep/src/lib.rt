@@ -1,9 +1,7 @@
 // Reachability by one backward sweep: from the targets, over bonds, through allowed atoms.
 ghost use Prim.Native.Nat.{_<_};
-ghost use mathlib.Core.Path.{_≡_};
-ghost use lib.ListN.{getD};
 ghost use Rattle.atomset.specs.Set.{has, linkedBy};
-ghost use Rattle.sweep.specs.Swept.{Symmetric, Swept, NearWord, Advanced, Stepped};
+ghost use Rattle.sweep.specs.Swept.{Symmetric, Swept, NearWord, Advanced, Stepped, WordLeft};
 
 // The atoms that were seen, and the frontier: those whose neighbours are still to be seen.
 struct Front {
@@ -51,7 +49,7 @@ fn advance(
 
 // Takes the atoms of word k from the frontier, and sees their neighbours. The atoms of word 0 are those up to 64.
 fn step(table: &[u64; 256], allowed: [u64; 2], seen: [u64; 2], pending: [u64; 2], k: usize) -> Front
-    requires { ⌜ (k < 2) × (getD pending k 0 ≡ 0 → ⊥) ⌝ }
+    requires { ⌜ WordLeft pending k ⌝ }
     ensures { λ r. ⌜ Stepped (linkedBy (now (table .entry))) allowed seen pending r ⌝ }
 {
     let first = atomset::up_to(64);

@@ -1,3 +1,5 @@
+-- `atomset::empty` meets its contract: two words that are 0 hold no atom.
+-- By `has-empty`.
 use Rattle.atomset.proofs.Members.{has-empty}
 use Rattle.atomset.proofs.empty.Statement.{statement}
 use Rattle.atomset.proofs.empty.Tie as tie

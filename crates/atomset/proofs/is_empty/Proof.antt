@@ -1,3 +1,5 @@
+-- `atomset::is_empty` meets its contract: the answer by the first word, or by the second where that is 0.
+-- By `not-empty-first` and `empty-second`.
 use Rattle.atomset.proofs.Members.{not-empty-first, empty-second}
 use lib.ListN.{getD}
 use mir.Val.{Fits}

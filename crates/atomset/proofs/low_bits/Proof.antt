@@ -1,3 +1,5 @@
+-- `atomset::low_bits` meets its contract: `1 << k` is the power of two, and one less has the k low bits.
+-- For k = 64 it is the largest word.
 use Rattle.atomset.proofs.Members.{shifted-one}
 use Prim.Native.Nat.{ℕ, _-_, _^_, _<_}
 use native.Mathlib.Omega.{arith}

@@ -1,3 +1,5 @@
+-- `atomset::lowest_bit` meets its contract: the count of trailing zeros is the place of the lowest bit.
+-- By `lowest-in`.
 use Rattle.atomset.proofs.Members.{lowest-in}
 use native.Mathlib.Omega.{arith}
 use lib.Count.{trailing-le}

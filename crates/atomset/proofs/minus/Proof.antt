@@ -1,3 +1,5 @@
+-- `atomset::minus` meets its contract: an atom is in the result when it is in x and not in y.
+-- Bit by bit, by `has-minus`: no place borrows from the next.
 use lib.Bits.{and-le-l}
 use Rattle.atomset.proofs.Members.{has-minus}
 use borrow.Author.Needs.{needs}
@@ -14,4 +16,8 @@ returns : tie.Need-returns
 returns c = has-minus (c .args .t1) (c .args .t2)
 
 pub minus-spec : {M : Type 1} → statement M
-minus-spec = tie.close (tie.spec (λ c. search needs) (λ c. search needs) (λ c. search needs) sub-t15 (λ c. search needs) (λ c. search needs) (λ c. search needs) sub-t26 returns)
+minus-spec =
+    tie.close
+    (tie.spec
+    (λ c. search needs) (λ c. search needs) (λ c. search needs) sub-t15 (λ c. search needs)
+    (λ c. search needs) (λ c. search needs) sub-t26 returns)

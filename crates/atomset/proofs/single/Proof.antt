@@ -1,3 +1,5 @@
+-- `atomset::single` meets its contract: one bit, in the first word for an atom up to 64, in the second otherwise.
+-- By `has-single-first` and `has-single-second`.
 use Rattle.atomset.proofs.Members.{shifted-one, has-single-first, has-single-second}
 use Prim.Native.Nat.{_-_, _<_, _≤_}
 use native.Mathlib.Omega.{arith}
@@ -19,4 +21,7 @@ returns-2 c =
     rw (shifted-one (v - 65) place) (has-single-second v low (c .before .pre .1))
 
 pub single-spec : {M : Type 1} → statement M
-single-spec = tie.close (tie.spec (λ c. search needs) (λ c. search needs) returns (λ c. search needs) (λ c. search needs) returns-2)
+single-spec =
+    tie.close
+    (tie.spec
+    (λ c. search needs) (λ c. search needs) returns (λ c. search needs) (λ c. search needs) returns-2)

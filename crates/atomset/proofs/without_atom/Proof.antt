@@ -1,12 +1,11 @@
-use mathlib.Core.Path.{_∙_, ap}
-use mathlib.Core.Bool.{Bool, _&&_, not}
-use Rattle.atomset.specs.Set.{has}
+-- `atomset::without_atom` meets its contract: the set less one atom.
+-- By what `minus` and `single` tell of each atom.
 use borrow.Author.Needs.{needs}
 use Rattle.atomset.proofs.without_atom.Statement.{statement}
 use Rattle.atomset.proofs.without_atom.Tie as tie
 
 returns : tie.Need-returns
-returns c = λ a. c .minus .ensures a ∙ ap (λ (p : Bool). has (c .before .before .args .x) a && not p) (c .before .single .ensures a)
+returns c a = rw (c .minus .ensures a, c .before .single .ensures a)
 
 pub without-atom-spec : {M : Type 1} → statement M
 without-atom-spec = tie.close (tie.spec (λ c κs. search needs) (λ c κs. search needs) returns)

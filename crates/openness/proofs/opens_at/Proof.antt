@@ -1,25 +1,56 @@
 -- `openness::opens_at` meets its contract: a number that is no atom opens nothing, and for an atom the plan tells.
 -- By `opens-out` and `opens-in`.
+use Prim.Native.Nat.{_≤_}
 use native.Mathlib.Omega.{arith}
 use mathlib.Core.Path.{sym, _∙_}
 use borrow.Author.Tests.{not-true, not-false}
+use borrow.Author.Needs.{needs}
 use Rattle.molecule.proofs.Bonds.{atom-bounds}
 use Rattle.openness.proofs.Opens.{opens-out, opens-in}
-use borrow.Author.Needs.{needs}
 use Rattle.openness.proofs.opens_at.Statement.{statement}
 use Rattle.openness.proofs.opens_at.Tie as tie
 
+-- ---- the places: each name goes back from a later place to an earlier one
+-- (in a proof, the argument `(search)` is a place: it is found in c by its type)
+
+-- from where the number at the place is tested
+abbrev read : tie.Else1 → tie.After-u8-usize
+read c = c .before .before
+
+abbrev start : tie.After-u8-usize → tie.Start
+start c = c .before .before
+
+-- ---- it is an atom
+
+atom : (c : tie.Else1) → (1 ≤ read c .u8-usize .result) × (read c .u8-usize .result ≤ start (read c) .args .n)
+atom c = atom-bounds _ _ (sym (c .before .is-atom .ensures) ∙ not-false _ (c .if1 .left))
+
+-- ---- the needs
+
 returns : tie.Need-returns
-returns c = sym (opens-out (c .before .before .before .before .pre) (c .before .before .wide .result) (c .before .before .wide .ensures) (sym (c .before .is-atom .ensures) ∙ not-true _ (c .if1 .taken)))
+returns c =
+    let read : tie.After-u8-usize = search in
+    let none = sym (c .before .is-atom .ensures) ∙ not-true _ (c .if1 .taken) in
+    sym (opens-out (start read .pre) (read .u8-usize .ensures .same) none)
 
 plan-at-requires : tie.Need-plan-at-requires
-plan-at-requires c κs = let a = atom-bounds (c .before .before .before .before .args .n) (c .before .before .wide .result) (sym (c .before .is-atom .ensures) ∙ not-false _ (c .if1 .left)) in (c .before .before .before .before .pre, a .0, a .1)
+plan-at-requires c κs = (start (read c) .pre, atom c .0, atom c .1)
 
 contains-requires : tie.Need-contains-requires
-contains-requires c κs = let a = atom-bounds (c .before .before .before .before .before .before .args .n) (c .before .before .before .before .wide .result) (sym (c .before .before .before .is-atom .ensures) ∙ not-false _ (c .before .before .if1 .left)) in (a .0, omega (arith, c .before .before .before .before .before .before .pre .words .few))
+contains-requires c κs =
+    let start : tie.Start = search in
+    let (low, high) = atom (search) in
+    (low, omega (arith, start .pre .words .few))
 
 returns-2 : tie.Need-returns-2
-returns-2 c = c .contains .ensures ∙ opens-in (c .before .before .before .before .before .before .before .pre) (c .before .before .before .before .before .wide .result) _ (c .before .before .before .before .before .wide .ensures) (c .before .before .plan-at .ensures)
+returns-2 c =
+    let read : tie.After-u8-usize = search in
+    let plan : tie.After-plan-at = search in
+    c .contains .ensures ∙ opens-in (start read .pre) (read .u8-usize .ensures .same) (plan .plan-at .ensures)
 
 pub opens-at-spec : {M : Type 1} → statement M
-opens-at-spec = tie.close (tie.spec (λ c. search needs) (λ c κs. search needs) (λ c κs. search needs) returns plan-at-requires contains-requires returns-2)
+opens-at-spec =
+    tie.close
+    (tie.spec
+    (λ c. search needs) (λ c κs. search needs) (λ c κs. search needs) returns plan-at-requires contains-requires
+    returns-2)

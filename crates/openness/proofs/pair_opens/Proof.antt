@@ -1,40 +1,72 @@
 -- `openness::pair_opens` meets its contract: the tests of v, and then one sweep, by `pair-told`.
 -- Where v is not above s, or not bonded to it, nothing opens.
-use mathlib.Core.Path.{sym, ap₂, _∙_}
-use mathlib.Core.Bool.{Bool, _&&_, not}
+use Prim.Native.Nat.{ℕ}
+use mathlib.Core.Path.{_≡_, sym, _∙_}
+use mathlib.Core.Bool.{_&&_, not}
+use lib.Dec.{leb, ltb}
 use borrow.Author.Tests.{not-true, not-false}
-use Rattle.atomset.specs.Set.{has}
-use Rattle.openness.proofs.Rings.{pair-above, pair-bonded, pair-told}
 use borrow.Author.Needs.{needs}
+use Rattle.atomset.specs.Set.{has, linkedBy}
+use Rattle.openness.proofs.Rings.{first-of, pair-above, pair-bonded, pair-told}
 use Rattle.openness.proofs.pair_opens.Statement.{statement}
 use Rattle.openness.proofs.pair_opens.Tie as tie
 
+-- ---- the places: each name goes back from a later place to an earlier one
+-- (in a proof, the argument `(search)` is a place: it is found in c by its type)
+
+abbrev start : tie.After-row → tie.Start
+start c = c .before .before
+
+-- from where both ranges are made
+abbrev row : tie.After-range2 → tie.After-row
+row c = c .before .before .before .before
+
+-- ---- what is known there
+
+bonded :
+    (c : tie.After-contains) →
+    let args = start (c .before) .args in
+    linkedBy (args .table .now) (args .s) (args .v) ≡ c .contains .result
+bonded c = sym (c .before .row .ensures _) ∙ sym (c .contains .ensures)
+
+targets-is :
+    (c : tie.After-intersection) (u : ℕ) →
+    let args = start (row (c .before)) .args in
+    has (c .intersection .result) u
+    ≡ (ltb (args .v) u && leb u (args .n) && linkedBy (args .table .now) (args .s) u)
+targets-is c u =
+    rw (c .intersection .ensures u, c .before .before .range .ensures u, row (c .before) .row .ensures u)
+
+between-is :
+    (c : tie.After-minus) (u : ℕ) →
+    let args = start (row (c .before .before)) .args in
+    has (c .minus .result) u
+    ≡ (ltb (args .s) u && leb u (args .n) && not (linkedBy (args .table .now) (args .s) u))
+between-is c u =
+    rw (c .minus .ensures u, c .before .before .range2 .ensures u, row (c .before .before) .row .ensures u)
+
+-- ---- the needs
+
 returns : tie.Need-returns
-returns c = sym (pair-above (c .before .args .n) _ (c .before .pre .0 .irreflexive) (c .before .args .s) (c .before .args .v) (c .before .pre .1) (c .if1 .taken))
+returns c = sym (pair-above (first-of (c .before .pre)) _ (c .if1 .taken))
 
 returns-2 : tie.Need-returns-2
-returns-2 c = sym (pair-bonded (c .before .before .before .before .args .n) _ (c .before .before .before .before .pre .0 .irreflexive) (c .before .before .before .before .args .s) (c .before .before .before .before .args .v) (c .before .before .before .before .pre .1) (sym (c .before .before .row .ensures (c .before .before .before .before .args .v)) ∙ sym (c .before .contains .ensures) ∙ not-true _ (c .if2 .taken)))
+returns-2 c =
+    let start : tie.Start = search in
+    sym (pair-bonded (first-of (start .pre)) _ (bonded (search) ∙ not-true _ (c .if2 .taken)))
 
 returns-3 : tie.Need-returns-3
 returns-3 c =
-    let start = c .before .before .before .before .before .before .before .before .before .before in
-    let row = c .before .before .before .before .before .before .before .before .row in
-    let above = c .before .before .before .before .before .range in
-    let low = c .before .before .before .before .range2 in
-    let targets = c .before .before .before .intersection in
-    let free = c .before .before .minus in
-    let sweep = c .before .sweep in
-    c .contains2 .ensures
-    ∙ pair-told (start .args .n) _ (start .pre .0 .irreflexive) (start .args .s) (start .args .v) (start .pre .1) (has (targets .result)) (has (free .result)) (has (sweep .result))
-    (c .before .before .before .before .before .before .before .before .before .if1 .left) (start .pre .4)
-    (sym (row .ensures (start .args .v)) ∙ sym (c .before .before .before .before .before .before .before .contains .ensures) ∙ not-false _ (c .before .before .before .before .before .before .if2 .left))
-    (λ u. targets .ensures u ∙ ap₂ (λ (p q : Bool). p && q) (above .ensures u) (row .ensures u))
-    (λ u. free .ensures u ∙ ap₂ (λ (p q : Bool). p && not q) (low .ensures u) (row .ensures u))
-    (sweep .ensures)
+    let start : tie.Start = search in
+    let else1 : tie.Else1 = search in
+    let else2 : tie.Else2 = search in
+    c .contains2 .ensures ∙
+    pair-told (start .pre) (targets-is (search)) (between-is (search)) (c .before .sweep .ensures) (else1 .if1 .left)
+    (bonded (search) ∙ not-false _ (else2 .if2 .left))
 
 pub pair-opens-spec : {M : Type 1} → statement M
 pair-opens-spec =
     tie.close
     (tie.spec
-    returns (λ c κs. search needs) (λ c κs. search needs) returns-2 (λ c κs. search needs) (λ c κs. search needs) (λ c κs. search needs)
-    (λ c κs. search needs) (λ c κs. search needs) (λ c κs. search needs) returns-3)
+    returns (λ c κs. search needs) (λ c κs. search needs) returns-2 (λ c κs. search needs) (λ c κs. search needs)
+    (λ c κs. search needs) (λ c κs. search needs) (λ c κs. search needs) (λ c κs. search needs) returns-3)

@@ -2,24 +2,39 @@
 -- By `start-other` and `start-told`.
 use native.Mathlib.Omega.{arith}
 use mathlib.Core.Path.{sym, _∙_}
-use Rattle.atomset.specs.Set.{has}
+use borrow.Author.Needs.{needs}
 use Rattle.search.proofs.Readings.{ends-facts}
 use Rattle.openness.proofs.Paths.{start-other, start-told}
-use borrow.Author.Needs.{needs}
 use Rattle.openness.proofs.path_starts.Statement.{statement}
 use Rattle.openness.proofs.path_starts.Tie as tie
 
+-- ---- the needs (`search` finds a place in c by its type)
+
 returns : tie.Need-returns
-returns c = sym (start-other (c .before .args .n) _ (c .before .args .s) (c .before .args .t) (c .before .pre .0 .irreflexive) (ends-facts _ _ _ (c .before .pre .1)) (c .before .args .c) (c .if1 .taken))
+returns c = sym (start-other (c .before .pre) (c .if1 .taken))
 
 single-requires : tie.Need-single-requires
-single-requires c κs = let e = ends-facts _ _ _ (c .before .before .pre .1) in (e .t-low, omega (arith, c .before .before .pre .0 .few))
+single-requires c κs =
+    let start : tie.Start = search in
+    let ends = ends-facts _ _ _ (start .pre .ends) in
+    (ends .t-low, omega (arith, start .pre .words .few))
 
 contains-requires : tie.Need-contains-requires
-contains-requires c κs = let e = ends-facts _ _ _ (c .before .before .before .before .pre .1) in (e .s-low, omega (arith, c .before .before .before .before .pre .0 .few))
+contains-requires c κs =
+    let start : tie.Start = search in
+    let ends = ends-facts _ _ _ (start .pre .ends) in
+    (ends .s-low, omega (arith, start .pre .words .few))
 
 returns-2 : tie.Need-returns-2
-returns-2 c = c .contains .ensures ∙ start-told (c .before .before .before .before .before .args .n) _ (c .before .before .before .before .before .args .s) (c .before .before .before .before .before .args .t) (c .before .before .before .before .before .pre .0 .irreflexive) (ends-facts _ _ _ (c .before .before .before .before .before .pre .1)) (c .before .before .before .before .before .args .c) (has (c .before .before .single .result)) (has (c .before .before .before .up-to .result)) (has (c .before .sweep .result)) (c .before .before .before .before .if1 .left) (c .before .before .single .ensures) (c .before .before .before .up-to .ensures) (c .before .sweep .ensures)
+returns-2 c =
+    let else1 : tie.Else1 = search in
+    let all : tie.After-up-to = search in
+    c .contains .ensures ∙
+    start-told (else1 .before .pre) (else1 .if1 .left) (c .before .before .single .ensures) (all .up-to .ensures)
+    (c .before .sweep .ensures)
 
 pub path-starts-spec : {M : Type 1} → statement M
-path-starts-spec = tie.close (tie.spec returns (λ c κs. search needs) single-requires (λ c κs. search needs) contains-requires returns-2)
+path-starts-spec =
+    tie.close
+    (tie.spec
+    returns (λ c κs. search needs) single-requires (λ c κs. search needs) contains-requires returns-2)
