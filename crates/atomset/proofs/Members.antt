@@ -15,7 +15,7 @@ use lib.Count.{trailingZeros}
 use borrow.Author.Tests.{le-leb, leb-true, leb-false, lt-leb, lt-ltb, le-ltb, ltb-true, ltb-false, eq-eqb, ne-eqb, eqb-true, eqb-false}
 use Rattle.graph.proofs.Below.{apart, clash, either, and-parts, same-test, false-of}
 use Rattle.molecule.specs.Record.{bit, isAtom}
-use Rattle.atomset.specs.Set.{has, isEmpty, Emptiness, Lowest, LowestBit}
+use Rattle.atomset.specs.Set.{has, holdsNone, Emptiness, Lowest, LowestBit}
 use Rattle.atomset.proofs.Digits.{bit-none, bit-and, bit-or, bit-less, bit-power, bit-ones, trailing-below, trailing-set, trailing-least}
 
 -- where an atom's bit is
@@ -220,8 +220,8 @@ range-test low n a = split (either (leb 1 a)) (either (leb a low))
 
 -- emptiness, and the lowest atom
 
-pub empty-none : (words : List ℕ) → isEmpty words ≡ true → (a : ℕ) → has words a ≡ false
-unfolding isEmpty
+pub empty-none : (words : List ℕ) → holdsNone words ≡ true → (a : ℕ) → has words a ≡ false
+unfolding holdsNone
 empty-none words e a =
     let parts = and-parts (eqb (getD words 0 0) 0) (eqb (getD words 1 0) 0) e in
     let w0 : getD words 0 0 ≡ 0 = eqb-true (getD words 0 0) 0 (parts .0) in
@@ -231,13 +231,13 @@ empty-none words e a =
 
 -- two words that are 0
 pub words-none : (words : List ℕ) → ((i : ℕ) → i < 2 → getD words i 0 ≡ 0) → (a : ℕ) → has words a ≡ false
-unfolding isEmpty
+unfolding holdsNone
 words-none words z =
     empty-none words (rw (eq-eqb (getD words 0 0) 0 (z 0 (omega arith)), eq-eqb (getD words 1 0) 0 (z 1 (omega arith))))
 
 -- A set with an atom is not empty
-pub some-not-empty : (words : List ℕ) (a : ℕ) → has words a ≡ true → isEmpty words ≡ false
-some-not-empty words a e = false-of (isEmpty words) (λ t. clash (has words a) e (empty-none words t a))
+pub some-not-empty : (words : List ℕ) (a : ℕ) → has words a ≡ true → holdsNone words ≡ false
+some-not-empty words a e = false-of (holdsNone words) (λ t. clash (has words a) e (empty-none words t a))
 
 -- the lowest bit of word k is the lowest atom, where the words before it are 0
 lowest-word :
@@ -292,16 +292,16 @@ lowest-in word z h =
     let below = trailing-below 64 word (omega arith) h in
     record { below = below; set = trailing-set 64 word below; least = λ i b. trailing-least 64 word i b }
 
-pub second-word : (words : List ℕ) → isEmpty words ≡ false → getD words 0 0 ≡ 0 → getD words 1 0 ≡ 0 → ⊥
-unfolding isEmpty
+pub second-word : (words : List ℕ) → holdsNone words ≡ false → getD words 0 0 ≡ 0 → getD words 1 0 ≡ 0 → ⊥
+unfolding holdsNone
 second-word words e z0 z1 =
-    let both : isEmpty words ≡ true = rw (eq-eqb (getD words 0 0) 0 z0, eq-eqb (getD words 1 0) 0 z1) in
-    clash (isEmpty words) both e
+    let both : holdsNone words ≡ true = rw (eq-eqb (getD words 0 0) 0 z0, eq-eqb (getD words 1 0) 0 z1) in
+    clash (holdsNone words) both e
 
 -- the test of emptiness, by the word that it ends at
 
 pub not-empty-first : (words : List ℕ) → (getD words 0 0 ≡ 0 → ⊥) → getD words 0 0 < 2 ^ 64 → Emptiness words false
-unfolding isEmpty
+unfolding holdsNone
 not-empty-first words z h =
     record {
       test = rw (ne-eqb (getD words 0 0) 0 z);
@@ -312,8 +312,8 @@ not-empty-first words z h =
     j : ℕ
     j = trailingZeros 64 (getD words 0 0)
 
-second-test : (words : List ℕ) → getD words 0 0 ≡ 0 → eqb (getD words 1 0) 0 ≡ isEmpty words
-unfolding isEmpty
+second-test : (words : List ℕ) → getD words 0 0 ≡ 0 → eqb (getD words 1 0) 0 ≡ holdsNone words
+unfolding holdsNone
 second-test words z = rw (eq-eqb (getD words 0 0) 0 z)
 
 pub empty-second :

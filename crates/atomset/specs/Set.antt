@@ -13,12 +13,13 @@ use Rattle.molecule.specs.Record.{bit, cell, isAtom}
 unfoldable pub has : List ℕ → ℕ → Bool
 has words a = isAtom 128 a && bit (getD words ((a - 1) / 64) 0) ((a - 1) % 64)
 
-unfoldable pub isEmpty : List ℕ → Bool
-isEmpty words = eqb (getD words 0 0) 0 && eqb (getD words 1 0) 0
+-- the set holds no atom
+unfoldable pub holdsNone : List ℕ → Bool
+holdsNone words = eqb (getD words 0 0) 0 && eqb (getD words 1 0) 0
 
 -- what the answer of the test of emptiness tells
 pub record Emptiness (words : List ℕ) (empty : Bool) : Type 0 where
-  pub test : empty ≡ isEmpty words
+  pub test : empty ≡ holdsNone words
   pub none : empty ≡ true → (a : ℕ) → has words a ≡ false
   pub some : empty ≡ false → (a : ℕ) × (has words a ≡ true)
 

@@ -4,7 +4,7 @@ ghost use mathlib.Core.Path.{_≡_};
 ghost use mathlib.Core.Bool.{false, _&&_, _||_, not};
 ghost use Prim.Native.Nat.{ℕ, _+_, _-_, _*_, _/_, _%_, _^_, _≤_, _<_};
 ghost use lib.Dec.{leb, ltb, eqb};
-ghost use Rattle.atomset.specs.Set.{has, isEmpty, linkedBy, Emptiness, Lowest, LowestBit, Reads, Half, WordsOf};
+ghost use Rattle.atomset.specs.Set.{has, holdsNone, linkedBy, Emptiness, Lowest, LowestBit, Reads, Half, WordsOf};
 
 // The set without atoms.
 pub fn empty() -> [u64; 2]
@@ -119,7 +119,7 @@ pub fn lowest_bit(word: u64) -> usize
 
 // The lowest atom of a set that has one.
 pub fn lowest(x: [u64; 2]) -> usize
-    requires { ⌜ isEmpty x ≡ false ⌝ }
+    requires { ⌜ holdsNone x ≡ false ⌝ }
     ensures { λ r. ⌜ Lowest x r ⌝ }
 {
     if x[0] != 0 {

@@ -14,10 +14,12 @@ abbrev pub answer : Bool → Verdict
 answer true = Yes
 answer false = No
 
+-- As a ring: rule 9
 unfoldable pub judgeRing : Molecule → List ℕ → Verdict
 judgeRing mol xs =
     cond (wellFormed mol) (answer (isRing (mol .atoms) (bonded (mol .atoms) (mol .rows)) xs)) (Refused Record)
 
+-- As a path from s to t: rule 9, rule 10, rule 11
 unfoldable pub judgePath : Molecule → ℕ → ℕ → List ℕ → Verdict
 judgePath mol s t xs =
     cond (wellFormed mol)

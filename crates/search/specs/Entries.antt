@@ -32,7 +32,7 @@ refusedSearch r = record { answer = answer.Refused r; search = freshSearch 0 0 0
 unfoldable pub startRings : Molecule → Made
 startRings mol = cond (wellFormed mol) (acceptedSearch (freshSearch 0 0 0)) (refusedSearch refusal.Record)
 
--- A fresh search for the paths from s to t: rules 9, 10, 11
+-- A fresh search for the paths from s to t: rule 9, rule 10, rule 11
 unfoldable pub startPaths : Molecule → ℕ → ℕ → Made
 startPaths mol s t =
     cond (wellFormed mol)

@@ -32,7 +32,7 @@ markText mol q =
     ++ fieldsText 20 (q .trials ∷ q .extensions ∷ q .listed ∷ []) ++ lineFeed
     ++ fieldsText 4 (beginning q) ++ lineFeed
 
--- A save: rules 9, 12, 13; the number of bytes written
+-- A save: rule 9, rule 12, rule 13 (the output has the bytes of the mark); the number of bytes written
 unfoldable pub saveAnswer : Molecule → Search → List ℕ → Saved
 saveAnswer mol q out =
     cond (wellFormed mol)

@@ -59,7 +59,7 @@ searchAt kind s t st =
 unfoldable pub freshSearch : ℕ → ℕ → ℕ → Search
 freshSearch kind s t = searchAt kind s t fresh
 
--- Rules 10 and 11 kept: s and t are atoms, and differ
+-- Rule 10 and rule 11 kept: s and t are atoms, and differ
 unfoldable pub endsKept : ℕ → ℕ → ℕ → Bool
 endsKept n s t = isAtom n s && isAtom n t && not (eqb s t)
 

@@ -57,7 +57,8 @@ readBonds n bond m =
     (refusedSheet refusal.SelfBond))
     (refusedSheet refusal.BondAtom)
 
--- What a sheet is read as
+-- What a sheet is read as: rules 1 and 2, then rule 3 (n is at most 128), rule 4 (m is at most 1,024),
+-- rule 5 (the sheet is 9 × (m + 1) bytes), then rules 6, 7, 8
 unfoldable pub readSheet : List ℕ → SheetAnswer
 readSheet s =
     cond (lengthKept s)

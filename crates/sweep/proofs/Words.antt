@@ -20,7 +20,7 @@ use Rattle.atomset.specs.Set.{has, LowestBit}
 use Rattle.atomset.proofs.Digits.{bit-first, bit-next, bit-none, bit-and}
 use Rattle.atomset.proofs.Members.{has-word, has-range, lowest-in}
 use Rattle.sweep.specs.declared.Front.{Front}
-use Rattle.sweep.specs.Swept.{NearWord, Advanced, Stepped}
+use Rattle.sweep.specs.Swept.{NearWord, FrontMoved, Stepped}
 
 -- one less has the bits above the lowest
 above-lowest :
@@ -132,7 +132,7 @@ module _ {adj : Adjacency} {pending taken near : List ℕ} {k : ℕ} (t : TakenO
 
   stepped :
       {allowed seen : List ℕ} {next : Front} → (getD pending k 0 ≡ 0 → ⊥) → getD pending k 0 < 2 ^ 64 →
-      Advanced allowed seen pending (has taken) (has near) next → Stepped adj allowed seen pending next
+      FrontMoved allowed seen pending (has taken) (has near) next → Stepped adj allowed seen pending next
   stepped some small advanced =
       record {
         taken = has taken;
@@ -198,12 +198,12 @@ module _ {adj : Adjacency} {allowed seen pending : List ℕ} (taken : List ℕ) 
     {first : ℕ → Bool} (first-is : (a : ℕ) → first a ≡ (leb 1 a && leb a 64)) where
   pub step-first :
       ((a : ℕ) → has taken a ≡ (has pending a && first a)) → (getD pending 0 0 ≡ 0 → ⊥) → getD pending 0 0 < 2 ^ 64 →
-      NearWord adj (getD taken 0 0) 0 near → Advanced allowed seen pending (has taken) (has near) next →
+      NearWord adj (getD taken 0 0) 0 near → FrontMoved allowed seen pending (has taken) (has near) next →
       Stepped adj allowed seen pending next
   step-first taken-is some small n = stepped (taken-first pending taken first-is taken-is) n some small
 
   pub step-second :
       ((a : ℕ) → has taken a ≡ (has pending a && not (first a))) → (getD pending 1 0 ≡ 0 → ⊥) →
       getD pending 1 0 < 2 ^ 64 → NearWord adj (getD taken 1 0) 1 near →
-      Advanced allowed seen pending (has taken) (has near) next → Stepped adj allowed seen pending next
+      FrontMoved allowed seen pending (has taken) (has near) next → Stepped adj allowed seen pending next
   step-second taken-is some small n = stepped (taken-second pending taken first-is taken-is) n some small

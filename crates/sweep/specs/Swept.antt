@@ -28,7 +28,7 @@ pub record NearWord (adj : Adjacency) (word k : ℕ) (near : List ℕ) : Type 0 
   pub every : (j a : ℕ) → bit word j ≡ true → adj (64 * k + j + 1) a ≡ true → has near a ≡ true
 
 -- The atoms near are seen, those taken leave the frontier, and those near that are new and allowed join it
-pub record Advanced (allowed seen pending : List ℕ) (taken near : ℕ → Bool) (next : Front) : Type 0 where
+pub record FrontMoved (allowed seen pending : List ℕ) (taken near : ℕ → Bool) (next : Front) : Type 0 where
   pub seen-is : (a : ℕ) → has (next .seen) a ≡ (has seen a || near a)
   pub pending-is :
       (a : ℕ) → has (next .pending) a ≡ (has pending a && not (taken a) || near a && not (has seen a) && has allowed a)
@@ -46,4 +46,4 @@ pub record Stepped (adj : Adjacency) (allowed seen pending : List ℕ) (next : F
   pub were-pending : (x : ℕ) → taken x ≡ true → has pending x ≡ true
   pub only : (a : ℕ) → near a ≡ true → (x : ℕ) × (taken x ≡ true) × (adj x a ≡ true)
   pub every : (x a : ℕ) → taken x ≡ true → adj x a ≡ true → near a ≡ true
-  pub advanced : Advanced allowed seen pending taken near next
+  pub advanced : FrontMoved allowed seen pending taken near next

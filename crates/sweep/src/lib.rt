@@ -1,7 +1,7 @@
 // Reachability by one backward sweep: from the targets, over bonds, through allowed atoms.
 ghost use Prim.Native.Nat.{_<_};
 ghost use Rattle.atomset.specs.Set.{has, linkedBy};
-ghost use Rattle.sweep.specs.Swept.{Symmetric, Swept, NearWord, Advanced, Stepped, WordLeft};
+ghost use Rattle.sweep.specs.Swept.{Symmetric, Swept, NearWord, FrontMoved, Stepped, WordLeft};
 
 // The atoms that were seen, and the frontier: those whose neighbours are still to be seen.
 struct Front {
@@ -34,7 +34,7 @@ fn advance(
     taken: [u64; 2],
     near: [u64; 2],
 ) -> Front
-    ensures { λ r. ⌜ Advanced allowed seen pending (has taken) (has near) r ⌝ }
+    ensures { λ r. ⌜ FrontMoved allowed seen pending (has taken) (has near) r ⌝ }
 {
     let fresh = atomset::minus(near, seen);
     let rest = atomset::minus(pending, taken);
