@@ -16,11 +16,14 @@ use Rattle.search.proofs.Lines.{Layout, layout-of, layout-facts}
 
 -- ---- a test t with the result r, and the branch on its negation
 
-pub refuted : {r t : Bool} → r ≡ t → not r ≡ true → t ≡ true → ⊥
-refuted is fails passes = clash _ (is ∙ passes) (not-true _ fails)
+pub failed : {r t : Bool} → r ≡ t → not r ≡ true → t ≡ false
+failed is e = sym is ∙ not-true _ e
 
-pub confirmed : {r t : Bool} → r ≡ t → not r ≡ false → t ≡ true
-confirmed is passes = sym is ∙ not-false _ passes
+pub passed : {r t : Bool} → r ≡ t → not r ≡ false → t ≡ true
+passed is e = sym is ∙ not-false _ e
+
+pub refuted : {r t : Bool} → r ≡ t → not r ≡ true → t ≡ true → ⊥
+refuted is e holds = clash _ holds (failed is e)
 
 -- ---- fields in a row
 

@@ -31,8 +31,8 @@ returns : tie.Need-returns Inv-loop μ-loop
 returns c =
     let turn : Place tie.In-loop = search in
     let number : Place tie.After-number-at = search in
-    let is-value = told (number .number-at .ensures) (c .before .is-value .ensures) in
-    passed-fails (turn .before .loop .inv) (turn .loop-test .taken) (is-value ∙ not-true _ (c .if1 .taken))
+    let field = told (number .number-at .ensures) (c .before .is-value .ensures) in
+    passed-fails (turn .before .loop .inv) (turn .loop-test .taken) (field ∙ not-true _ (c .if1 .taken))
 
 add-place : tie.Need-add-place Inv-loop μ-loop
 add-place c =
@@ -43,8 +43,8 @@ loop-again : tie.Need-loop-again Inv-loop μ-loop
 loop-again c =
     let turn : Place tie.In-loop = search in
     let number : Place tie.After-number-at = search in
-    let is-value = told (number .number-at .ensures) (c .before .is-value .ensures) in
-    passed-more (turn .before .loop .inv) (turn .loop-test .taken) (is-value ∙ not-false _ (c .if1 .left))
+    let field = told (number .number-at .ensures) (c .before .is-value .ensures) in
+    passed-more (turn .before .loop .inv) (turn .loop-test .taken) (field ∙ not-false _ (c .if1 .left))
 
 returns-2 : tie.Need-returns-2 Inv-loop μ-loop
 returns-2 c = passed-all (c .before .loop .inv) (c .loop-test .left)

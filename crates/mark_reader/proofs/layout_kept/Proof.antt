@@ -2,7 +2,7 @@
 -- and past the others the last one decides.
 use native.Mathlib.Omega.{arith}
 use borrow.Author.Needs.{needs}
-use Rattle.mark_reader.proofs.Layouts.{refuted, confirmed, broken, last-decides}
+use Rattle.mark_reader.proofs.Layouts.{refuted, passed, broken, last-decides}
 use Rattle.mark_reader.proofs.layout_kept.Statement.{statement}
 use Rattle.mark_reader.proofs.layout_kept.Tie as tie
 
@@ -45,11 +45,11 @@ returns-9 c =
     last-decides (count .small-at .ensures) (λ ends. record {
       size = omega arith;
       most = omega arith;
-      head-kept = confirmed (head .before .fields-kept .ensures) (head .if2 .left);
+      head-kept = passed (head .before .fields-kept .ensures) (head .if2 .left);
       head-ends = head-end .if3 .left;
-      counts-kept = confirmed (counts .before .fields-kept2 .ensures) (counts .if4 .left);
+      counts-kept = passed (counts .before .fields-kept2 .ensures) (counts .if4 .left);
       counts-end = counts-end .if5 .left;
-      atoms-kept = confirmed (rw (count .small-at .ensures) at (atoms .before .fields-kept3 .ensures)) (atoms .if8 .left);
+      atoms-kept = passed (rw (count .small-at .ensures) at (atoms .before .fields-kept3 .ensures)) (atoms .if8 .left);
       atoms-end = rw (count .small-at .ensures) at ends;
     })
 
