@@ -61,9 +61,8 @@ splice-on l a b at h =
     let same-front : take (at + length a) (front ++ rest) ≡ front = take-at front rest (at + length a) size in
     let past : at + length a + length b ≡ length front + length b = rw size in
     let all : at + length a + length b ≡ end = rw length-append (omega arith) in
-    let same-rest : drop (at + length a + length b) (front ++ rest) ≡ drop end l =
-    ap (λ k. drop k (front ++ rest)) past ∙ drop-append-add front rest (length b) ∙
-    drop-drop (length b) (at + length a) l ∙ ap (λ k. drop k l) all in
+    let moved = drop-append-add front rest (length b) ∙ drop-drop (length b) (at + length a) l in
+    let same-rest = ap (λ k. drop k (front ++ rest)) past ∙ moved ∙ ap (λ k. drop k l) all in
     rw (same-front, same-rest) (ap (λ t. t ++ drop end l) (append-assoc (take at l) a b))
 
 -- the same, where the first splice's list and the second's place are known by equations
@@ -87,6 +86,11 @@ unfolding fieldsText
 fields-snoc c [] v = append-nil (fieldText c v)
 fields-snoc c (x ∷ vs) v = rw (fields-snoc c vs v, append-assoc)
 
+fields-more :
+    (c : ℕ) (vs : List ℕ) (i : ℕ) → i < length vs →
+    fieldsText c (take (i + 1) vs) ≡ fieldsText c (take i vs) ++ fieldText c (getD vs i 0)
+fields-more c vs i h = rw (add-one, take-suc vs i 0 h) (fields-snoc c (take i vs) (getD vs i 0))
+
 pub put-none : {l vs : List ℕ} {at c : ℕ} → at + c * length vs ≤ length l → Put l vs at c l 0 at
 unfolding fieldsText
 put-none {l} {vs} {at} {c} room =
@@ -109,18 +113,15 @@ module _ {l vs : List ℕ} {at c : ℕ} {out : List ℕ} {i place : ℕ} (p : Pu
   put-more h is-value same e =
       let value = getD vs i 0 in
       let size = fields-length c (take i vs) ∙ ap (λ k. c * k) (length-take-le i vs (omega arith)) in
-      let more : fieldsText c (take (i + 1) vs) ≡ fieldsText c (take i vs) ++ fieldText c value =
-      rw (add-one, take-suc vs i 0 h) (fields-snoc c (take i vs) value) in
-      let fits : place + length (fieldText c value) ≤ length l =
-      omega (arith, put-fits h, p .size, field-length c value) in
-      let on = splice-next l (fieldsText c (take i vs)) (fieldText c value) out at place (p .put)
-      (p .ends ∙ ap (λ k. at + k) (sym size)) fits in
+      let here = p .ends ∙ ap (λ k. at + k) (sym size) in
+      let room : place + length (fieldText c value) ≤ length l = rw field-length (rw (p .size) at (put-fits h)) in
+      let on = splice-next l (fieldsText c (take i vs)) (fieldText c value) out at place (p .put) here room in
       record {
         room = p .room;
         within = omega arith;
         ends = place-on at c i place (p .ends);
         size = same ∙ p .size;
-        put = rw (e, is-value, more) on;
+        put = rw (e, is-value, fields-more c vs i h) on;
       }
 
   pub put-all : length vs ≤ i → out ≡ spliced at (fieldsText c vs) l
