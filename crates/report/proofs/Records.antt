@@ -103,15 +103,17 @@ module _ {rs before text : List ℕ} {used i : ℕ} (p : Printing rs before text
       let rest = drop (length line) (drop used text) in
       let least : length (drop used text) ≤ length text - used = omega (arith, length-drop used text) in
       let none = drop-of-length-le (drop used text) least in
-      let bytes : putMid used (length text - used) text part ≡ front ++ rest =
-      rw (none, append-nil part, is-part) (sym (append-assoc (take used text) line rest)) in
+      let joined = sym (append-assoc (take used text) line rest) in
+      let bytes : putMid used (length text - used) text part ≡ front ++ rest = rw (none, append-nil, is-part) joined in
       let size : length front ≡ used + length line = rw (length-append, length-take-le used text used-within) in
       let past = length-drop (length line) (drop used text) in
       record {
         room = p .room;
         within = within;
         short = short;
-        size = ap length bytes ∙ rw (length-append, size, past, length-drop used text) (omega (arith, p .room, p .size));
+        size =
+            ap length bytes ∙
+            rw (length-append, size, past, length-drop used text) (omega (arith, p .room, p .size));
         ahead =
             p .ahead ∙ rw (is-next, bytes, take-at front rest (used + length line) size)
             (sym (append-assoc (take used text) line (ringLines (drop next rs))));
@@ -123,8 +125,7 @@ module _ {rs before text : List ℕ} {used i : ℕ} (p : Printing rs before text
     at-record = rw (byte, add-one i) (drop-cons rs i 0 more)
 
     -- a record that is cut off
-    pub printed-cut :
-        length rs - (i + 1) < k → PrintedInto (4 * length rs) (ringLines rs) before used text
+    pub printed-cut : length rs - (i + 1) < k → PrintedInto (4 * length rs) (ringLines rs) before used text
     printed-cut h =
         printing-ends (rw at-record (lines-cut k (drop (i + 1) rs) (omega (arith, length-drop (i + 1) rs))))
 
@@ -158,5 +159,6 @@ module _ {rs before text : List ℕ} {used i : ℕ} (p : Printing rs before text
       printing-goes-on (is-size, is-part) =
           let line = printed-whole (4 * length ring + 1) (ringLine ring) (drop used text) enough in
           let size : length (ringLine ring) ≡ 4 * k + 1 = rw (ring-length, ring-size) in
+          let put = rw (part-is, line .1) at is-part in
           rw (is-size, part-is, line .0)
-          (line-on (ringLine ring) (omega arith) (omega (arith, size, p .short)) next-line (is-part ∙ rw (part-is, line .1)))
+          (line-on (ringLine ring) (omega arith) (omega (arith, size, p .short)) next-line put)
