@@ -24,30 +24,6 @@ word-kept c k = length-sets (c .before .before .args .text .now) 0 (take k refus
 returns : tie.Need-returns
 returns c = prints-none 12 _ _ (c .if1 .taken)
 
-slice-write-text-2 : tie.Need-slice-write-text-2
-slice-write-text-2 c = omega (arith, word-kept c 1)
-
-slice-write-text-3 : tie.Need-slice-write-text-3
-slice-write-text-3 c = omega (arith, word-kept c 2)
-
-slice-write-text-4 : tie.Need-slice-write-text-4
-slice-write-text-4 c = omega (arith, word-kept c 3)
-
-slice-write-text-5 : tie.Need-slice-write-text-5
-slice-write-text-5 c = omega (arith, word-kept c 4)
-
-slice-write-text-6 : tie.Need-slice-write-text-6
-slice-write-text-6 c = omega (arith, word-kept c 5)
-
-slice-write-text-7 : tie.Need-slice-write-text-7
-slice-write-text-7 c = omega (arith, word-kept c 6)
-
-part-write-number-end : tie.Need-part-write-number-end
-part-write-number-end c = omega (arith, word-kept c 7)
-
-slice-write-text-8 : tie.Need-slice-write-text-8
-slice-write-text-8 c = omega (arith, word-kept (search) 7)
-
 same-length : tie.Need-same-length
 same-length c =
     let start : tie.Start = search in
@@ -69,6 +45,7 @@ pub refusal-line-spec : {M : Type 1} → statement M
 refusal-line-spec =
     tie.close
     (tie.spec
-    returns (λ c. search needs) slice-write-text-2 slice-write-text-3 slice-write-text-4 slice-write-text-5
-    slice-write-text-6 slice-write-text-7 (λ c. search needs) (λ c. search needs) part-write-number-end
-    (λ c κs. search needs) slice-write-text-8 same-length returns-2)
+    returns (λ c. search needs) (λ c. omega (arith, word-kept c 1)) (λ c. omega (arith, word-kept c 2))
+    (λ c. omega (arith, word-kept c 3)) (λ c. omega (arith, word-kept c 4)) (λ c. omega (arith, word-kept c 5))
+    (λ c. omega (arith, word-kept c 6)) (λ c. search needs) (λ c. search needs) (λ c. omega (arith, word-kept c 7))
+    (λ c κs. search needs) (λ c. omega (arith, word-kept (search) 7)) same-length returns-2)
