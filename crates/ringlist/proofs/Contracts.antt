@@ -10,7 +10,7 @@ use borrow.Author.Tests.{lt-ltb, le-ltb}
 use Rattle.refusal.specs.declared.Refusal.{Refusal}
 use Rattle.refusal.specs.declared.Refusal.the-variants as refusal
 use Rattle.refusal.specs.Number.{numberOf}
-use Rattle.report.specs.Lines.{refusalLine, ringLines, PrintedInto}
+use Rattle.report.specs.Lines.{refusalLine, ringLines, printed, printedOn}
 use Rattle.refusal.specs.declared.Answer.{Answer}
 use Rattle.molecule.specs.declared.Molecule.{Molecule}
 use Rattle.molecule.specs.Record.{wellFormed, freshMolecule}
@@ -86,7 +86,9 @@ pub rings-turned :
     {out after last : List ℕ} {r : Ran} {size : ℕ} {part : Part} {turn : Turn} →
     out ≡ output → (r ≡ runSearch m q budget out) × (after ≡ runOutput m q budget out) →
     let bytes = take (r .used) after in
-    PrintedInto (4 * length bytes) (ringLines bytes) text size last → part ≡ partAfter (r .ended) →
+    (size ≡ printed (4 * length bytes) (ringLines bytes) text) ×
+    (last ≡ printedOn (4 * length bytes) (ringLines bytes) text) →
+    part ≡ partAfter (r .ended) →
     turn ≡ turnOf (record { part = part; molecule = m; search = r .search }) size false →
     (turn ≡ ringsTurn m q text) × (last ≡ ringsOn m q text)
 rings-turned q text is-output (is-ran, is-after) (is-size, is-last) is-part is-turn =
@@ -97,13 +99,15 @@ rings-turned q text is-output (is-ran, is-after) (is-size, is-last) is-part is-t
 module _ (l : Listing) (text : List ℕ) {last : List ℕ} {turn : Turn} where
   pub refused-turned :
       {r : Refusal} {k size : ℕ} → l .part ≡ Refused r → k ≡ numberOf r →
-      PrintedInto 12 (refusalLine k) text size last → turn ≡ turnOf l size true →
+      (size ≡ printed 12 (refusalLine k) text) × (last ≡ printedOn 12 (refusalLine k) text) →
+      turn ≡ turnOf l size true →
       (turn ≡ turned l text) × (last ≡ turnedText l text)
   refused-turned is-part is-number (is-size, is-last) is-turn =
       rw (is-turn, is-part, is-size, is-last, is-number) (refl, refl)
 
   pub counts-turned :
-      {size : ℕ} → l .part ≡ Counts → PrintedInto 61 (countsOf (l .search)) text size last →
+      {size : ℕ} → l .part ≡ Counts →
+      (size ≡ printed 61 (countsOf (l .search)) text) × (last ≡ printedOn 61 (countsOf (l .search)) text) →
       turn ≡ turnOf l size true → (turn ≡ turned l text) × (last ≡ turnedText l text)
   counts-turned is-part (is-size, is-last) is-turn = rw (is-turn, is-part, is-size, is-last) (refl, refl)
 
