@@ -112,15 +112,16 @@ nextOf m q = oneRun m q .search
 abbrev bufferThen : Molecule → Search → List ℕ → List ℕ
 bufferThen m q buffer = turnedText (ringsFrom m q) buffer
 
-module _ {m : Molecule} {q : Search} (s : Stands m q) (buffer : List ℕ) (room : 65536 ≤ length buffer) where
+module _ (m : Molecule) (q : Search) (buffer : List ℕ) (room : 65536 ≤ length buffer) where
   fits : 4 * length (runRecords m q) ≤ length buffer
   fits = omega (arith, records-fit m q)
 
-  text-is : textOf (ringsFrom m q) buffer ≡ linesBetween m q (nextOf m q)
-  text-is = piece-text _ buffer fits ∙ run-lines s
-
   then-room : 65536 ≤ length (bufferThen m q buffer)
   then-room = omega (arith, piece-keeps {room = 4 * length (runRecords m q)} (ringLines (runRecords m q)) buffer fits)
+
+module _ {m : Molecule} {q : Search} (s : Stands m q) (buffer : List ℕ) (room : 65536 ≤ length buffer) where
+  text-is : textOf (ringsFrom m q) buffer ≡ linesBetween m q (nextOf m q)
+  text-is = piece-text _ buffer (fits m q buffer room) ∙ run-lines s
 
   -- the run and then the counts
   last-turns :
@@ -131,7 +132,7 @@ module _ {m : Molecule} {q : Search} (s : Stands m q) (buffer : List ℕ) (room 
       let next = nextOf m q in
       let then = bufferThen m q buffer in
       let last = textOf (countsFrom m next) then in
-      let counts : last ≡ countsOf next = piece-text _ then (omega (arith, then-room)) in
+      let counts : last ≡ countsOf next = piece-text _ then (omega (arith, then-room m q buffer room)) in
       rw (← text-is, ← counts) (goes-on (ringsFrom m q) buffer last refl (rw e (ends (countsFrom m next) then refl)))
 
   -- the lines of the run before those up to a later search
@@ -184,7 +185,7 @@ rings-print :
 rings-print zero s h buffer room =
     step s buffer room (λ more. absurd (omega (arith, listed-most (run-stands s))))
 rings-print {m} {q} (suc k) s h buffer room =
-    let enough = then-room s buffer room in
+    let enough = then-room m q buffer room in
     step s buffer room (λ more. rings-print k (run-stands s) (omega arith) (bufferThen m q buffer) enough)
 
 -- ---- the last search is the one that the definition names
