@@ -1,12 +1,14 @@
--- The answers of a restore past rule 9, by the rules that lead to each.
--- The definitions go by `cond`, so each answer follows by rewriting the rules.
-use Prim.Native.Nat.{ℕ, _+_, _*_, _≤_}
+-- The answers of a restore past rule 9, by the rules that lead to each; the definition goes by `cond`.
+-- The code tests the search that it has built from the stored atoms: its tests are those of the mark.
+use Prim.Native.Nat.{ℕ, _≤_}
 use native.Mathlib.Omega.{arith}
 use mathlib.Core.Path.{_≡_, ap, sym, _∙_}
-use mathlib.Core.Bool.{Bool, true, false}
+use mathlib.Core.Bool.{Bool, true, false, not}
 use mathlib.Core.List.{List, map, reverse, reverse-reverse}
+use lib.Dec.{eqb}
 use lib.ListN.{length, take, length-reverse}
-use borrow.Author.Tests.{eq-eqb, ne-eqb}
+use borrow.Author.Tests.{eq-eqb, eqb-true}
+use Rattle.graph.proofs.Below.{and-both, and-parts, false-of}
 use Rattle.enumeration.specs.Words.{Family}
 use Rattle.enumeration.specs.Lawful.{Lawful}
 use Rattle.refusal.specs.declared.Refusal.the-variants as refusal
@@ -16,101 +18,74 @@ use Rattle.molecule.proofs.Bonds.{rule9}
 use Rattle.search.specs.declared.Search.{Search}
 use Rattle.search.specs.Place.{familyOf, family, beginning, held, searchAt, kindKept, placeKept}
 use Rattle.search.specs.Entries.{acceptedSearch, refusedSearch}
-use Rattle.search.specs.Mark.{valueAt, markLength, markBeginning, markSearch, layoutKept, restoreMark}
-use Rattle.search.proofs.Text.{values-four, values-length}
-use Rattle.search.proofs.Lines.{layout-facts}
+use Rattle.search.specs.Mark.{valueAt, valuesAt, markLength, markBeginning, markSearch, layoutKept, belongs, restoreMark}
+use Rattle.search.proofs.Lines.{Layout, layout-of}
 use Rattle.search.proofs.Readings.{family-lawful, family-atoms, place-facts}
 use Rattle.search.proofs.Views.{held-take, held-length}
 use Rattle.mark_reader.specs.Parts.{low, searchOf}
-use Rattle.mark_reader.proofs.Stored.{low-length, stored-open, place-stored}
+use Rattle.mark_reader.proofs.Layouts.{failed, passed}
+use Rattle.mark_reader.proofs.Stored.{values-size, low-length, stored-open, place-stored}
 
-module _ (mol : Molecule) (bytes : List ℕ) (formed : wellFormed mol ≡ true) where
-  pub restore-bytes : layoutKept bytes ≡ false → refusedSearch refusal.MarkBytes ≡ restoreMark mol bytes
-  unfolding restoreMark
-  restore-bytes e = rw (formed, e)
+-- ---- rules 14 and 15
 
-  module _ (layout : layoutKept bytes ≡ true) where
-    pub restore-atoms :
-        (valueAt 4 bytes 12 ≡ mol .atoms → ⊥) → refusedSearch refusal.MarkMolecule ≡ restoreMark mol bytes
+-- the bytes keep both on a molecule that keeps rule 9
+pub record Owned (mol : Molecule) (bytes : List ℕ) : Type 0 where
+  pub formed : wellFormed mol ≡ true
+  pub layout : Layout bytes
+  pub atoms : valueAt 4 bytes 12 ≡ mol .atoms
+  pub bonds : valueAt 4 bytes 16 ≡ mol .bonds
+
+owned-belongs : {mol : Molecule} {bytes : List ℕ} → Owned mol bytes → belongs mol bytes ≡ true
+owned-belongs {mol} {bytes} o =
+    and-both (eqb (valueAt 4 bytes 12) (mol .atoms)) (eqb (valueAt 4 bytes 16) (mol .bonds))
+    (eq-eqb (valueAt 4 bytes 12) (mol .atoms) (o .atoms))
+    (eq-eqb (valueAt 4 bytes 16) (mol .bonds) (o .bonds))
+
+module _ (mol : Molecule) (bytes : List ℕ) where
+  -- the mark names another number of atoms, or of bonds
+  abbrev differs : Type 0
+  differs = valueAt 4 bytes 12 ≡ mol .atoms → valueAt 4 bytes 16 ≡ mol .bonds → ⊥
+
+  belongs-not : differs → belongs mol bytes ≡ false
+  belongs-not differ =
+      false-of (belongs mol bytes)
+      (λ e.
+      let same = and-parts (eqb (valueAt 4 bytes 12) (mol .atoms)) (eqb (valueAt 4 bytes 16) (mol .bonds)) e in
+      differ (eqb-true (valueAt 4 bytes 12) (mol .atoms) (same .0))
+      (eqb-true (valueAt 4 bytes 16) (mol .bonds) (same .1)))
+
+  module _ (formed : wellFormed mol ≡ true) where
+    pub refuses-bytes : layoutKept bytes ≡ false → refusedSearch refusal.MarkBytes ≡ restoreMark mol bytes
     unfolding restoreMark
-    restore-atoms e = rw (formed, layout, ne-eqb (valueAt 4 bytes 12) (mol .atoms) e)
+    refuses-bytes e = rw (formed, e)
 
-    module _ (atoms : valueAt 4 bytes 12 ≡ mol .atoms) where
-      pub restore-bonds :
-          (valueAt 4 bytes 16 ≡ mol .bonds → ⊥) → refusedSearch refusal.MarkMolecule ≡ restoreMark mol bytes
-      unfolding restoreMark
-      restore-bonds e =
-          rw (
-            formed,
-            layout,
-            eq-eqb (valueAt 4 bytes 12) (mol .atoms) atoms,
-            ne-eqb (valueAt 4 bytes 16) (mol .bonds) e,
-          )
-
-      module _ (bonds : valueAt 4 bytes 16 ≡ mol .bonds) where
-        pub restore-kind :
-            kindKept (mol .atoms) (valueAt 4 bytes 0) (valueAt 4 bytes 4) (valueAt 4 bytes 8) ≡ false →
-            refusedSearch refusal.MarkKind ≡ restoreMark mol bytes
-        unfolding restoreMark
-        restore-kind e =
-            rw (
-              formed,
-              layout,
-              eq-eqb (valueAt 4 bytes 12) (mol .atoms) atoms,
-              eq-eqb (valueAt 4 bytes 16) (mol .bonds) bonds,
-              e,
-            )
-
-        module _ (kinds : kindKept (mol .atoms) (valueAt 4 bytes 0) (valueAt 4 bytes 4) (valueAt 4 bytes 8) ≡
-            true) where
-          abbrev place : Bool
-          place =
-              placeKept (familyOf mol (valueAt 4 bytes 0) (valueAt 4 bytes 4) (valueAt 4 bytes 8)) (markBeginning bytes)
-              (valueAt 4 bytes 24)
-
-          pub restore-place : place ≡ false → refusedSearch refusal.MarkPlace ≡ restoreMark mol bytes
-          unfolding restoreMark
-          restore-place e =
-              rw (
-                formed,
-                layout,
-                eq-eqb (valueAt 4 bytes 12) (mol .atoms) atoms,
-                eq-eqb (valueAt 4 bytes 16) (mol .bonds) bonds,
-                kinds,
-                e,
-              )
-
-          pub restore-accepts : place ≡ true → acceptedSearch (markSearch bytes) ≡ restoreMark mol bytes
-          unfolding restoreMark
-          restore-accepts e =
-              rw (
-                formed,
-                layout,
-                eq-eqb (valueAt 4 bytes 12) (mol .atoms) atoms,
-                eq-eqb (valueAt 4 bytes 16) (mol .bonds) bonds,
-                kinds,
-                e,
-              )
+    pub refuses-molecule : Layout bytes → differs → refusedSearch refusal.MarkMolecule ≡ restoreMark mol bytes
+    unfolding restoreMark
+    refuses-molecule layout differ = rw (formed, layout-of bytes layout, belongs-not differ)
 
 -- ---- the search that is built from the stored atoms
 
 -- the search that a mark names, with its atoms stored as bytes
-abbrev pub built : List ℕ → Search
+abbrev built : List ℕ → Search
 built bytes = searchOf bytes (held (map low (markBeginning bytes)))
 
+-- what rules 16 and 17 ask of a mark
+abbrev markKind : Molecule → List ℕ → Bool
+markKind mol bytes = kindKept (mol .atoms) (valueAt 4 bytes 0) (valueAt 4 bytes 4) (valueAt 4 bytes 8)
+
+abbrev markFamily : Molecule → List ℕ → Family
+markFamily mol bytes = familyOf mol (valueAt 4 bytes 0) (valueAt 4 bytes 4) (valueAt 4 bytes 8)
+
+abbrev markPlace : Molecule → List ℕ → Bool
+markPlace mol bytes = placeKept (markFamily mol bytes) (markBeginning bytes) (valueAt 4 bytes 24)
+
 module _ (mol : Molecule) (bytes : List ℕ) (formed : wellFormed mol ≡ true) where
-  abbrev F : Family
-  F = familyOf mol (valueAt 4 bytes 0) (valueAt 4 bytes 4) (valueAt 4 bytes 8)
-
-  few : F .atoms ≤ 128
+  few : markFamily mol bytes .atoms ≤ 128
   few =
-      omega (
-        arith,
-        family-atoms mol (valueAt 4 bytes 0) (valueAt 4 bytes 4) (valueAt 4 bytes 8),
-        rule9 mol formed .atoms-high,
-      )
+      let same = family-atoms mol (valueAt 4 bytes 0) (valueAt 4 bytes 4) (valueAt 4 bytes 8) in
+      omega (arith, rule9 mol formed .atoms-high)
 
-  lawful : Lawful F
+  lawful : Lawful (markFamily mol bytes)
   lawful = family-lawful mol (valueAt 4 bytes 0) (valueAt 4 bytes 4) (valueAt 4 bytes 8)
 
   built-beginning : beginning (built bytes) ≡ map low (markBeginning bytes)
@@ -119,69 +94,89 @@ module _ (mol : Molecule) (bytes : List ℕ) (formed : wellFormed mol ≡ true) 
       ap (λ k. take k (held (map low (markBeginning bytes)))) (sym (low-length bytes (markLength bytes))) ∙
       held-take (map low (markBeginning bytes))
 
-  built-place :
-      placeKept (family mol (built bytes)) (beginning (built bytes)) (built bytes .next) ≡
-      placeKept F (markBeginning bytes) (valueAt 4 bytes 24)
+  built-place : placeKept (family mol (built bytes)) (beginning (built bytes)) (built bytes .next) ≡ markPlace mol bytes
   unfolding searchOf
   built-place =
-      ap (λ w. placeKept F w (valueAt 4 bytes 24)) built-beginning ∙
-      place-stored F lawful few (markBeginning bytes) (valueAt 4 bytes 24)
+      ap (λ p. placeKept (markFamily mol bytes) p (valueAt 4 bytes 24)) built-beginning ∙
+      place-stored (markFamily mol bytes) lawful few (markBeginning bytes) (valueAt 4 bytes 24)
 
+  -- where its place is allowed, its atoms are those of the mark
   built-search :
       placeKept (family mol (built bytes)) (beginning (built bytes)) (built bytes .next) ≡ true →
       built bytes ≡ markSearch bytes
   unfolding searchOf markSearch searchAt
   built-search e =
+      let F = markFamily mol bytes in
       let opened = place-facts F (beginning (built bytes)) (valueAt 4 bytes 24) e .place-open in
-      let same : map low (markBeginning bytes) ≡ markBeginning bytes =
-      stored-open F lawful few (markBeginning bytes) (rw built-beginning at opened) in
-      let size : length (reverse (markBeginning bytes)) ≡ markLength bytes = length-reverse (markBeginning bytes) ∙
-      ap length (values-four bytes 90 (markLength bytes)) ∙ values-length 4 bytes 90 (markLength bytes) in
+      let same = stored-open F lawful few (markBeginning bytes) (rw built-beginning at opened) in
+      let size = length-reverse (markBeginning bytes) ∙ values-size bytes 90 (markLength bytes) in
       rw (same, size, reverse-reverse (markBeginning bytes))
 
-  module _ (layout : layoutKept bytes ≡ true) where
-    pub layout-room : 91 + 4 * markLength bytes ≤ length bytes
-    layout-room = omega (arith, layout-facts bytes layout .size)
+-- ---- rules 16 and 17
 
-    pub layout-most : markLength bytes ≤ 127
-    layout-most = layout-facts bytes layout .most
+-- the search q is the one that the bytes name
+pub record ReadFrom (mol : Molecule) (bytes : List ℕ) (q : Search) : Type 0 where
+  pub owned : Owned mol bytes
+  pub read : q ≡ built bytes
 
-    module _ (q : Search) (is : q ≡ built bytes) where
-      pub built-short : q .len ≤ 127
-      unfolding searchOf
-      built-short = rw is layout-most
+pub built-of :
+    (bytes : List ℕ) {prefix : List ℕ} {k : ℕ} {q : Search} →
+    q ≡ searchOf bytes prefix → prefix ≡ held (map low (valuesAt bytes 90 k)) → k ≡ markLength bytes → q ≡ built bytes
+built-of bytes found atoms count = rw (found, atoms, count)
 
-      pub built-full : length (q .prefix) ≡ 128
-      unfolding searchOf
-      built-full =
-          rw is (held-length (map low (markBeginning bytes))
-          (omega (arith, low-length bytes (markLength bytes), layout-most)))
+module _ {mol : Molecule} {bytes : List ℕ} {q : Search} (r : ReadFrom mol bytes q) where
+  pub read-short : q .len ≤ 127
+  unfolding searchOf
+  read-short = rw (r .read) (r .owned .layout .most)
 
-      named-kind :
-          kindKept (mol .atoms) (q .kind) (q .s) (q .t) ≡ kindKept (mol .atoms) (valueAt 4 bytes 0) (valueAt 4 bytes 4)
-          (valueAt 4 bytes 8)
-      unfolding searchOf
-      named-kind = rw is
+  pub read-full : length (q .prefix) ≡ 128
+  unfolding searchOf
+  read-full =
+      let size = low-length bytes (markLength bytes) in
+      rw (r .read) (held-length (map low (markBeginning bytes)) (omega (arith, r .owned .layout .most)))
 
-      named-place :
-          placeKept (family mol q) (beginning q) (q .next) ≡ placeKept F (markBeginning bytes) (valueAt 4 bytes 24)
-      named-place = ap (λ x. placeKept (family mol x) (beginning x) (x .next)) is ∙ built-place
+  same-kind : markKind mol bytes ≡ kindKept (mol .atoms) (q .kind) (q .s) (q .t)
+  unfolding searchOf
+  same-kind = rw (r .read)
 
-      module _ (atoms : valueAt 4 bytes 12 ≡ mol .atoms) (bonds : valueAt 4 bytes 16 ≡ mol .bonds) where
-        pub built-kind :
-            kindKept (mol .atoms) (q .kind) (q .s) (q .t) ≡ false →
-            refusedSearch refusal.MarkKind ≡ restoreMark mol bytes
-        built-kind e = restore-kind mol bytes formed layout atoms bonds (sym named-kind ∙ e)
+  same-place : markPlace mol bytes ≡ placeKept (family mol q) (beginning q) (q .next)
+  same-place = rw (r .read) (sym (built-place mol bytes (r .owned .formed)))
 
-        module _ (kinds : kindKept (mol .atoms) (q .kind) (q .s) (q .t) ≡ true) where
-          pub built-turned :
-              placeKept (family mol q) (beginning q) (q .next) ≡ false →
-              refusedSearch refusal.MarkPlace ≡ restoreMark mol bytes
-          built-turned e =
-              restore-place mol bytes formed layout atoms bonds (sym named-kind ∙ kinds) (sym named-place ∙ e)
+  -- the code's two tests, and the answer that each leads to
+  module _ {kind : Bool} (is-kind : kind ≡ kindKept (mol .atoms) (q .kind) (q .s) (q .t)) where
+    pub refuses-kind : not kind ≡ true → refusedSearch refusal.MarkKind ≡ restoreMark mol bytes
+    unfolding restoreMark
+    refuses-kind e =
+        rw (
+          r .owned .formed,
+          layout-of bytes (r .owned .layout),
+          owned-belongs (r .owned),
+          same-kind ∙ failed is-kind e,
+        )
 
-          pub built-accepted :
-              placeKept (family mol q) (beginning q) (q .next) ≡ true → acceptedSearch q ≡ restoreMark mol bytes
-          built-accepted e =
-              ap acceptedSearch (is ∙ built-search (rw is at e)) ∙
-              restore-accepts mol bytes formed layout atoms bonds (sym named-kind ∙ kinds) (sym named-place ∙ e)
+    module _ (kept : not kind ≡ false) {place : Bool}
+        (is-place : place ≡ placeKept (family mol q) (beginning q) (q .next)) where
+      pub refuses-place : not place ≡ true → refusedSearch refusal.MarkPlace ≡ restoreMark mol bytes
+      unfolding restoreMark
+      refuses-place e =
+          rw (
+            r .owned .formed,
+            layout-of bytes (r .owned .layout),
+            owned-belongs (r .owned),
+            same-kind ∙ passed is-kind kept,
+            same-place ∙ failed is-place e,
+          )
+
+      pub accepts : not place ≡ false → acceptedSearch q ≡ restoreMark mol bytes
+      unfolding restoreMark
+      accepts e =
+          let allowed = passed is-place e in
+          let named = r .read ∙ built-search mol bytes (r .owned .formed) (rw (r .read) at allowed) in
+          rw (
+            named,
+            r .owned .formed,
+            layout-of bytes (r .owned .layout),
+            owned-belongs (r .owned),
+            same-kind ∙ passed is-kind kept,
+            same-place ∙ allowed,
+          )

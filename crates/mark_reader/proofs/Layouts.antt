@@ -1,104 +1,85 @@
--- Rule 14 by its tests in order: the first that fails makes it false, and where all but the last hold it is the last.
--- The definition goes by `&&`, so each case follows by rewriting the tests.
+-- Rule 14 by its tests: one that fails makes it false, since rule 14 says that they all pass; past the others it is
+-- the last. Fields in a row are read one by one: what is known of those passed is `Passed`.
 use Prim.Native.Nat.{ℕ, _+_, _*_, _≤_, _<_}
 use native.Mathlib.Omega.{arith}
-use mathlib.Core.Path.{_≡_, refl, sym}
-use mathlib.Core.Bool.{Bool, true, false, _&&_}
+use mathlib.Core.Path.{_≡_, refl, ap, sym, _∙_}
+use mathlib.Core.Bool.{Bool, true, false, not}
 use mathlib.Core.List.{List}
 use lib.ListN.{length, getD}
-use lib.Dec.{leb}
-use borrow.Author.Tests.{le-leb, lt-leb, eq-eqb, ne-eqb}
-use Rattle.graph.proofs.Loops.{all-fails, all-more}
+use borrow.Author.Tests.{eq-eqb, eqb-true, not-true, not-false}
+use Rattle.fields.specs.declared.Number.{Number}
+use Rattle.fields.proofs.Places.{place-first, place-on, place-fits}
+use Rattle.graph.proofs.Below.{clash, false-of, same-test}
+use Rattle.graph.proofs.Loops.{all-fails, all-more, all-done}
 use Rattle.search.specs.Mark.{fieldAt, isValue, fieldsKept, isFeed, markLength, layoutKept}
+use Rattle.search.proofs.Lines.{Layout, layout-of, layout-facts}
 
--- ---- fields in a row, field by field
+-- ---- a test t with the result r, and the branch on its negation
 
-module _ (c : ℕ) (bytes : List ℕ) (at : ℕ) where
-  abbrev isField : ℕ → Bool
-  isField i = isValue (fieldAt c bytes (at + c * i))
+pub failed : {r t : Bool} → r ≡ t → not r ≡ true → t ≡ false
+failed is e = sym is ∙ not-true _ e
 
-  pub kept-none : fieldsKept c bytes at 0 ≡ true
+pub passed : {r t : Bool} → r ≡ t → not r ≡ false → t ≡ true
+passed is e = sym is ∙ not-false _ e
+
+pub refuted : {r t : Bool} → r ≡ t → not r ≡ true → t ≡ true → ⊥
+refuted is e holds = clash _ holds (failed is e)
+
+-- ---- fields in a row
+
+-- the first i of k fields are number fields, and `place` is where they end
+pub record Passed (columns : ℕ) (bytes : List ℕ) (at k i place : ℕ) : Type 0 where
+  pub room : at + columns * k ≤ length bytes
+  pub within : i ≤ k
+  pub ends : place ≡ at + columns * i
+  pub kept : fieldsKept columns bytes at i ≡ true
+
+-- the field at the place is looked at, and whether it is a number field
+pub told : {x y : Number} {r : Bool} → x ≡ y → r ≡ isValue x → isValue y ≡ r
+told is says = sym (ap isValue is) ∙ sym says
+
+module _ {columns : ℕ} {bytes : List ℕ} {at k : ℕ} where
+  pub passed-none : at + columns * k ≤ length bytes → Passed columns bytes at k 0 at
   unfolding fieldsKept
-  kept-none = refl
+  passed-none room = record { room = room; within = omega arith; ends = place-first at columns; kept = refl }
 
-  pub kept-fails :
-      (k i place : ℕ) → i < k → place ≡ at + c * i → isValue (fieldAt c bytes place) ≡ false →
-      false ≡ fieldsKept c bytes at k
-  unfolding fieldsKept
-  kept-fails k i place h p e = sym (all-fails k isField i h (rw p at e))
+  module _ {i place : ℕ} (p : Passed columns bytes at k i place) where
+    abbrev isField : ℕ → Bool
+    isField j = isValue (fieldAt columns bytes (at + columns * j))
 
-  pub kept-more :
-      (i place : ℕ) → fieldsKept c bytes at i ≡ true → place ≡ at + c * i → isValue (fieldAt c bytes place) ≡ true →
-      fieldsKept c bytes at (i + 1) ≡ true
-  unfolding fieldsKept
-  kept-more i place f p e = all-more i isField f (rw p at e)
+    pub next-fits : i < k → place + columns ≤ length bytes
+    next-fits h = place-fits at columns k (length bytes) i place (p .room) h (p .ends)
 
-  pub kept-done : (i k : ℕ) → i ≤ k → k ≤ i → fieldsKept c bytes at i ≡ true → true ≡ fieldsKept c bytes at k
-  kept-done i k l u f = let same : i ≡ k = omega arith in sym (rw same at f)
+    pub passed-fails : i < k → isValue (fieldAt columns bytes place) ≡ false → false ≡ fieldsKept columns bytes at k
+    unfolding fieldsKept
+    passed-fails h e = sym (all-fails k isField i h (rw (p .ends) at e))
+
+    pub passed-more :
+        i < k → isValue (fieldAt columns bytes place) ≡ true → Passed columns bytes at k (i + 1) (place + columns)
+    unfolding fieldsKept
+    passed-more h e =
+        record {
+          room = p .room;
+          within = omega arith;
+          ends = place-on at columns i place (p .ends);
+          kept = all-more i isField (p .kept) (rw (p .ends) at e);
+        }
+
+    pub passed-all : k ≤ i → true ≡ fieldsKept columns bytes at k
+    unfolding fieldsKept
+    passed-all h = sym (all-done i k isField (p .within) h (p .kept))
 
 -- ---- the whole layout
 
-module _ (bytes : List ℕ) where
-  pub layout-short : length bytes < 91 → false ≡ layoutKept bytes
-  unfolding layoutKept
-  layout-short h = rw (lt-leb 91 (length bytes) h)
+module _ {bytes : List ℕ} where
+  pub broken : (Layout bytes → ⊥) → false ≡ layoutKept bytes
+  broken f = sym (false-of (layoutKept bytes) (λ e. f (layout-facts bytes e)))
 
-  module _ (long : 91 ≤ length bytes) where
-    pub layout-head : fieldsKept 4 bytes 0 7 ≡ false → false ≡ layoutKept bytes
-    unfolding layoutKept
-    layout-head e = rw (le-leb 91 (length bytes) long, e)
-
-    module _ (head : fieldsKept 4 bytes 0 7 ≡ true) where
-      pub layout-first : (getD bytes 28 0 ≡ 10 → ⊥) → false ≡ layoutKept bytes
-      unfolding layoutKept
-      layout-first e = rw (le-leb 91 (length bytes) long, head, ne-eqb (getD bytes 28 0) 10 e)
-
-      module _ (first : getD bytes 28 0 ≡ 10) where
-        pub layout-counts : fieldsKept 20 bytes 29 3 ≡ false → false ≡ layoutKept bytes
-        unfolding layoutKept
-        layout-counts e = rw (le-leb 91 (length bytes) long, head, eq-eqb (getD bytes 28 0) 10 first, e)
-
-        module _ (counts : fieldsKept 20 bytes 29 3 ≡ true) where
-          pub layout-second : (getD bytes 89 0 ≡ 10 → ⊥) → false ≡ layoutKept bytes
-          unfolding layoutKept
-          layout-second e =
-              rw (
-                le-leb 91 (length bytes) long,
-                head,
-                eq-eqb (getD bytes 28 0) 10 first,
-                counts,
-                ne-eqb (getD bytes 89 0) 10 e,
-              )
-
-          module _ (second : getD bytes 89 0 ≡ 10) where
-            -- the tests so far
-            begun :
-                leb 91 (length bytes) && fieldsKept 4 bytes 0 7 && isFeed bytes 28 && fieldsKept 20 bytes 29 3 &&
-                isFeed bytes 89 ≡ true
-            begun =
-                rw (
-                  le-leb 91 (length bytes) long,
-                  head,
-                  eq-eqb (getD bytes 28 0) 10 first,
-                  counts,
-                  eq-eqb (getD bytes 89 0) 10 second,
-                )
-
-            module _ (k : ℕ) (is : k ≡ markLength bytes) where
-              pub layout-most : 127 < k → false ≡ layoutKept bytes
-              unfolding layoutKept
-              layout-most h = rw (begun, ← is, lt-leb k 127 h)
-
-              module _ (most : k ≤ 127) where
-                pub layout-size : (length bytes ≡ 91 + 4 * k → ⊥) → false ≡ layoutKept bytes
-                unfolding layoutKept
-                layout-size e = rw (begun, ← is, le-leb k 127 most, ne-eqb (length bytes) (91 + 4 * k) e)
-
-                module _ (size : length bytes ≡ 91 + 4 * k) where
-                  pub layout-atoms : fieldsKept 4 bytes 90 k ≡ false → false ≡ layoutKept bytes
-                  unfolding layoutKept
-                  layout-atoms e = rw (begun, ← is, le-leb k 127 most, eq-eqb (length bytes) (91 + 4 * k) size, e)
-
-                  pub layout-last : fieldsKept 4 bytes 90 k ≡ true → isFeed bytes (90 + 4 * k) ≡ layoutKept bytes
-                  unfolding layoutKept
-                  layout-last e = rw (begun, ← is, le-leb k 127 most, eq-eqb (length bytes) (91 + 4 * k) size, e)
+  -- all tests but the last are passed
+  pub last-decides :
+      {k : ℕ} → k ≡ markLength bytes → (getD bytes (90 + 4 * k) 0 ≡ 10 → Layout bytes) →
+      isFeed bytes (90 + 4 * k) ≡ layoutKept bytes
+  last-decides {k} is f =
+      same-test (isFeed bytes (90 + 4 * k)) (layoutKept bytes)
+      (λ e. layout-of bytes (f (eqb-true (getD bytes (90 + 4 * k) 0) 10 e)))
+      (λ e. eq-eqb (getD bytes (90 + 4 * k) 0) 10 (rw is (layout-facts bytes e .atoms-end)))

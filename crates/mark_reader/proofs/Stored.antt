@@ -7,7 +7,7 @@ use native.Mathlib.Omega.{arith}
 use mathlib.Core.Path.{_≡_, refl, ap, sym, _∙_}
 use mathlib.Core.Bool.{true}
 use mathlib.Core.List.{List, [], _∷_, _++_, map, map-append}
-use lib.ListN.{length, getD, set, replicate, length-append, length-map, List·getD-map}
+use lib.ListN.{length, getD, set, replicate, length-append, length-map, length-set, List·getD-map}
 use lib.Seq.{append-snoc, set-append-seam, ext-getD}
 use Rattle.graph.proofs.Below.{same-test}
 use Rattle.enumeration.specs.Words.{Family, isOpen}
@@ -37,29 +37,39 @@ held-snoc p v h =
     rw (more, length-append, left)
     (set-append-seam p 0 (replicate (127 - length p) 0) v ∙ sym (append-snoc p v (replicate (127 - length p) 0)))
 
+pub values-size : (bytes : List ℕ) (at k : ℕ) → length (valuesAt bytes at k) ≡ k
+values-size bytes at k = ap length (values-four bytes at k) ∙ values-length 4 bytes at k
+
 pub low-length : (bytes : List ℕ) (k : ℕ) → length (map low (valuesAt bytes 90 k)) ≡ k
-low-length bytes k =
-    length-map (valuesAt bytes 90 k) low ∙ ap length (values-four bytes 90 k) ∙ values-length 4 bytes 90 k
+low-length bytes k = length-map (valuesAt bytes 90 k) low ∙ values-size bytes 90 k
 
-pub atoms-none : (bytes : List ℕ) → replicate 128 0 ≡ held (map low (valuesAt bytes 90 0))
+-- the array holds the first i of k atoms, and zeros past them
+pub record Filled (bytes : List ℕ) (k : ℕ) (prefix : List ℕ) (i : ℕ) : Type 0 where
+  pub within : i ≤ k
+  pub size : length prefix ≡ 128
+  pub holds : prefix ≡ held (map low (valuesAt bytes 90 i))
+
+pub filled-none : {bytes : List ℕ} {k : ℕ} → Filled bytes k (replicate 128 0) 0
 unfolding held valuesAt
-atoms-none bytes = refl
+filled-none = record { within = omega arith; size = refl; holds = refl }
 
-pub atoms-turn :
-    (bytes prefix : List ℕ) (i v : ℕ) → i < 128 → v ≡ low (valueAt 4 bytes (90 + 4 * i)) →
-    prefix ≡ held (map low (valuesAt bytes 90 i)) → set prefix i v ≡ held (map low (valuesAt bytes 90 (i + 1)))
-atoms-turn bytes prefix i v h s e =
-    let size : length (map low (valuesAt bytes 90 i)) ≡ i = low-length bytes i in
-    let one : set (held (map low (valuesAt bytes 90 i))) i (low (valueAt 4 bytes (90 + 4 * i))) ≡
-    held (map low (valuesAt bytes 90 i) ++ low (valueAt 4 bytes (90 + 4 * i)) ∷ []) =
-    rw size at (held-snoc (map low (valuesAt bytes 90 i)) (low (valueAt 4 bytes (90 + 4 * i))) (omega arith)) in
-    rw (
-      e,
-      s,
-      add-one,
-      values-snoc bytes 90 i,
-      map-append low (valuesAt bytes 90 i) (valueAt 4 bytes (90 + 4 * i) ∷ []),
-    ) one
+module _ {bytes : List ℕ} {k : ℕ} {prefix : List ℕ} {i : ℕ} (f : Filled bytes k prefix i) where
+  pub filled-more :
+      {v b : ℕ} → k ≤ 127 → i < k → v ≡ valueAt 4 bytes (90 + 4 * i) → b ≡ low v →
+      Filled bytes k (set prefix i b) (i + 1)
+  filled-more few more is-value is-low =
+      let value = valueAt 4 bytes (90 + 4 * i) in
+      let atoms = map low (valuesAt bytes 90 i) in
+      let one = rw (low-length bytes i) at (held-snoc atoms (low value) (omega (arith, low-length bytes i))) in
+      let next = map-append low (valuesAt bytes 90 i) (value ∷ []) in
+      record {
+        within = omega arith;
+        size = simp length-set (f .size);
+        holds = rw (f .holds, is-low, is-value, add-one, values-snoc bytes 90 i, next) one;
+      }
+
+  pub filled-all : k ≤ i → prefix ≡ held (map low (valuesAt bytes 90 k))
+  filled-all h = let same : i ≡ k = omega (arith, f .within) in rw same at (f .holds)
 
 -- ---- the stored atoms and the atoms
 

@@ -1,8 +1,14 @@
 -- What the parts of restoring hold. Nothing to believe: the contract of a restore is the definition of marks.
-use Prim.Native.Nat.{ℕ, min}
+use Prim.Native.Nat.{ℕ, min, _+_, _*_, _≤_}
 use mathlib.Core.List.{List}
+use lib.ListN.{length}
 use Rattle.fields.specs.Field.{valueAt}
 use Rattle.search.specs.declared.Search.{Search}
+
+-- k atoms fit their array, and their fields are within the bytes
+pub record AtomsFit (bytes : List ℕ) (k : ℕ) : Type 0 where
+  pub few : k ≤ 127
+  pub room : 90 + 4 * k ≤ length bytes
 
 -- an atom as a byte holds it: above 255 it is 255
 abbrev pub low : ℕ → ℕ

@@ -8,7 +8,7 @@ ghost use Rattle.fields.specs.Field.{isValue, valueAt};
 ghost use Rattle.molecule.specs.Record.{wellFormed};
 ghost use Rattle.search.specs.Place.{held};
 ghost use Rattle.search.specs.Mark.{fieldsKept, layoutKept, valuesAt, restoreMark};
-ghost use Rattle.mark_reader.specs.Parts.{low, searchOf};
+ghost use Rattle.mark_reader.specs.Parts.{AtomsFit, low, searchOf};
 use fields::Number;
 use molecule::Molecule;
 use refusal::Answer;
@@ -94,7 +94,7 @@ fn low_byte(v: usize) -> u8
 
 // The k atoms of a mark in their array.
 fn atoms_of(bytes: &[u8], k: usize) -> [u8; 128]
-    requires { ⌜ (k ≤ 127) × (90 + 4 * k ≤ length (now bytes)) ⌝ }
+    requires { ⌜ AtomsFit (now bytes) k ⌝ }
     ensures { λ r. ⌜ r ≡ held (map low (valuesAt (now (bytes .entry)) 90 k)) ⌝ }
 {
     let mut prefix = [0u8; 128];

@@ -11,32 +11,43 @@ use Rattle.molecule.specs.declared.Molecule.{Molecule}
 use Rattle.molecule.specs.Record.{wellFormed}
 use Rattle.search.specs.declared.Search.{Search}
 use Rattle.search.specs.declared.Saved.the-variants.{Written, Refused}
-use Rattle.search.specs.Place.{beginning, restorable}
+use Rattle.search.specs.Place.{restorable}
 use Rattle.search.specs.Mark.{markText, saveAnswer, saveOutput}
 use Rattle.search.proofs.Readings.{restorable-facts}
 use Rattle.search.proofs.Views.{beginning-length}
 use Rattle.search.proofs.MarkLaws.{mark-length, save-room, save-writes, save-refused}
-use Rattle.mark_writer.specs.Parts.{spliced}
+use Rattle.mark_writer.specs.Parts.{MarkFits, spliced}
 use Rattle.mark_writer.proofs.Splices.{splice-start}
 
-module _ (mol : Molecule) (q : Search) (out : List ℕ) (formed : wellFormed mol ≡ true) (kept : restorable mol q ≡ true)
-    (full : length (q .prefix) ≡ 128) where
-  pub beginning-size : length (beginning q) ≡ q .len
-  beginning-size = beginning-length q full (restorable-facts mol q kept .short)
+-- what a save past rules 9 and 12 knows
+pub record Saving (mol : Molecule) (q : Search) : Type 0 where
+  pub formed : wellFormed mol ≡ true
+  pub kept : restorable mol q ≡ true
+  pub full : length (q .prefix) ≡ 128
 
-  pub mark-size : length (markText mol q) ≡ 91 + 4 * q .len
-  mark-size = mark-length mol q ∙ ap (λ k. 91 + 4 * k) beginning-size
+module _ {mol : Molecule} {q : Search} (s : Saving mol q) where
+  pub saving-short : q .len ≤ 127
+  saving-short = restorable-facts mol q (s .kept) .short
 
-  pub saved-room :
-      length out < 91 + 4 * q .len → (Refused refusal.MarkRoom ≡ saveAnswer mol q out) × (out ≡ saveOutput mol q out)
-  saved-room h =
-      let a = save-room mol q out formed kept (omega (arith, mark-size)) in
-      (sym a, sym (save-refused mol q out refusal.MarkRoom a))
+  mark-size : length (markText mol q) ≡ 91 + 4 * q .len
+  mark-size = mark-length mol q ∙ ap (λ k. 91 + 4 * k) (beginning-length q (s .full) saving-short)
 
-  pub saved-written :
-      (last : List ℕ) → 91 + 4 * q .len ≤ length out → last ≡ spliced 0 (markText mol q) out →
-      (Written (91 + 4 * q .len) ≡ saveAnswer mol q out) × (last ≡ saveOutput mol q out)
-  unfolding saveOutput
-  saved-written last h e =
-      let a = save-writes mol q out formed kept (omega (arith, mark-size)) in
-      (rw (← mark-size) (sym a), e ∙ splice-start out (markText mol q) ∙ rw a)
+  module _ (out : List ℕ) where
+    pub saved-room :
+        length out < 91 + 4 * q .len →
+        (Refused refusal.MarkRoom ≡ saveAnswer mol q out) × (out ≡ saveOutput mol q out)
+    saved-room h =
+        let answer = save-room mol q out (s .formed) (s .kept) (omega (arith, mark-size)) in
+        (sym answer, sym (save-refused mol q out refusal.MarkRoom answer))
+
+    module _ (room : 91 + 4 * q .len ≤ length out) where
+      pub saving-fits : MarkFits q out
+      saving-fits = record { short = saving-short; full = s .full; room = room }
+
+      pub saved-written :
+          {last : List ℕ} → last ≡ spliced 0 (markText mol q) out →
+          (Written (91 + 4 * q .len) ≡ saveAnswer mol q out) × (last ≡ saveOutput mol q out)
+      unfolding saveOutput
+      saved-written put =
+          let answer = save-writes mol q out (s .formed) (s .kept) (omega (arith, mark-size)) in
+          (rw (← mark-size) (sym answer), put ∙ splice-start out (markText mol q) ∙ rw answer)

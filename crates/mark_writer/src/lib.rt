@@ -8,7 +8,7 @@ ghost use Rattle.fields.specs.Field.{fieldText};
 ghost use Rattle.molecule.specs.Record.{wellFormed};
 ghost use Rattle.search.specs.Place.{restorable};
 ghost use Rattle.search.specs.Mark.{fieldsText, markText, saveAnswer, saveOutput};
-ghost use Rattle.mark_writer.specs.Parts.{spliced};
+ghost use Rattle.mark_writer.specs.Parts.{MarkFits, spliced};
 use molecule::Molecule;
 use refusal::Refusal;
 use search::Saved;
@@ -37,12 +37,6 @@ fn put_fields(out: &mut [u8], at: usize, columns: usize, values: &[u64])
     }
 }
 
-fn wide(x: u8) -> u64
-    ensures { λ r. ⌜ r ≡ x ⌝ }
-{
-    x as u64
-}
-
 // Atoms, each in a field of 4 columns.
 fn put_atoms(out: &mut [u8], at: usize, atoms: &[u8])
     requires { ⌜ at + 4 * length (now atoms) ≤ length (now out) ⌝ }
@@ -51,7 +45,7 @@ fn put_atoms(out: &mut [u8], at: usize, atoms: &[u8])
     let mut i: usize = 0;
     let mut place = at;
     while i < atoms.len() {
-        put_field(out, place, 4, wide(atoms[i]));
+        put_field(out, place, 4, widen::u8_u64(atoms[i]));
         place += 4;
         i += 1;
     }
@@ -67,7 +61,7 @@ fn put_feed(out: &mut [u8], at: usize)
 
 // The three lines of a mark.
 fn put_mark(m: Molecule, q: Search, out: &mut [u8])
-    requires { ⌜ (q .len ≤ 127) × (length (q .prefix) ≡ 128) × (91 + 4 * q .len ≤ length (now out)) ⌝ }
+    requires { ⌜ MarkFits q (now out) ⌝ }
     ensures { λ _. ⌜ now (out .exit) ≡ spliced 0 (markText m q) (now (out .entry)) ⌝ }
 {
     let len = q.len;
@@ -93,7 +87,9 @@ fn put_mark(m: Molecule, q: Search, out: &mut [u8])
 // Saves a search that rules 9 and 12 allow as a mark: rule 13. Only the mark's bytes are written.
 pub fn save_checked(m: Molecule, q: Search, out: &mut [u8]) -> Saved
     requires { ⌜ (wellFormed m ≡ true) × (restorable m q ≡ true) ⌝ }
-    ensures { λ r. ⌜ (r ≡ saveAnswer m q (now (out .entry))) × (now (out .exit) ≡ saveOutput m q (now (out .entry))) ⌝ }
+    ensures { λ r. ⌜
+        (r ≡ saveAnswer m q (now (out .entry))) ×
+        (now (out .exit) ≡ saveOutput m q (now (out .entry))) ⌝ }
 {
     let len = q.len;
     let size = 91 + 4 * len;

@@ -1,6 +1,6 @@
--- The lines of joined records, and the loop that prints them: what is printed
--- so far and the lines of the bytes still ahead are the lines of all.
--- Each turn takes one record off the front of the bytes and writes its line where the last one ends.
+-- The lines of joined records, and the loop that prints them: what is printed so far and the lines of the bytes still
+-- ahead are the lines of all. Each turn takes one record off the front of the bytes and writes its line where the last
+-- one ends.
 use Prim.Native.Nat.{ℕ, zero, suc, _+_, _-_, _*_, _≤_, _<_}
 use native.Mathlib.Numerals.{add-one}
 use native.Mathlib.Omega.{arith}
@@ -12,8 +12,8 @@ use borrow.Author.Tests.{le-leb, lt-leb}
 use borrow.Rule.Slice.PartMut.{putMid}
 use Rattle.enumeration.specs.Run.{recordOf}
 use Rattle.enumeration.specs.Trials.{records}
-use Rattle.report.specs.Lines.{ringLine, linesOfFirst, ringLines, linesOf, printed, printedOn}
-use Rattle.report.proofs.Texts.{onto, prints, ring-length}
+use Rattle.report.specs.Lines.{ringLine, linesOfFirst, ringLines, linesOf, PrintedInto}
+use Rattle.report.proofs.Texts.{onto, printed-whole, prints, ring-length}
 
 -- ---- the lines of records
 
@@ -28,17 +28,15 @@ all-lines (suc f) zero [] p q = refl
 all-lines (suc f) zero (k ∷ rest) p q = absurd (omega arith)
 all-lines (suc f) (suc g) [] p q = refl
 all-lines (suc f) (suc g) (k ∷ rest) p q =
-    rw (all-lines f g (drop k rest) (omega (arith, length-drop k rest)) (omega (arith, length-drop k rest)))
+    let less = length-drop k rest in
+    rw (all-lines f g (drop k rest) (omega arith) (omega arith))
 
 lines-record :
     (k : ℕ) (rest : List ℕ) → k ≤ length rest → ringLines (k ∷ rest) ≡ ringLine (take k rest) ++ ringLines (drop k rest)
 unfolding ringLines linesOfFirst
 lines-record k rest h =
-    rw (
-      le-leb k (length rest) h,
-      all-lines (length rest) (length (drop k rest)) (drop k rest)
-          (omega (arith, length-drop k rest)) (omega arith),
-    )
+    let enough : length (drop k rest) ≤ length rest = omega (arith, length-drop k rest) in
+    rw (le-leb k (length rest) h, all-lines (length rest) (length (drop k rest)) (drop k rest) enough (omega arith))
 
 lines-cut : (k : ℕ) (rest : List ℕ) → length rest < k → ringLines (k ∷ rest) ≡ []
 unfolding ringLines linesOfFirst
@@ -68,105 +66,99 @@ lines-of-records ws = rw (append-nil (records ws), lines-none, append-nil (lines
 
 -- i bytes of the records are behind, and the lines of those fill the first `used` bytes of the text
 pub record Printing (rs before text : List ℕ) (used i : ℕ) : Type 0 where
+  pub room : 4 * length rs ≤ length before
   pub within : i ≤ length rs
   pub short : used ≤ 4 * i
   pub size : length text ≡ length before
   pub ahead : ringLines rs ≡ take used text ++ ringLines (drop i rs)
   pub past : drop used text ≡ drop used before
 
-module _ (rs before : List ℕ) (room : 4 * length rs ≤ length before) where
-  pub printing-starts : Printing rs before before 0 0
-  printing-starts = record { within = omega arith; short = omega arith; size = refl; ahead = refl; past = refl }
+pub printing-starts : {rs before : List ℕ} → 4 * length rs ≤ length before → Printing rs before before 0 0
+printing-starts room =
+    record { room = room; within = omega arith; short = omega arith; size = refl; ahead = refl; past = refl }
 
-  -- the ring of the record at i
-  abbrev ring : ℕ → ℕ → List ℕ
-  ring i k = take (i + 1 + k - (i + 1)) (drop (i + 1) rs)
+module _ {rs before text : List ℕ} {used i : ℕ} (p : Printing rs before text used i) where
+  -- the lines so far are within the text
+  used-within : used ≤ length text
+  used-within = omega (arith, p .room, p .within, p .short, p .size)
 
-  module _ (text : List ℕ) (used i k : ℕ) (p : Printing rs before text used i) (more : i < length rs)
-      (byte : k ≡ getD rs i 0) where
+  -- no line is ahead
+  printing-ends : ringLines (drop i rs) ≡ [] → PrintedInto (4 * length rs) (ringLines rs) before used text
+  printing-ends none =
+      let all : ringLines rs ≡ take used text = p .ahead ∙ rw (none, append-nil (take used text)) in
+      let size = ap length all ∙ length-take-le used text used-within in
+      prints (p .room)
+      (record { size = size; is = sym (take-append-drop used text) ∙ rw (p .past, size, all) })
+
+  pub printed-all : length rs ≤ i → PrintedInto (4 * length rs) (ringLines rs) before used text
+  printed-all h = printing-ends (rw (drop-of-length-le rs h) lines-none)
+
+  -- a line of so many bytes is written at the start of what stands past `used`
+  line-on :
+      (line : List ℕ) {part : List ℕ} {next : ℕ} → next ≤ length rs → used + length line ≤ 4 * next →
+      ringLines (drop i rs) ≡ line ++ ringLines (drop next rs) → part ≡ onto line (drop used text) →
+      Printing rs before (putMid used (length text - used) text part) (used + length line) next
+  line-on line {part} {next} within short is-next is-part =
+      let front = take used text ++ line in
+      let rest = drop (length line) (drop used text) in
+      let least : length (drop used text) ≤ length text - used = omega (arith, length-drop used text) in
+      let none = drop-of-length-le (drop used text) least in
+      let joined = sym (append-assoc (take used text) line rest) in
+      let bytes : putMid used (length text - used) text part ≡ front ++ rest = rw (none, append-nil, is-part) joined in
+      let size : length front ≡ used + length line = rw (length-append, length-take-le used text used-within) in
+      let past = length-drop (length line) (drop used text) in
+      record {
+        room = p .room;
+        within = within;
+        short = short;
+        size =
+            ap length bytes ∙
+            rw (length-append, size, past, length-drop used text) (omega (arith, p .room, p .size));
+        ahead =
+            p .ahead ∙ rw (is-next, bytes, take-at front rest (used + length line) size)
+            (sym (append-assoc (take used text) line (ringLines (drop next rs))));
+        past = rw (bytes, drop-at front rest (used + length line) size, p .past) (drop-drop (length line) used before);
+      }
+
+  module _ {k : ℕ} (more : i < length rs) (byte : k ≡ getD rs i 0) where
     at-record : drop i rs ≡ k ∷ drop (i + 1) rs
     at-record = rw (byte, add-one i) (drop-cons rs i 0 more)
 
-    pub printing-cut : length rs - (i + 1) < k → ringLines (drop i rs) ≡ []
-    printing-cut h = rw at-record (lines-cut k (drop (i + 1) rs) (omega (arith, length-drop (i + 1) rs)))
+    -- a record that is cut off
+    pub printed-cut : length rs - (i + 1) < k → PrintedInto (4 * length rs) (ringLines rs) before used text
+    printed-cut h =
+        printing-ends (rw at-record (lines-cut k (drop (i + 1) rs) (omega (arith, length-drop (i + 1) rs))))
 
     module _ (whole : k ≤ length rs - (i + 1)) where
-      size-of : length (ring i k) ≡ k
-      size-of =
-          length-take-le (i + 1 + k - (i + 1)) (drop (i + 1) rs) (omega (arith, length-drop (i + 1) rs)) ∙ omega arith
+      -- the ring of the record
+      abbrev ring : List ℕ
+      ring = take (i + 1 + k - (i + 1)) (drop (i + 1) rs)
 
-      -- the part of the text that is lent is all past `used`, and holds the line
-      part-is : take (length text - used) (drop used text) ≡ drop used text
-      part-is = take-all (length text - used) (drop used text) (omega (arith, length-drop used text))
+      ring-size : length ring ≡ k
+      ring-size =
+          let width : i + 1 + k - (i + 1) ≡ k = omega arith in
+          rw width (length-take-le k (drop (i + 1) rs) (omega (arith, length-drop (i + 1) rs)))
 
-      enough : 4 * length (ring i k) + 1 ≤ length (drop used text)
-      enough = omega (arith, size-of, length-drop used text, p .short, p .size)
-
-      next-line : ringLines (drop i rs) ≡ ringLine (ring i k) ++ ringLines (drop (i + 1 + k) rs)
+      next-line : ringLines (drop i rs) ≡ ringLine ring ++ ringLines (drop (i + 1 + k) rs)
       next-line =
           let width : i + 1 + k - (i + 1) ≡ k = omega arith in
           rw (at-record, width, ← drop-drop k (i + 1) rs)
           (lines-record k (drop (i + 1) rs) (omega (arith, length-drop (i + 1) rs)))
 
-      -- a line written at the start of that part
-      line-on :
-          (line part : List ℕ) → length line ≡ 4 * k + 1 →
-          ringLines (drop i rs) ≡ line ++ ringLines (drop (i + 1 + k) rs) → part ≡ onto line (drop used text) →
-          Printing rs before (putMid used (length text - used) text part) (used + length line) (i + 1 + k)
-      line-on line part size next e =
-          let least : length (drop used text) ≤ length text - used = omega (arith, length-drop used text) in
-          let none : drop (length text - used) (drop used text) ≡ [] = drop-of-length-le (drop used text) least in
-          let rest = drop (length line) (drop used text) in
-          let bytes : putMid used (length text - used) text part ≡ (take used text ++ line) ++ rest =
-          rw (none, append-nil part, e) (sym (append-assoc (take used text) line rest)) in
-          let head : length (take used text ++ line) ≡ used + length line = length-append (take used text) line ∙
-          ap (λ (n : ℕ). n + length line) (length-take-le used text (omega (arith, p .size, p .short))) in
-          record {
-            within = omega arith;
-            short = omega (arith, p .short);
-            size =
-                ap length bytes ∙
-                omega (
-                  arith,
-                  length-append (take used text ++ line) rest,
-                  head,
-                  length-drop (length line) (drop used text),
-                  length-drop used text,
-                  p .size,
-                  p .short,
-                );
-            ahead =
-                p .ahead ∙ rw (next, bytes, take-at (take used text ++ line) rest (used + length line) head)
-                (sym (append-assoc (take used text) line (ringLines (drop (i + 1 + k) rs))));
-            past =
-                rw (bytes, drop-at (take used text ++ line) rest (used + length line) head, p .past)
-                (drop-drop (length line) used before);
-          }
+      -- the part of the text that is lent is all past `used`, and has room for the line
+      part-is : take (length text - used) (drop used text) ≡ drop used text
+      part-is = take-all (length text - used) (drop used text) (omega (arith, length-drop used text))
+
+      enough : 4 * length ring + 1 ≤ length (drop used text)
+      enough = omega (arith, ring-size, length-drop used text, p .room, p .short, p .size)
 
       pub printing-goes-on :
-          (part : List ℕ) (r : ℕ) →
-          r ≡ printed (4 * length (ring i k) + 1) (ringLine (ring i k)) (take (length text - used) (drop used text)) →
-          part ≡ printedOn (4 * length (ring i k) + 1) (ringLine (ring i k))
-          (take (length text - used) (drop used text)) →
+          {part : List ℕ} {r : ℕ} →
+          PrintedInto (4 * length ring + 1) (ringLine ring) (take (length text - used) (drop used text)) r part →
           Printing rs before (putMid used (length text - used) text part) (used + r) (i + 1 + k)
-      unfolding printed printedOn
-      printing-goes-on part r e f =
-          let fits = le-leb (4 * length (ring i k) + 1) (length (drop used text)) enough in
-          rw (rw (part-is, fits) at e)
-          (line-on (ringLine (ring i k)) part (ring-length (ring i k) ∙ ap (λ (n : ℕ). 4 * n + 1) size-of) next-line
-          (rw (part-is, fits) at f))
-
-  -- no line is ahead
-  pub printing-ends :
-      (text : List ℕ) (used i : ℕ) → Printing rs before text used i → ringLines (drop i rs) ≡ [] →
-      (used ≡ printed (4 * length rs) (ringLines rs) before) × (text ≡ printedOn (4 * length rs) (ringLines rs) before)
-  printing-ends text used i p none =
-      let all : ringLines rs ≡ take used text = p .ahead ∙ ap (λ (t : List ℕ). take used text ++ t) none ∙
-      append-nil (take used text) in
-      let size : length (ringLines rs) ≡ used =
-      ap length all ∙ length-take-le used text (omega (arith, p .size, p .short, p .within)) in
-      prints (4 * length rs) (ringLines rs) before text used room (sym size)
-      (sym (take-append-drop used text) ∙ rw (p .past, size, all))
-
-  pub none-ahead : (i : ℕ) → length rs ≤ i → ringLines (drop i rs) ≡ []
-  none-ahead i h = rw (drop-of-length-le rs h) lines-none
+      printing-goes-on (is-size, is-part) =
+          let line = printed-whole (4 * length ring + 1) (ringLine ring) (drop used text) enough in
+          let size : length (ringLine ring) ≡ 4 * k + 1 = rw (ring-length, ring-size) in
+          let put = rw (part-is, line .1) at is-part in
+          rw (is-size, part-is, line .0)
+          (line-on (ringLine ring) (omega arith) (omega (arith, size, p .short)) next-line put)

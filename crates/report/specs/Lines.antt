@@ -1,5 +1,6 @@
 -- What `ringlist` prints (document 01, "Judge, host entry and `ringlist`"): lines of number fields.
 use Prim.Native.Nat.{ℕ, zero, suc}
+use mathlib.Core.Path.{_≡_}
 use mathlib.Core.Bool.{cond}
 use mathlib.Core.List.{List, [], _∷_, _++_}
 use lib.ListN.{length, take, drop}
@@ -47,3 +48,8 @@ printed room line buffer = cond (leb room (length buffer)) (length line) 0
 -- and the buffer then: the lines, and past them the bytes that were there
 unfoldable pub printedOn : ℕ → List ℕ → List ℕ → List ℕ
 printedOn room line buffer = cond (leb room (length buffer)) (line ++ drop (length line) buffer) buffer
+
+-- Both: so many bytes are returned, and the buffer is left so
+abbrev pub PrintedInto : ℕ → List ℕ → List ℕ → ℕ → List ℕ → Type 0
+PrintedInto room line buffer returned left =
+    (returned ≡ printed room line buffer) × (left ≡ printedOn room line buffer)

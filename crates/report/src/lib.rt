@@ -2,11 +2,11 @@
 ghost use mathlib.Core.Path.{_≡_};
 ghost use Prim.Native.Nat.{_+_, _*_};
 ghost use lib.ListN.{length};
-ghost use Rattle.report.specs.Lines.{ringLine, countLine, refusalLine, ringLines, printed, printedOn};
+ghost use Rattle.report.specs.Lines.{ringLine, countLine, refusalLine, ringLines, PrintedInto};
 
 // The three counts of a search: 61 bytes.
 pub fn count_line(listed: u64, extensions: u64, trials: u64, text: &mut [u8]) -> usize
-    ensures { λ r. ⌜ (r ≡ printed 61 (countLine listed extensions trials) (now (text .entry))) × (now (text .exit) ≡ printedOn 61 (countLine listed extensions trials) (now (text .entry))) ⌝ }
+    ensures { λ r. ⌜ PrintedInto 61 (countLine listed extensions trials) (now (text .entry)) r (now (text .exit)) ⌝ }
 {
     if text.len() < 61 {
         return 0;
@@ -20,7 +20,7 @@ pub fn count_line(listed: u64, extensions: u64, trials: u64, text: &mut [u8]) ->
 
 // A refusal: 12 bytes.
 pub fn refusal_line(number: u32, text: &mut [u8]) -> usize
-    ensures { λ r. ⌜ (r ≡ printed 12 (refusalLine number) (now (text .entry))) × (now (text .exit) ≡ printedOn 12 (refusalLine number) (now (text .entry))) ⌝ }
+    ensures { λ r. ⌜ PrintedInto 12 (refusalLine number) (now (text .entry)) r (now (text .exit)) ⌝ }
 {
     if text.len() < 12 {
         return 0;
@@ -37,15 +37,11 @@ pub fn refusal_line(number: u32, text: &mut [u8]) -> usize
     12
 }
 
-fn wide(x: u8) -> u64
-    ensures { λ r. ⌜ r ≡ x ⌝ }
-{
-    x as u64
-}
-
 // One ring: 4 bytes an atom, and 1.
 pub fn ring_line(atoms: &[u8], text: &mut [u8]) -> usize
-    ensures { λ r. ⌜ (r ≡ printed (4 * length (now (atoms .entry)) + 1) (ringLine (now (atoms .entry))) (now (text .entry))) × (now (text .exit) ≡ printedOn (4 * length (now (atoms .entry)) + 1) (ringLine (now (atoms .entry))) (now (text .entry))) ⌝ }
+    ensures { λ r. ⌜
+        PrintedInto (4 * length (now (atoms .entry)) + 1) (ringLine (now (atoms .entry)))
+        (now (text .entry)) r (now (text .exit)) ⌝ }
 {
     if text.len() / 4 < atoms.len() {
         return 0;
@@ -58,22 +54,18 @@ pub fn ring_line(atoms: &[u8], text: &mut [u8]) -> usize
     while i < atoms.len() {
         let at = 4 * i;
         let next = at + 4;
-        fields::write_number(&mut text[at..next], wide(atoms[i]));
+        fields::write_number(&mut text[at..next], widen::u8_u64(atoms[i]));
         i += 1;
     }
     text[end] = b'\n';
     end + 1
 }
 
-fn as_length(x: u8) -> usize
-    ensures { λ r. ⌜ r ≡ x ⌝ }
-{
-    x as usize
-}
-
 // The ring of each record, a line each: at most 4 bytes for each byte of the records.
 pub fn ring_lines(records: &[u8], text: &mut [u8]) -> usize
-    ensures { λ r. ⌜ (r ≡ printed (4 * length (now (records .entry))) (ringLines (now (records .entry))) (now (text .entry))) × (now (text .exit) ≡ printedOn (4 * length (now (records .entry))) (ringLines (now (records .entry))) (now (text .entry))) ⌝ }
+    ensures { λ r. ⌜
+        PrintedInto (4 * length (now (records .entry))) (ringLines (now (records .entry)))
+        (now (text .entry)) r (now (text .exit)) ⌝ }
 {
     if text.len() / 4 < records.len() {
         return 0;
@@ -82,7 +74,7 @@ pub fn ring_lines(records: &[u8], text: &mut [u8]) -> usize
     let mut i: usize = 0;
     while i < records.len() {
         let first = i + 1;
-        let k = as_length(records[i]);
+        let k = widen::u8_usize(records[i]);
         if records.len() - first < k {
             return used;
         }

@@ -38,8 +38,8 @@ unfolding startRings
 start-fresh m = go (wellFormed m)
   where
     go :
-        (b : Bool) → cond b (acceptedSearch (freshSearch 0 0 0)) (refusedSearch refusal.Record) .search ≡
-        freshSearch 0 0 0
+        (b : Bool) →
+        cond b (acceptedSearch (freshSearch 0 0 0)) (refusedSearch refusal.Record) .search ≡ freshSearch 0 0 0
     go true = refl
     go false = refl
 
@@ -70,7 +70,8 @@ pub used-within :
     (m : Molecule) (q : Search) (b : ℕ) (out : List ℕ) {after : List ℕ} {r : Ran} →
     (r ≡ runSearch m q b out) × (after ≡ runOutput m q b out) → r .used ≤ length after
 unfolding runSearch runOutput
-used-within m q b out e = rw (e .0, e .1) (go (wellFormed m) (restorable m q) (outcome m q b out))
+used-within m q b out (is-ran, is-after) =
+    rw (is-ran, is-after) (go (wellFormed m) (restorable m q) (outcome m q b out))
   where
     go :
         (x y : Bool) (o : Outcome) →
@@ -85,11 +86,13 @@ pub rings-turned :
     {out after last : List ℕ} {r : Ran} {size : ℕ} {part : Part} {turn : Turn} →
     out ≡ output → (r ≡ runSearch m q budget out) × (after ≡ runOutput m q budget out) →
     let bytes = take (r .used) after in
-    (size ≡ printed (4 * length bytes) (ringLines bytes) text)
-    × (last ≡ printedOn (4 * length bytes) (ringLines bytes) text) →
-    part ≡ partAfter (r .ended) → turn ≡ turnOf (record { part = part; molecule = m; search = r .search }) size false →
+    (size ≡ printed (4 * length bytes) (ringLines bytes) text) ×
+    (last ≡ printedOn (4 * length bytes) (ringLines bytes) text) →
+    part ≡ partAfter (r .ended) →
+    turn ≡ turnOf (record { part = part; molecule = m; search = r .search }) size false →
     (turn ≡ ringsTurn m q text) × (last ≡ ringsOn m q text)
-rings-turned q text o e w p t = rw (t, p, w .0, w .1, e .0, e .1, o) (refl, refl)
+rings-turned q text is-output (is-ran, is-after) (is-size, is-last) is-part is-turn =
+    rw (is-turn, is-part, is-size, is-last, is-ran, is-after, is-output) (refl, refl)
 
 -- ---- a turn, by what comes next
 
@@ -97,14 +100,16 @@ module _ (l : Listing) (text : List ℕ) {last : List ℕ} {turn : Turn} where
   pub refused-turned :
       {r : Refusal} {k size : ℕ} → l .part ≡ Refused r → k ≡ numberOf r →
       (size ≡ printed 12 (refusalLine k) text) × (last ≡ printedOn 12 (refusalLine k) text) →
-      turn ≡ turnOf l size true → (turn ≡ turned l text) × (last ≡ turnedText l text)
-  refused-turned p e w t = rw (t, p, w .0, w .1, e) (refl, refl)
+      turn ≡ turnOf l size true →
+      (turn ≡ turned l text) × (last ≡ turnedText l text)
+  refused-turned is-part is-number (is-size, is-last) is-turn =
+      rw (is-turn, is-part, is-size, is-last, is-number) (refl, refl)
 
   pub counts-turned :
       {size : ℕ} → l .part ≡ Counts →
       (size ≡ printed 61 (countsOf (l .search)) text) × (last ≡ printedOn 61 (countsOf (l .search)) text) →
       turn ≡ turnOf l size true → (turn ≡ turned l text) × (last ≡ turnedText l text)
-  counts-turned p w t = rw (t, p, w .0, w .1) (refl, refl)
+  counts-turned is-part (is-size, is-last) is-turn = rw (is-turn, is-part, is-size, is-last) (refl, refl)
 
   pub more-turned :
       l .part ≡ Rings →
@@ -116,7 +121,7 @@ module _ (l : Listing) (text : List ℕ) {last : List ℕ} {turn : Turn} where
 pub turned-within :
     (l : Listing) (text : List ℕ) {last : List ℕ} {turn : Turn} → (turn ≡ turned l text) × (last ≡ turnedText l text) →
     turn .size ≤ length last
-turned-within l text e = rw (e .0, e .1) (by (l .part))
+turned-within l text (is-turn, is-last) = rw (is-turn, is-last) (by (l .part))
   where
     by : (p : Part) → turnedBy p l text .size ≤ length (textBy p l text)
     by (Refused r) = printed-within 12 (refusalLine (numberOf r)) text (refl, refl)

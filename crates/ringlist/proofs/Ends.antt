@@ -40,12 +40,15 @@ use Rattle.ringlist.specs.Turns.{budget, output, oneRun, runRecords, par
 use Rattle.ringlist.proofs.Contracts.{answered}
 
 -- q stands after some list of calls on the record m that began with the fresh ring search: what demand 3 speaks of
-abbrev pub Stands : Molecule → Search → Type 0
-Stands m q = (calls : List Call) × History m (start 0 0 0) calls × (q ≡ standing (start 0 0 0) calls .search)
+pub record Stands (m : Molecule) (q : Search) : Type 0 where
+  pub good : wellFormed m ≡ true
+  pub calls : List Call
+  pub history : History m (start 0 0 0) calls
+  pub search-is : q ≡ standing (start 0 0 0) calls .search
 
-pub fresh-stands : (m : Molecule) → Stands m (freshSearch 0 0 0)
+pub fresh-stands : {m : Molecule} → wellFormed m ≡ true → Stands m (freshSearch 0 0 0)
 unfolding start standing
-fresh-stands m = ([], tt, refl)
+fresh-stands good = record { good = good; calls = []; history = tt; search-is = refl }
 
 -- the output of a run holds a record of 128 atoms, and is a quarter of a buffer of 65,536 bytes
 output-holds : 129 ≤ length output
@@ -135,94 +138,113 @@ records-split ws l k h =
     ∙ ap records (take-add l (k - l) ws)
     ∙ records-append (take l ws) (take (k - l) (drop l ws))
 
--- ---- one run more, of a search that stands
+-- ---- a search that stands
 
-module _ (m : Molecule) (good : wellFormed m ≡ true) where
-  abbrev rings : List (List ℕ)
-  rings = members (ringsOf m)
+abbrev rings : Molecule → List (List ℕ)
+rings m = members (ringsOf m)
 
-  module _ (q : Search) (s : Stands m q) where
-    demand : Demand m 0 0 0 (s .0) (standing (start 0 0 0) (s .0))
-    demand = rings-demand3 m good (s .0) (s .1)
+-- it is the fresh search after some number of trials, its counts at most the limit
+pub record AfterTrials (m : Molecule) (q : Search) : Type 0 where
+  pub made : ℕ
+  pub search-is : q ≡ searchAt 0 0 0 (steps (ringsOf m) made fresh)
+  pub bounded : Bounded (steps (ringsOf m) made fresh)
 
-    pub listed-most : q .listed ≤ length rings
-    listed-most = rw (s .2) (demand .listed-most)
+abbrev standingOf : {m : Molecule} {q : Search} → Stands m q → Standing
+standingOf s = standing (start 0 0 0) (s .calls)
 
-    -- it is the fresh search after some number of trials, its counts at most the limit
-    pub stands-at : (k : ℕ) × (q ≡ searchAt 0 0 0 (steps (ringsOf m) k fresh)) × Bounded (steps (ringsOf m) k fresh)
-    stands-at =
-        let kept = rings-kept (m .atoms) in
-        let origin = fresh-sound m 0 0 0 good kept in
-        let first = fresh-reached m 0 0 0 good kept in
-        let reached = list-reached m 0 0 0 good kept fresh origin (s .0) (start 0 0 0) (s .1) false 0 first in
-        (reached .0, s .2 ∙ reached .1 .search-is, reached .1 .bounded)
+module _ {m : Molecule} {q : Search} (s : Stands m q) where
+  demand : Demand m 0 0 0 (s .calls) (standingOf s)
+  demand = rings-demand3 m (s .good) (s .calls) (s .history)
 
-    -- the run is not refused
-    stops : (why : Stop) × (oneRun m q .ended ≡ Stopped why)
-    stops = rw (s .2) (demand .goes-on .run-accepted budget output)
+  pub listed-most : q .listed ≤ length (rings m)
+  listed-most = rw (s .search-is) (demand .listed-most)
 
-    pub run-stands : Stands m (oneRun m q .search)
-    run-stands =
-        let call : Call = runs m q budget output in
-        let x : Standing = standing (start 0 0 0) (s .0) in
-        let joined = standing-joined (s .0) (call ∷ []) (start 0 0 0) in (
-          s .0 ++ call ∷ [],
-          history-joined m (s .0) (call ∷ []) (start 0 0 0) (s .1) (inr (refl, s .2), tt),
-          sym (after-run x m q budget output (stops .0) (stops .1)) ∙ ap (λ (y : Standing). y .search) (sym joined),
-        )
+  -- the bytes so far are the records of the rings that it has listed
+  sheet-is : standingOf s .sheet ≡ records (take (q .listed) (rings m))
+  sheet-is = demand .sheet-first ∙ ap (λ (p : Search). records (take (p .listed) (rings m))) (sym (s .search-is))
 
-  -- its bytes are the records of the rings that follow, and so the lines are theirs
-  pub run-lines :
-      (q : Search) → Stands m q →
-      ringLines (runRecords m q) ≡ linesOf (take (oneRun m q .search .listed - q .listed) (drop (q .listed) rings))
-  unfolding run-stands
-  run-lines q s =
+  pub stands-at : AfterTrials m q
+  stands-at =
+      let kept = rings-kept (m .atoms) in
+      let good = s .good in
+      let origin = fresh-sound m 0 0 0 good kept in
+      let first = fresh-reached m 0 0 0 good kept in
+      let reached = list-reached m 0 0 0 good kept fresh origin (s .calls) (start 0 0 0) (s .history) false 0 first in
+      record {
+        made = reached .0;
+        search-is = s .search-is ∙ reached .1 .search-is;
+        bounded = reached .1 .bounded;
+      }
+
+-- ---- one run more of it
+
+-- A run is the last one, and the search is over then, or it lists a ring
+abbrev pub LastOrLists : Molecule → Search → Type 0
+LastOrLists m q =
+    ((partAfter (oneRun m q .ended) ≡ Counts) × OverAt m (oneRun m q .search))
+    ⊎ ((partAfter (oneRun m q .ended) ≡ Rings) × (q .listed < oneRun m q .search .listed))
+
+module _ {m : Molecule} {q : Search} (s : Stands m q) where
+  -- the run is not refused
+  stops : (why : Stop) × (oneRun m q .ended ≡ Stopped why)
+  stops = rw (s .search-is) (demand s .goes-on .run-accepted budget output)
+
+  pub run-stands : Stands m (oneRun m q .search)
+  run-stands =
       let call : Call = runs m q budget output in
-      let x : Standing = standing (start 0 0 0) (s .0) in
-      let more = run-stands q s in
-      let y : Standing = standing (start 0 0 0) (more .0) in
-      let l : ℕ = q .listed in
-      let k : ℕ = oneRun m q .search .listed in
-      let first : x .sheet ≡ records (take l rings) =
-      demand q s .sheet-first ∙ ap (λ (p : Search). records (take (p .listed) rings)) (sym (s .2)) in
-      let all : y .sheet ≡ records (take k rings) =
-      demand (oneRun m q .search) more .sheet-first
-      ∙ ap (λ (p : Search). records (take (p .listed) rings)) (sym (more .2)) in
-      let joined : y .sheet ≡ x .sheet ++ runRecords m q =
-      ap (λ (z : Standing). z .sheet) (standing-joined (s .0) (call ∷ []) (start 0 0 0))
-      ∙ after-sheet x m q budget output (stops q s .0) (stops q s .1) in
-      let same : runRecords m q ≡ records (take (k - l) (drop l rings)) =
-      cancel (records (take l rings)) (runRecords m q) (records (take (k - l) (drop l rings)))
-      (ap (λ (a : List ℕ). a ++ runRecords m q) (sym first) ∙ sym joined ∙ all
-      ∙ records-split rings l k (listed-rises m q budget output)) in
-      ap ringLines same ∙ lines-of-records (take (k - l) (drop l rings))
+      let joined = standing-joined (s .calls) (call ∷ []) (start 0 0 0) in
+      let ran = after-run (standingOf s) m q budget output (stops .0) (stops .1) in
+      record {
+        good = s .good;
+        calls = s .calls ++ call ∷ [];
+        history = history-joined m (s .calls) (call ∷ []) (start 0 0 0) (s .history) (inr (refl, s .search-is), tt);
+        search-is = sym ran ∙ ap (λ (x : Standing). x .search) (sym joined);
+      }
 
-  -- A run is the last one, and the search is over then, or it lists a ring
-  abbrev pub LastOrLists : Search → Type 0
-  LastOrLists q =
-      ((partAfter (oneRun m q .ended) ≡ Counts) × OverAt m (oneRun m q .search))
-      ⊎ ((partAfter (oneRun m q .ended) ≡ Rings) × (q .listed < oneRun m q .search .listed))
+  -- its bytes come after those so far
+  sheet-joined : standingOf run-stands .sheet ≡ standingOf s .sheet ++ runRecords m q
+  unfolding run-stands
+  sheet-joined =
+      let call : Call = runs m q budget output in
+      ap (λ (x : Standing). x .sheet) (standing-joined (s .calls) (call ∷ []) (start 0 0 0))
+      ∙ after-sheet (standingOf s) m q budget output (stops .0) (stops .1)
 
-  pub last-or-lists : (q : Search) → Stands m q → LastOrLists q
-  last-or-lists q s =
-      by (rw (← s .2) at (demand q s .goes-on .progress budget output trials room)) (stops q s .0) (stops q s .1)
+  -- they are the records of the rings that follow, and so the lines are theirs
+  pub run-lines :
+      let k = oneRun m q .search .listed in
+      ringLines (runRecords m q) ≡ linesOf (take (k - q .listed) (drop (q .listed) (rings m)))
+  run-lines =
+      let l = q .listed in
+      let k = oneRun m q .search .listed in
+      let more = take (k - l) (drop l (rings m)) in
+      let same = cancel (records (take l (rings m))) (runRecords m q) (records more)
+      (ap (λ (a : List ℕ). a ++ runRecords m q) (sym (sheet-is s)) ∙ sym sheet-joined ∙ sheet-is run-stands
+      ∙ records-split (rings m) l k (listed-rises m q budget output)) in
+      ap ringLines same ∙ lines-of-records more
+
+  pub last-or-lists : LastOrLists m q
+  last-or-lists =
+      by (rw (← s .search-is) at (demand s .goes-on .progress budget output trials room)) (stops .0) (stops .1)
     where
+      atoms : m .atoms ≤ 128
+      atoms = atoms-most m (s .good)
+
       squares : 2 * m .atoms * m .atoms ≤ 2 * 128 * 128
-      squares = mul-le-mul (mul-le-mul {n₁ = 2} {n₂ = 2} (omega arith) (atoms-most m good)) (atoms-most m good)
+      squares = mul-le-mul (mul-le-mul {n₁ = 2} {n₂ = 2} (omega arith) atoms) atoms
 
       trials : 2 * m .atoms * m .atoms ≤ budget
       trials = omega (arith, squares)
 
       room : m .atoms + 1 ≤ length output
-      room = omega (arith, atoms-most m good, output-holds)
+      room = omega (arith, atoms, output-holds)
 
-      done : oneRun m q .ended ≡ Stopped Done → LastOrLists q
+      done : oneRun m q .ended ≡ Stopped Done → LastOrLists m q
       done e = inl (ap partAfter e, says-over m q budget output Done (outcome-done m q budget output) e)
 
-      limited : oneRun m q .ended ≡ Stopped Limit → LastOrLists q
+      limited : oneRun m q .ended ≡ Stopped Limit → LastOrLists m q
       limited e = inl (ap partAfter e, says-over m q budget output Limit (outcome-limit m q budget output) e)
 
-      by : Progress q (oneRun m q) → (why : Stop) → oneRun m q .ended ≡ Stopped why → LastOrLists q
+      by : Progress q (oneRun m q) → (why : Stop) → oneRun m q .ended ≡ Stopped why → LastOrLists m q
       by (inl more) Done e = done e
       by (inl more) Limit e = limited e
       by (inl more) Spent e = inr (ap partAfter e, more)

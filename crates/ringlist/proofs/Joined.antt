@@ -105,121 +105,133 @@ record Printed (m : Molecule) (q : Search) (buffer : List ℕ) : Type 0 where
   rises : q .listed ≤ final .listed
   prints : Prints (ringsFrom m q) buffer (linesBetween m q final ++ countsOf final)
 
-module _ (m : Molecule) (good : wellFormed m ≡ true) where
-  module _ (q : Search) (s : Stands m q) (buffer : List ℕ) (room : 65536 ≤ length buffer) where
-    abbrev next : Search
-    next = oneRun m q .search
+-- the search and the buffer after a run
+abbrev nextOf : Molecule → Search → Search
+nextOf m q = oneRun m q .search
 
-    abbrev then : List ℕ
-    then = turnedText (ringsFrom m q) buffer
+abbrev bufferThen : Molecule → Search → List ℕ → List ℕ
+bufferThen m q buffer = turnedText (ringsFrom m q) buffer
 
-    fits : 4 * length (runRecords m q) ≤ length buffer
-    fits = omega (arith, records-fit m q)
+module _ (m : Molecule) (q : Search) (buffer : List ℕ) (room : 65536 ≤ length buffer) where
+  fits : 4 * length (runRecords m q) ≤ length buffer
+  fits = omega (arith, records-fit m q)
 
-    text-is : textOf (ringsFrom m q) buffer ≡ linesBetween m q next
-    text-is = piece-text _ buffer fits ∙ run-lines m good q s
+  then-room : 65536 ≤ length (bufferThen m q buffer)
+  then-room = omega (arith, piece-keeps {room = 4 * length (runRecords m q)} (ringLines (runRecords m q)) buffer fits)
 
-    then-room : 65536 ≤ length then
-    then-room = omega (arith, piece-keeps {room = 4 * length (runRecords m q)} (ringLines (runRecords m q)) buffer fits)
+module _ {m : Molecule} {q : Search} (s : Stands m q) (buffer : List ℕ) (room : 65536 ≤ length buffer) where
+  text-is : textOf (ringsFrom m q) buffer ≡ linesBetween m q (nextOf m q)
+  text-is = piece-text _ buffer (fits m q buffer room) ∙ run-lines s
 
-    -- the run and then the counts
-    last-turns :
-        partAfter (oneRun m q .ended) ≡ part.Counts →
-        Prints (ringsFrom m q) buffer (linesBetween m q next ++ countsOf next)
-    last-turns e =
-        let counts : textOf (countsFrom m next) then ≡ countsOf next = piece-text _ then (omega (arith, then-room)) in
-        let last : List ℕ = textOf (countsFrom m next) then in
-        rw (← text-is, ← counts) (goes-on (ringsFrom m q) buffer last refl (rw e (ends (countsFrom m next) then refl)))
+  -- the run and then the counts
+  last-turns :
+      let next = nextOf m q in
+      partAfter (oneRun m q .ended) ≡ part.Counts →
+      Prints (ringsFrom m q) buffer (linesBetween m q next ++ countsOf next)
+  last-turns e =
+      let next = nextOf m q in
+      let then = bufferThen m q buffer in
+      let last = textOf (countsFrom m next) then in
+      let counts : last ≡ countsOf next = piece-text _ then (omega (arith, then-room m q buffer room)) in
+      rw (← text-is, ← counts) (goes-on (ringsFrom m q) buffer last refl (rw e (ends (countsFrom m next) then refl)))
 
-    -- the run and then more of them
-    more-turns :
-        (p : Printed m next then) → partAfter (oneRun m q .ended) ≡ part.Rings → q .listed ≤ next .listed →
-        Printed m q buffer
-    more-turns p e h =
-        let rest : List ℕ = linesBetween m next (p .final) ++ countsOf (p .final) in
-        let turns : Prints (ringsFrom m q) buffer (textOf (ringsFrom m q) buffer ++ rest) =
-        goes-on (ringsFrom m q) buffer rest refl (rw e (p .prints)) in
-        let split = lines-split (members (ringsOf m)) (q .listed) (next .listed) (p .final .listed) h (p .rises) in
-        let lines : textOf (ringsFrom m q) buffer ++ rest ≡ linesBetween m q (p .final) ++ countsOf (p .final) =
-        ap (λ (t : List ℕ). t ++ rest) text-is
-        ∙ sym (append-assoc (linesBetween m q next) (linesBetween m next (p .final)) (countsOf (p .final)))
-        ∙ ap (λ (t : List ℕ). t ++ countsOf (p .final)) (sym split) in
-        record {
-          final = p .final;
-          stands = p .stands;
-          over = p .over;
-          rises = omega (arith, p .rises);
-          prints = subst (Prints (ringsFrom m q) buffer) lines turns;
-        }
+  -- the lines of the run before those up to a later search
+  lines-join :
+      (p : Search) (rest : List ℕ) →
+      let next = nextOf m q in
+      q .listed ≤ next .listed → next .listed ≤ p .listed →
+      textOf (ringsFrom m q) buffer ++ (linesBetween m next p ++ rest) ≡ linesBetween m q p ++ rest
+  lines-join p rest h k =
+      let next = nextOf m q in
+      let split = lines-split (members (ringsOf m)) (q .listed) (next .listed) (p .listed) h k in
+      ap (λ (t : List ℕ). t ++ (linesBetween m next p ++ rest)) text-is
+      ∙ sym (append-assoc (linesBetween m q next) (linesBetween m next p) rest)
+      ∙ ap (λ (t : List ℕ). t ++ rest) (sym split)
 
-    -- one run, and what is known of the search that it leaves if it has listed more
-    step : (q .listed < next .listed → Printed m next then) → Printed m q buffer
-    step rest = by (last-or-lists m good q s)
-      where
-        by : LastOrLists m good q → Printed m q buffer
-        by (inl (e, over)) = record {
-          final = next;
-          stands = run-stands m good q s;
-          over = over;
-          rises = listed-rises m q budget output;
-          prints = last-turns e;
-        }
-        by (inr (e, more)) = more-turns (rest more) e (omega arith)
+  -- the run and then more of them
+  more-turns :
+      let next = nextOf m q in
+      Printed m next (bufferThen m q buffer) → partAfter (oneRun m q .ended) ≡ part.Rings →
+      q .listed ≤ next .listed → Printed m q buffer
+  more-turns p e h =
+      let rest = linesBetween m (nextOf m q) (p .final) ++ countsOf (p .final) in
+      let turns = goes-on (ringsFrom m q) buffer rest refl (rw e (p .prints)) in
+      record {
+        final = p .final;
+        stands = p .stands;
+        over = p .over;
+        rises = omega (arith, p .rises);
+        prints =
+            subst (Prints (ringsFrom m q) buffer) (lines-join (p .final) (countsOf (p .final)) h (p .rises)) turns;
+      }
 
-  rings-print :
-      (k : ℕ) (q : Search) → Stands m q → length (members (ringsOf m)) - q .listed ≤ k →
-      (buffer : List ℕ) → 65536 ≤ length buffer → Printed m q buffer
-  rings-print zero q s h buffer room =
-      let stands = run-stands m good q s in
-      step q s buffer room (λ more. absurd (omega (arith, listed-most m good (oneRun m q .search) stands)))
-  rings-print (suc k) q s h buffer room =
-      let stands = run-stands m good q s in
-      let enough = then-room q s buffer room in
-      step q s buffer room
-      (λ more. rings-print k (oneRun m q .search) stands (omega arith) (then q s buffer room) enough)
+  -- one run, and what is known of the search that it leaves if it has listed more
+  step : (q .listed < nextOf m q .listed → Printed m (nextOf m q) (bufferThen m q buffer)) → Printed m q buffer
+  step rest = by (last-or-lists s)
+    where
+      by : LastOrLists m q → Printed m q buffer
+      by (inl (e, over)) = record {
+        final = nextOf m q;
+        stands = run-stands s;
+        over = over;
+        rises = listed-rises m q budget output;
+        prints = last-turns e;
+      }
+      by (inr (e, more)) = more-turns (rest more) e (omega arith)
 
-  -- the last search is the one that the definition names
-  over-state : (st : State) → OverAt m (searchAt 0 0 0 st) → Over (ringsOf m) st
-  over-state st (inl d) =
-      let same = ap (isDone (m .atoms)) (state-search 0 0 0 st) in
-      inl (subst (λ (n : ℕ). isDone n st ≡ true) (sym (family-atoms m 0 0 0)) (sym same ∙ d))
-  over-state st (inr a) = inr (sym (ap atLimit (state-search 0 0 0 st)) ∙ a)
+rings-print :
+    {m : Molecule} {q : Search} (k : ℕ) → Stands m q → length (members (ringsOf m)) - q .listed ≤ k →
+    (buffer : List ℕ) → 65536 ≤ length buffer → Printed m q buffer
+rings-print zero s h buffer room =
+    step s buffer room (λ more. absurd (omega (arith, listed-most (run-stands s))))
+rings-print {m} {q} (suc k) s h buffer room =
+    let enough = then-room m q buffer room in
+    step s buffer room (λ more. rings-print k (run-stands s) (omega arith) (bufferThen m q buffer) enough)
 
-  final-is : (p : Search) → Stands m p → OverAt m p → p ≡ searchAt 0 0 0 (wholeRun m .state)
-  unfolding wholeRun
-  final-is p s o =
-      let F = ringsOf m in
-      let L = family-lawful m 0 0 0 in
-      let at = stands-at m good p s in
-      let short : F .atoms ≤ 128 = omega (arith, family-atoms m 0 0 0, atoms-most m good) in
-      let same = over-is F L (at .0) (at .2) (over-state (steps F (at .0) fresh) (subst (OverAt m) (at .1) o)) in
-      at .1 ∙ ap (searchAt 0 0 0) (same ∙ sym (whole-is F L short))
+-- ---- the last search is the one that the definition names
 
-  listing-of :
-      (p : Search) (st : State) → p ≡ searchAt 0 0 0 st →
-      linesBetween m (freshSearch 0 0 0) p ++ countsOf p ≡ listingText m st
-  unfolding listingText freshSearch searchAt fresh
-  listing-of p st e =
-      let none : st .listed - 0 ≡ st .listed = omega arith in
-      let counts : List ℕ = countLine (st .listed) (st .extensions) (st .trials) in
-      rw e (ap (λ (n : ℕ). linesOf (take n (members (ringsOf m))) ++ counts) none)
+over-state : (m : Molecule) (st : State) → OverAt m (searchAt 0 0 0 st) → Over (ringsOf m) st
+over-state m st (inl d) =
+    let same = ap (isDone (m .atoms)) (state-search 0 0 0 st) in
+    inl (subst (λ (n : ℕ). isDone n st ≡ true) (sym (family-atoms m 0 0 0)) (sym same ∙ d))
+over-state m st (inr a) = inr (sym (ap atLimit (state-search 0 0 0 st)) ∙ a)
 
-  accepted-prints :
-      (buffer : List ℕ) → 65536 ≤ length buffer →
-      Prints (begun part.Rings m) buffer (listingText m (wholeRun m .state))
-  accepted-prints buffer room =
-      let all : ℕ = length (members (ringsOf m)) in
-      let p = rings-print all (freshSearch 0 0 0) (fresh-stands m) (omega arith) buffer room in
-      subst (Prints (begun part.Rings m) buffer)
-      (listing-of (p .final) (wholeRun m .state) (final-is (p .final) (p .stands) (p .over)))
-      (p .prints)
+final-is : {m : Molecule} {p : Search} → Stands m p → OverAt m p → p ≡ searchAt 0 0 0 (wholeRun m .state)
+unfolding wholeRun
+final-is {m} s over =
+    let F = ringsOf m in
+    let L = family-lawful m 0 0 0 in
+    let at-trials = stands-at s in
+    let short : F .atoms ≤ 128 = omega (arith, family-atoms m 0 0 0, atoms-most m (s .good)) in
+    let over-there = over-state m (steps F (at-trials .made) fresh) (subst (OverAt m) (at-trials .search-is) over) in
+    let same = over-is F L (at-trials .made) (at-trials .bounded) over-there in
+    at-trials .search-is ∙ ap (searchAt 0 0 0) (same ∙ sym (whole-is F L short))
+
+listing-of :
+    (m : Molecule) (p : Search) (st : State) → p ≡ searchAt 0 0 0 st →
+    linesBetween m (freshSearch 0 0 0) p ++ countsOf p ≡ listingText m st
+unfolding listingText freshSearch searchAt fresh
+listing-of m p st e =
+    let none : st .listed - 0 ≡ st .listed = omega arith in
+    let counts : List ℕ = countLine (st .listed) (st .extensions) (st .trials) in
+    rw e (ap (λ (n : ℕ). linesOf (take n (members (ringsOf m))) ++ counts) none)
+
+accepted-prints :
+    (m : Molecule) → wellFormed m ≡ true → (buffer : List ℕ) → 65536 ≤ length buffer →
+    Prints (begun part.Rings m) buffer (listingText m (wholeRun m .state))
+accepted-prints m good buffer room =
+    let all : ℕ = length (members (ringsOf m)) in
+    let p = rings-print all (fresh-stands good) (omega arith) buffer room in
+    subst (Prints (begun part.Rings m) buffer)
+    (listing-of m (p .final) (wholeRun m .state) (final-is (p .stands) (p .over)))
+    (p .prints)
 
 -- ---- the loop of `main` ends
 
 -- a listing with more rings to come stands as demand 3 speaks of it
 abbrev SoundBy : Part → Molecule → Search → Type 0
 SoundBy (part.Refused r) m q = Unit {0}
-SoundBy part.Rings m q = (wellFormed m ≡ true) × Stands m q
+SoundBy part.Rings m q = Stands m q
 SoundBy part.Counts m q = Unit {0}
 
 abbrev pub Sound : Listing → Type 0
@@ -234,6 +246,11 @@ leftBy part.Counts m q = 0
 abbrev pub left : Listing → ℕ
 left l = leftBy (l .part) (l .molecule) (l .search)
 
+-- what holds at the head of the loop
+pub record Looping (listing : Listing) (piece : List ℕ) : Type 0 where
+  pub size : 65536 ≡ length piece
+  pub sound : Sound listing
+
 -- a turn that is not the last leaves fewer
 turn-goes-on :
     (l : Listing) (buffer : List ℕ) → Sound l → turned l buffer .last ≡ false →
@@ -241,24 +258,19 @@ turn-goes-on :
 turn-goes-on l buffer sound e = by (l .part) sound e
   where
     run :
-        let m = l .molecule in
-        let q = l .search in
+        {m : Molecule} {q : Search} → Stands m q → LastOrLists m q →
         let next = oneRun m q in
         let after = partAfter (next .ended) in
-        (good : wellFormed m ≡ true) → Stands m q → LastOrLists m good q →
         SoundBy after m (next .search) × (leftBy after m (next .search) < leftBy part.Rings m q)
-    run good s (inl (e, over)) = rw e (tt, omega arith)
-    run good s (inr (e, more)) =
-        let stands = run-stands (l .molecule) good (l .search) s in
-        let most = listed-most (l .molecule) good (oneRun (l .molecule) (l .search) .search) stands in
-        rw e ((good, stands), omega (arith, most))
+    run s (inl (e, over)) = rw e (tt, omega arith)
+    run s (inr (e, more)) = rw e (run-stands s, omega (arith, listed-most (run-stands s)))
 
     by :
         (p : Part) → SoundBy p (l .molecule) (l .search) → turnedBy p l buffer .last ≡ false →
         let next = turnedBy p l buffer .listing in
         Sound next × (left next < leftBy p (l .molecule) (l .search))
     by (part.Refused r) s e = absurd (clash true refl e)
-    by part.Rings s e = run (s .0) (s .1) (last-or-lists (l .molecule) (s .0) (l .search) (s .1))
+    by part.Rings s e = run s (last-or-lists s)
     by part.Counts s e = absurd (clash true refl e)
 
 pub turned-goes-on :
@@ -273,7 +285,7 @@ opened-sound input = go (ltb 65529 (length input))
     answered :
         (answer : Answer) (m : Molecule) → (answer ≡ Accepted → wellFormed m ≡ true) →
         Sound (begun (firstPart answer) m)
-    answered Accepted m good = (good refl, fresh-stands m)
+    answered Accepted m good = fresh-stands (good refl)
     answered (Refused r) m good = tt
 
     go :

@@ -2,10 +2,10 @@
 // the counts. What it prints for an input is `printedText` of it (specs/Text.antt): the texts of the turns, joined, are
 // that, by `turns-joined` (proofs/Joined.antt).
 // No contract speaks of reading and writing, so two sentences rest on reading `main`:
-// 1. It opens the bytes that `io::read_full` reads from standard input, up to its end, a read that fails, or 65,536 bytes,
-//    which decide the text (`first-bytes`).
-// 2. It takes turns from there and hands the text of each to `io::write_all`, once and in order, until one is the last or a
-//    write fails.
+// 1. It opens the bytes that `io::read_full` reads from standard input, up to its end, a read that fails, or 65,536
+//    bytes, which decide the text (`first-bytes`).
+// 2. It takes turns from there and hands the text of each to `io::write_all`, once and in order, until one is the last
+//    or a write fails.
 mod text;
 
 use libc::STDIN_FILENO;

@@ -1,5 +1,6 @@
-use Rattle.mark_writer.proofs.Splices.{splice-byte}
+-- `mark_writer::put_feed` meets its contract: a byte that is set is a text of one byte.
 use borrow.Author.Needs.{needs}
+use Rattle.mark_writer.proofs.Splices.{splice-byte}
 use Rattle.mark_writer.proofs.put_feed.Statement.{statement}
 use Rattle.mark_writer.proofs.put_feed.Tie as tie
 

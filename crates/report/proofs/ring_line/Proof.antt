@@ -1,56 +1,50 @@
--- `report::ring_line` meets its contract. The invariant: the fields of the first i atoms stand at the start, and the rest is as it was.
-use Prim.Native.Nat.{_+_, _-_, _*_, _≤_}
+-- `report::ring_line` meets its contract.
+-- The invariant is `Lining`: the fields of the first i atoms stand at the start, and the rest is as it was.
+use Prim.Native.Nat.{_-_}
 use native.Mathlib.Omega.{arith}
-use mathlib.Core.Path.{_≡_, refl, ap, sym, _∙_}
-use lib.ListN.{length, take, length-set}
-use Rattle.search.specs.Mark.{fieldsText}
-use Rattle.report.specs.Lines.{ringLine}
-use Rattle.report.proofs.Texts.{onto, prints, prints-none, ring-length, ring-starts, ring-goes-on, ring-kept, ring-ends}
-use borrow.Rule.Slice.PartMut.{putMid}
+use lib.ListN.{length, length-set}
+use Rattle.report.proofs.Texts.{prints-none, Lining, lining-starts, lining-goes-on, lining-ends}
 use Rattle.report.proofs.ring_line.Statement.{statement}
 use Rattle.report.proofs.ring_line.Tie as tie
 
 abbrev Inv-loop : tie.InvT-loop
-Inv-loop atoms text₀ end i₀ text i = (i ≤ length atoms) × (length text ≡ length text₀) × (text ≡ onto (fieldsText 4 (take i atoms)) text₀)
+Inv-loop atoms text₀ end i₀ text i = Lining text₀ atoms text i
 
 abbrev μ-loop : tie.MeasureT-loop
 μ-loop atoms text₀ end i₀ text i = length atoms - i
 
-room : (c : tie.Else2 Inv-loop μ-loop) → 4 * length (c .before .before .before .before .args .atoms .now) + 1 ≤ length (c .before .before .before .before .args .text .now)
-room c = omega arith
+abbrev Place : (tie.InvT-loop → tie.MeasureT-loop → Type 0) → Type 0
+Place place = place Inv-loop μ-loop
+
+-- ---- the needs (`search` finds a place in c by its type)
 
 returns : tie.Need-returns Inv-loop μ-loop
-returns c = prints-none (4 * length (c .before .before .before .args .atoms .now) + 1) (ringLine (c .before .before .before .args .atoms .now)) (c .before .before .before .args .text .now) (omega arith)
+returns c = prints-none _ _ _ (omega arith)
 
 returns-2 : tie.Need-returns-2 Inv-loop μ-loop
-returns-2 c = prints-none (4 * length (c .before .before .before .before .args .atoms .now) + 1) (ringLine (c .before .before .before .before .args .atoms .now)) (c .before .before .before .before .args .text .now) (omega arith)
+returns-2 c = prints-none _ _ _ (omega arith)
 
 loop-holds : tie.Need-loop-holds Inv-loop μ-loop
-loop-holds c = (omega arith, refl, ring-starts (c .before .before .before .before .args .text .now) (c .before .before .before .before .args .atoms .now) (room c))
+loop-holds c = lining-starts (omega arith)
 
 loop-again : tie.Need-loop-again Inv-loop μ-loop
 loop-again c =
-    let start = c .before .before .before .before .before .before .before .before .before .before .before .before in
-    let loop = c .before .before .before .before .before .before .before .loop in
-    let number = c .before .before .before .wide .ensures in
-    let text : putMid (4 * loop .i) (4 * loop .i + 4 - 4 * loop .i) (loop .text) (c .before .before .write-number .last .0) ≡ onto (fieldsText 4 (take (loop .i + 1) (start .args .atoms .now))) (start .args .text .now) =
-    ring-goes-on (start .args .text .now) (start .args .atoms .now) (room (c .before .before .before .before .before .before .before .before)) (loop .text) (c .before .before .write-number .last .0) (loop .i) (c .before .before .before .before .before .before .loop-test .taken) (loop .inv .2) (rw number at (c .before .before .write-number .ensures)) in
-    (omega arith, ap length text ∙ ring-kept (start .args .text .now) (start .args .atoms .now) (room (c .before .before .before .before .before .before .before .before)) (loop .i + 1) (omega arith), text)
+    let turn : Place tie.In-loop = search in
+    let atom : Place tie.After-u8-u64 = search in
+    let write : Place tie.After-write-number = search in
+    lining-goes-on (turn .before .loop .inv) (turn .loop-test .taken) (atom .u8-u64 .ensures .same)
+    (write .write-number .ensures)
 
 same-length : tie.Need-same-length Inv-loop μ-loop
-same-length c = rw length-set (c .before .loop .inv .1)
+same-length c = rw length-set (c .before .loop .inv .size)
 
 returns-3 : tie.Need-returns-3 Inv-loop μ-loop
-returns-3 c =
-    let start = c .before .before .before .before .before .before in
-    let loop = c .before .loop in
-    prints (4 * length (start .args .atoms .now) + 1) (ringLine (start .args .atoms .now)) (start .args .text .now) _ _ (room (c .before .before)) (sym (ring-length (start .args .atoms .now)))
-    (ring-ends (start .args .text .now) (start .args .atoms .now) (room (c .before .before)) (loop .text) (loop .i) (c .loop-test .left) (loop .inv .2))
+returns-3 c = lining-ends (c .before .loop .inv) (c .loop-test .left)
 
 pub ring-line-spec : {M : Type 1} → statement M
 ring-line-spec =
     tie.close
     (tie.spec
-    Inv-loop μ-loop returns (λ c. omega arith) returns-2 loop-holds (λ c. omega arith) (λ c. omega arith) (λ c. omega arith) (λ c. omega arith)
-    (λ c. omega arith) (λ c. omega arith) (λ c κs. tt) (λ c κs. tt) (λ c. omega arith) (λ c. omega arith) loop-again (λ c. omega arith) (λ c. omega arith)
-    same-length returns-3)
+    Inv-loop μ-loop returns (λ c. omega arith) returns-2 loop-holds (λ c. omega arith) (λ c. omega arith)
+    (λ c. omega arith) (λ c. omega arith) (λ c. omega arith) (λ c. omega arith) (λ c κs. tt) (λ c κs. tt)
+    (λ c. omega arith) (λ c. omega arith) loop-again (λ c. omega arith) (λ c. omega arith) same-length returns-3)

@@ -1,17 +1,17 @@
--- `main` is safe and its loop ends. The invariant: the listing stands as demand 3 speaks of it, or no run follows.
--- The measure is the rings that are not listed yet; each turn that another follows lists one or is the last run.
+-- `main` is safe and its loop ends. The invariant is `Looping`: the listing stands as demand 3 speaks of it, or no run
+-- follows. The measure is the rings not listed yet; each turn that another follows lists one or is the last run.
 use Prim.Native.Nat.{_≤_, _<_}
 use mathlib.Core.Path.{_≡_, sym}
 use lib.ListN.{length}
 use lib.Seq.{length-take-le}
 use borrow.Author.Needs.{needs}
 use Rattle.ringlist.proofs.Contracts.{turned-within}
-use Rattle.ringlist.proofs.Joined.{Sound, left, opened-sound, turned-goes-on}
+use Rattle.ringlist.proofs.Joined.{Sound, Looping, left, opened-sound, turned-goes-on}
 use Rattle.ringlist.proofs.main.Statement.{statement}
 use Rattle.ringlist.proofs.main.Tie as tie
 
 abbrev Inv-loop : tie.InvT-loop
-Inv-loop size listing₀ piece₀ listing piece = (65536 ≡ length piece) × Sound listing
+Inv-loop size listing₀ piece₀ listing piece = Looping listing piece
 
 abbrev μ-loop : tie.MeasureT-loop
 μ-loop size listing₀ piece₀ listing piece = left listing
@@ -38,12 +38,12 @@ goes-on :
     Sound next × (left next < left (here (turn c) .loop .listing))
 goes-on c =
     let loop = here (turn c) .loop in
-    turned-goes-on (loop .listing) (loop .piece) (turn c .take-turn .ensures .0) (loop .inv .1) (search)
+    turned-goes-on (loop .listing) (loop .piece) (turn c .take-turn .ensures .0) (loop .inv .sound) (search)
 
 -- ---- needs
 
 loop-holds : tie.Need-loop-holds Inv-loop μ-loop
-loop-holds c = (c .large-buffer2 .ensures, rw (c .before .«open» .ensures) (opened-sound _))
+loop-holds c = record { size = c .large-buffer2 .ensures; sound = rw (c .before .«open» .ensures) (opened-sound _) }
 
 array-share-prefix-piece : tie.Need-array-share-prefix-piece Inv-loop μ-loop
 array-share-prefix-piece c = within (c .before)
@@ -55,13 +55,13 @@ loop-less : tie.Need-loop-less Inv-loop μ-loop
 loop-less c = goes-on c .1
 
 loop-again : tie.Need-loop-again Inv-loop μ-loop
-loop-again c = (search needs, goes-on c .0)
+loop-again c = record { size = search needs; sound = goes-on c .0 }
 
 pub main-spec : {M : Type 1} → statement M
 main-spec =
     tie.close
     (tie.spec
     Inv-loop μ-loop (λ c κs. search needs) (λ c. search needs) (λ c κs. search needs) (λ c. search needs)
-    (λ c. search needs) (λ c κs. search needs) (λ c κs. search needs) loop-holds (λ c. c .before .loop .inv .0)
+    (λ c. search needs) (λ c κs. search needs) (λ c κs. search needs) loop-holds (λ c. c .before .loop .inv .size)
     (λ c κs. search needs) array-share-prefix-piece slice-aggregate-write-all (λ c κs. search needs)
     (λ c. search needs) (λ c. search needs) loop-less loop-again)
