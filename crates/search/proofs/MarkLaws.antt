@@ -35,7 +35,8 @@ use Rattle.search.specs.Mark.{markSearch, belongs, restoreMark}
 use Rattle.search.proofs.Text.{valuesOf, values-four, values-length}
 use Rattle.search.proofs.Lines.{textOf, text-length, layout-facts, layout-text}
 pub use Rattle.search.proofs.Readings.{family-lawful, family-atoms, Restorable, restorable-facts, restorable-of, restorable-iff}
-pub use Rattle.search.proofs.Views.{state-search, search-state, restorable-valid, restorable-bounded, valid-restorable, valid-full, fresh-restorable, run-restorable}
+pub use Rattle.search.proofs.Views.{state-search, search-state, restorable-valid, restorable-bounded}
+pub use Rattle.search.proofs.Views.{valid-restorable, valid-full, fresh-restorable, run-restorable}
 use Rattle.search.proofs.Readings.{place-facts}
 use Rattle.search.proofs.Views.{beginning-at, search-length, placed-valid, prefix-most}
 use Rattle.search.proofs.Restores.{headOf, countsOf, mark-text, Restored, restored-facts, restored-of, text-restored}
