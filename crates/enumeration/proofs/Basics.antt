@@ -8,7 +8,7 @@ use mathlib.Core.Bool.{Bool, true, false, _||_, _&&_, cond, true≢false}
 use mathlib.Core.List.{List, [], _∷_, _++_, map, append-assoc, List·Memᴰ, List·Memᴰ·head, List·Memᴰ·tail, List·Memᴰ·not-nil, List·Memᴰ·cases-cons, List·Memᴰ·append-cases, Memᴰ·append-left, Memᴰ·append-right}
 use lib.Dec.{ltb}
 use borrow.Author.Tests.{ltb-true, ltb-false}
-use Rattle.enumeration.specs.Words.{from, joined, words, keep, any}
+use Rattle.enumeration.specs.Words.{numbersFrom, joined, words, keep, any}
 
 -- ---- tests
 
@@ -208,16 +208,16 @@ unfolding joined
 mem-joined f (List·Memᴰ·head {x} {xs} q) m = Memᴰ·append-left (joined f xs) (rw q at m)
 mem-joined f (List·Memᴰ·tail {x} {xs} h) m = Memᴰ·append-right (f x) (mem-joined f h m)
 
-pub from-mem : (c k : ℕ) {a : ℕ} → List·Memᴰ a (from c k) → (c ≤ a) × (a < c + k)
-unfolding from
+pub from-mem : (c k : ℕ) {a : ℕ} → List·Memᴰ a (numbersFrom c k) → (c ≤ a) × (a < c + k)
+unfolding numbersFrom
 from-mem c zero m = absurd (List·Memᴰ·not-nil m)
 from-mem c (suc k) m = elim (List·Memᴰ·cases-cons m) [
   | inl q ↦ (omega arith, omega arith)
   | inr q ↦ let (low, high) = from-mem (suc c) k q in (omega arith, omega arith)
 ]
 
-pub mem-from : (c k a : ℕ) → c ≤ a → a < c + k → List·Memᴰ a (from c k)
-unfolding from
+pub mem-from : (c k a : ℕ) → c ≤ a → a < c + k → List·Memᴰ a (numbersFrom c k)
+unfolding numbersFrom
 mem-from c zero a h l = absurd (omega arith)
 mem-from c (suc k) a h l = elim (compared c a) [
   | less q ↦ List·Memᴰ·tail (mem-from (suc c) k a q (omega arith))

@@ -9,7 +9,7 @@ use mathlib.Core.List.{List, [], _∷_, _++_, reverse, reverseAux, append-assoc,
 use lib.ListN.{length}
 use lib.Dec.{ltb, eqb}
 use borrow.Author.Tests.{ltb-true, leb-true, eqb-true, lt-ltb, le-ltb, le-leb, lt-leb, eq-eqb, ne-eqb}
-use Rattle.enumeration.specs.Words.{Family, earlier, begins, from, joined, words, keep, members, isOpen}
+use Rattle.enumeration.specs.Words.{Family, earlier, begins, numbersFrom, joined, words, keep, members, isOpen}
 use Rattle.enumeration.specs.Listing.{goesOn, past, follows, opens, openWords}
 use Rattle.enumeration.specs.Lawful.{Lawful}
 use Rattle.enumeration.proofs.Basics.{apart, and-both, or-either, or-right, compared, less, same, more, keep-append, keep-none, keep-all, keep-swap, joined-append, joined-mem, from-mem}
@@ -118,15 +118,15 @@ follows-on (a ∷ p) q c w = follows-on p (a ∷ q) c (a ∷ w) ∙ follows-same
 
 -- what is below p with a next atom lower than c
 unfoldable lower : ℕ → List ℕ → ℕ → List (List ℕ)
-lower n p c = joined (turn always n p) (from 1 (c - 1))
+lower n p c = joined (turn always n p) (numbersFrom 1 (c - 1))
 
 -- every word up to p itself
 unfoldable before : ℕ → List ℕ → List (List ℕ)
 before n [] = [] ∷ []
 before n (a ∷ p) = before n p ++ lower n p a ++ reverse (a ∷ p) ∷ []
 
-from-split : (c j k : ℕ) → from c (j + k) ≡ from c j ++ from (c + j) k
-unfolding from
+from-split : (c j k : ℕ) → numbersFrom c (j + k) ≡ numbersFrom c j ++ numbersFrom (c + j) k
+unfolding numbersFrom
 from-split c zero k =
     let e : 0 + k ≡ k = omega arith in
     let f : c + 0 ≡ c = omega arith in
@@ -136,18 +136,18 @@ from-split c (suc j) k =
     let f : c + suc j ≡ suc c + j = omega arith in
     rw (e, f, from-split (suc c) j k)
 
-upto-split : (n c : ℕ) → 1 ≤ c → c ≤ suc n → from 1 n ≡ from 1 (c - 1) ++ upto n c
+upto-split : (n c : ℕ) → 1 ≤ c → c ≤ suc n → numbersFrom 1 n ≡ numbersFrom 1 (c - 1) ++ upto n c
 unfolding upto
 upto-split n c low high =
     let e : c - 1 + (suc n - c) ≡ n = omega arith in
     let f : 1 + (c - 1) ≡ c = omega arith in
-    ap (from 1) (sym e) ∙ from-split 1 (c - 1) (suc n - c) ∙ rw f
+    ap (numbersFrom 1) (sym e) ∙ from-split 1 (c - 1) (suc n - c) ∙ rw f
 
 level-split : (n : ℕ) (p : List ℕ) (c : ℕ) → 1 ≤ c → c ≤ suc n → level always n p 1 ≡ lower n p c ++ level always n p c
 unfolding level lower
 level-split n p c low high =
     ap (joined (turn always n p)) (upto-one n ∙ upto-split n c low high) ∙
-    joined-append (turn always n p) (from 1 (c - 1)) (upto n c)
+    joined-append (turn always n p) (numbersFrom 1 (c - 1)) (upto n c)
 
 turn-level :
     (n : ℕ) (p : List ℕ) (a : ℕ) → suc (length p) < n →
@@ -195,13 +195,13 @@ level-word n p l m =
 lower-word : (n : ℕ) (p : List ℕ) (c : ℕ) {w : List ℕ} → List·Memᴰ w (lower n p c) → Lower p c w
 unfolding lower
 lower-word n p c m =
-    let (b, of-l, v, shape) = level-word n p (from 1 (c - 1)) m in
+    let (b, of-l, v, shape) = level-word n p (numbersFrom 1 (c - 1)) m in
     (b, v, shape, omega (arith, from-mem 1 (c - 1) of-l))
 
 level-higher : (n : ℕ) (p : List ℕ) (c : ℕ) {w : List ℕ} → List·Memᴰ w (level always n p c) → AtLeast p c w
 unfolding level upto
 level-higher n p c m =
-    let (b, of-l, v, shape) = level-word n p (from c (suc n - c)) m in
+    let (b, of-l, v, shape) = level-word n p (numbersFrom c (suc n - c)) m in
     (b, v, shape, from-mem c (suc n - c) of-l .0)
 
 before-not :

@@ -9,7 +9,7 @@ use mathlib.Core.List.{List, [], _∷_, _++_, map, List·Memᴰ, List·Memᴰ·h
 use lib.ListN.{length, getD}
 use lib.Dec.{ltb, eqb}
 use borrow.Author.Tests.{ltb-true, eqb-true, lt-ltb, eq-eqb}
-use Rattle.enumeration.specs.Words.{earlier, begins, from, joined, words, keep}
+use Rattle.enumeration.specs.Words.{earlier, begins, numbersFrom, joined, words, keep}
 use Rattle.enumeration.specs.Listing.{Ascending, NoRepeats}
 use Rattle.enumeration.proofs.Basics.{starting, apart, and-both, or-either, or-right, compared, less, same, more, keep-mem, joined-mem, mem-joined, from-mem, mem-from}
 
@@ -115,15 +115,15 @@ ascending-map a (w ∷ ws) (first, others) = (λ v m. go v (map-mem a ws m), asc
 ascending-joined :
     (f : ℕ → List (List ℕ)) → ((a : ℕ) → Ascending (f a)) →
     ((a b : ℕ) (x y : List ℕ) → a < b → List·Memᴰ x (f a) → List·Memᴰ y (f b) → earlier x y ≡ true) →
-    (c k : ℕ) → Ascending (joined f (from c k))
-unfolding joined from
+    (c k : ℕ) → Ascending (joined f (numbersFrom c k))
+unfolding joined numbersFrom
 ascending-joined f p h c zero = tt
 ascending-joined f p h c (suc k) =
-    ascending-append (f c) (joined f (from (suc c) k)) (p c) (ascending-joined f p h (suc c) k) across
+    ascending-append (f c) (joined f (numbersFrom (suc c) k)) (p c) (ascending-joined f p h (suc c) k) across
   where
-    across : (x y : List ℕ) → List·Memᴰ x (f c) → List·Memᴰ y (joined f (from (suc c) k)) → earlier x y ≡ true
+    across : (x y : List ℕ) → List·Memᴰ x (f c) → List·Memᴰ y (joined f (numbersFrom (suc c) k)) → earlier x y ≡ true
     across x y m m′ =
-        let (a, of-from, of-fa) = joined-mem f (from (suc c) k) m′ in
+        let (a, of-from, of-fa) = joined-mem f (numbersFrom (suc c) k) m′ in
         let (higher, bounded) = from-mem (suc c) k of-from in
         h c a x y higher m of-fa
 
@@ -135,9 +135,9 @@ ascending-words n (suc k) = (
   ascending-joined (starting n k) (λ a. ascending-map a (words n k) (ascending-words n k)) later 1 n,
 )
   where
-    first : (v : List ℕ) → List·Memᴰ v (joined (starting n k) (from 1 n)) → earlier [] v ≡ true
+    first : (v : List ℕ) → List·Memᴰ v (joined (starting n k) (numbersFrom 1 n)) → earlier [] v ≡ true
     first v m =
-        let (a, of-from, started) = joined-mem (starting n k) (from 1 n) m in
+        let (a, of-from, started) = joined-mem (starting n k) (numbersFrom 1 n) m in
         let (u, of-words, shape) = map-mem a (words n k) started in
         ap (earlier []) shape
 

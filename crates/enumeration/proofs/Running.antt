@@ -13,7 +13,7 @@ use Rattle.enumeration.specs.declared.Stop.{Stop}
 use Rattle.enumeration.specs.declared.Stop.the-variants.{Done, Limit, Spent, Full}
 use Rattle.enumeration.specs.Words.{Family, isOpen}
 use Rattle.enumeration.specs.Machine.{State, tried, isDone, act, trial}
-use Rattle.enumeration.specs.Run.{Outcome, limit, atLimit, recordOf, recordIf, lists, stopped, after, run}
+use Rattle.enumeration.specs.Run.{Outcome, limit, atLimit, recordOf, recordIf, lists, stopped, afterTrial, run}
 use Rattle.enumeration.specs.Lawful.{Lawful}
 use Rattle.enumeration.specs.Trials.{Valid, newly, steps, emitted, records}
 use Rattle.enumeration.specs.RunFacts.{Bounded, Why, RunFacts}
@@ -63,7 +63,7 @@ module _ (F : Family) where
 
   why-after :
       (budget room : ℕ) (bytes : List ℕ) (o : Outcome) → length bytes ≤ room → (s : Stop) →
-      Why F budget (room - length bytes) o s → Why F (suc budget) room (after bytes o) s
+      Why F budget (room - length bytes) o s → Why F (suc budget) room (afterTrial bytes o) s
   why-after budget room bytes o h Done w = w
   why-after budget room bytes o h Limit w = w
   why-after budget room bytes o h Spent (not-done, below-limit, all-made) = (not-done, below-limit, ap suc all-made)
@@ -73,7 +73,7 @@ module _ (F : Family) where
   one-made :
       (budget room : ℕ) (st : State) (o : Outcome) → isDone n st ≡ false → length (lists F st) ≤ room →
       RunFacts F budget (room - length (lists F st)) (trial F st) o →
-      RunFacts F (suc budget) room st (after (lists F st) o)
+      RunFacts F (suc budget) room st (afterTrial (lists F st) o)
   unfolding steps
   one-made budget room st o d h r = record {
     stepped = state-is;
@@ -117,7 +117,7 @@ module _ (F : Family) where
       go :
           (d l b : Bool) → isDone n st ≡ d → atLimit st ≡ l → ltb room (length (lists F st)) ≡ b →
           (o : Outcome) → RunFacts F budget (room - length (lists F st)) (trial F st) o →
-          let going = cond b (stopped st Full) (after (lists F st) o) in
+          let going = cond b (stopped st Full) (afterTrial (lists F st) o) in
           RunFacts F (suc budget) room st (cond d (stopped st Done) (cond l (stopped st Limit) going))
       go true l b e f g o ih = none-made (suc budget) room st Done e
       go false true b e f g o ih = none-made (suc budget) room st Limit (e, f)
@@ -165,7 +165,7 @@ module _ (F : Family) where
     where
       go :
           (d l f : Bool) → atLimit st ≡ l → (o : Outcome) → (atLimit st ≡ false → Bounded (o .state)) →
-          let going = cond f (stopped st Full) (after (lists F st) o) in
+          let going = cond f (stopped st Full) (afterTrial (lists F st) o) in
           Bounded (cond d (stopped st Done) (cond l (stopped st Limit) going) .state)
       go true l f e o ih = b
       go false true f e o ih = b

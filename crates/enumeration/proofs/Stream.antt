@@ -8,14 +8,14 @@ use mathlib.Core.Bool.{Bool, true, false, cond}
 use mathlib.Core.List.{List, [], _∷_, _++_, map, map-map, reverse, reverseAux, append-assoc, List·Memᴰ, List·Memᴰ·not-nil, List·Memᴰ·cases-cons, List·Memᴰ·eq-of-singleton}
 use lib.ListN.{length}
 use borrow.Author.Tests.{eq-eqb}
-use Rattle.enumeration.specs.Words.{begins, from, joined, words, keep}
+use Rattle.enumeration.specs.Words.{begins, numbersFrom, joined, words, keep}
 use Rattle.enumeration.proofs.Basics.{starting, apart, not-true-false, keep-append, keep-none, joined-cong, map-joined, keep-joined, joined-mem}
 
 -- ---- the stream
 
 -- the numbers from c to n
 unfoldable pub upto : ℕ → ℕ → List ℕ
-upto n c = from c (suc n - c)
+upto n c = numbersFrom c (suc n - c)
 
 -- a word, and what is tried below it if its gate is open
 abbrev pub under : Bool → List ℕ → List (List ℕ) → List (List ℕ)
@@ -27,7 +27,8 @@ always w = true
 -- what is tried below the stack p, k atoms deep
 unfoldable pub branch : (List ℕ → Bool) → ℕ → ℕ → List ℕ → List (List ℕ)
 branch G n zero p = []
-branch G n (suc k) p = joined (λ a. under (G (reverse (a ∷ p))) (reverse (a ∷ p)) (branch G n k (a ∷ p))) (from 1 n)
+branch G n (suc k) p =
+    joined (λ a. under (G (reverse (a ∷ p))) (reverse (a ∷ p)) (branch G n k (a ∷ p))) (numbersFrom 1 n)
 
 -- p with the atom a added, and what is tried below it, k atoms deeper
 abbrev pub twig : (List ℕ → Bool) → ℕ → ℕ → List ℕ → ℕ → List (List ℕ)
@@ -53,18 +54,18 @@ rest G n p c = level G n p c ++ later G n p
 -- ---- how the stream begins
 
 pub upto-cons : (n c : ℕ) → c ≤ n → upto n c ≡ c ∷ upto n (suc c)
-unfolding upto from
+unfolding upto numbersFrom
 upto-cons n c h =
     let e : suc n - c ≡ suc (suc n - suc c) = omega arith in
     rw e
 
 pub upto-end : (n : ℕ) → upto n (suc n) ≡ []
-unfolding upto from
+unfolding upto numbersFrom
 upto-end n =
     let e : suc n - suc n ≡ 0 = omega arith in
     rw e
 
-pub upto-one : (n : ℕ) → upto n 1 ≡ from 1 n
+pub upto-one : (n : ℕ) → upto n 1 ≡ numbersFrom 1 n
 unfolding upto
 upto-one n =
     let e : suc n - 1 ≡ n = omega arith in
@@ -87,7 +88,7 @@ unfolding branch level turn
 branch-level G n k p e = rw (upto-one n, ← e)
 
 pub branch-root : (G : List ℕ → Bool) (n : ℕ) → branch G n n [] ≡ level G n [] 1
-unfolding branch level upto from joined
+unfolding branch level upto numbersFrom joined
 branch-root G zero = refl
 branch-root G (suc n) = branch-level G (suc n) n [] (omega arith)
 
@@ -141,7 +142,7 @@ pub branch-mem : (G : List ℕ → Bool) (n k : ℕ) (p : List ℕ) {w : List �
 unfolding branch
 branch-mem G n zero p m = absurd (List·Memᴰ·not-nil m)
 branch-mem G n (suc k) p m =
-    let (a, of-atoms, of-twig) = joined-mem (twig G n k p) (from 1 n) m in
+    let (a, of-atoms, of-twig) = joined-mem (twig G n k p) (numbersFrom 1 n) m in
     let (v, shape) = twig-mem G n k p a (branch-mem G n k (a ∷ p)) of-twig in
     (a, v, shape)
 
@@ -192,7 +193,8 @@ module _ (G t : List ℕ → Bool) (shown : (q w : List ℕ) → t w ≡ true �
   unfolding branch
   keep-branch n zero p = refl
   keep-branch n (suc k) p =
-      keep-joined t (twig G n k p) (twig always n k p) (from 1 n) (λ a. keep-twig n k p a (keep-branch n k (a ∷ p)))
+      keep-joined t (twig G n k p) (twig always n k p) (numbersFrom 1 n)
+      (λ a. keep-twig n k p a (keep-branch n k (a ∷ p)))
 
   pub keep-level : (n : ℕ) (p : List ℕ) (c : ℕ) → keep t (level G n p c) ≡ keep t (level always n p c)
   unfolding level turn
@@ -223,8 +225,8 @@ pub words-branch : (n k : ℕ) (p : List ℕ) → map (reverseAux p) (words n k)
 unfolding words branch
 words-branch n zero p = refl
 words-branch n (suc k) p =
-    rw (map-joined (reverseAux p) (starting n k) (from 1 n))
-    (rw (joined-cong (λ (a : ℕ). map (reverseAux p) (starting n k a)) (twig always n k p) (from 1 n)
+    rw (map-joined (reverseAux p) (starting n k) (numbersFrom 1 n))
+    (rw (joined-cong (λ (a : ℕ). map (reverseAux p) (starting n k a)) (twig always n k p) (numbersFrom 1 n)
     (λ a. starting-twig n k p a (words-branch n k (a ∷ p)))))
 
 pub words-root : (n : ℕ) → words n n ≡ [] ∷ level always n [] 1

@@ -43,8 +43,8 @@ abbrev pub stopped : State → Stop → Outcome
 stopped st why = record { state = st; stop = why; bytes = []; made = 0 }
 
 -- an outcome with one trial more before it, which wrote `bytes`
-abbrev pub after : List ℕ → Outcome → Outcome
-after bytes o = record {
+abbrev pub afterTrial : List ℕ → Outcome → Outcome
+afterTrial bytes o = record {
   state = o .state;
   stop = o .stop;
   bytes = bytes ++ o .bytes;
@@ -60,4 +60,4 @@ run F (suc budget) room st =
     let rest = run F budget (room - length (lists F st)) (trial F st) in
     cond (isDone (F .atoms) st) (stopped st Done)
     (cond (atLimit st) (stopped st Limit)
-    (cond (ltb room (length (lists F st))) (stopped st Full) (after (lists F st) rest)))
+    (cond (ltb room (length (lists F st))) (stopped st Full) (afterTrial (lists F st) rest)))

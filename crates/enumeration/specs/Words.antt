@@ -21,9 +21,9 @@ begins (a ∷ v) [] = false
 begins (a ∷ v) (b ∷ w) = eqb a b && begins v w
 
 -- the numbers from c on, k of them
-unfoldable pub from : ℕ → ℕ → List ℕ
-from c zero = []
-from c (suc k) = c ∷ from (suc c) k
+unfoldable pub numbersFrom : ℕ → ℕ → List ℕ
+numbersFrom c zero = []
+numbersFrom c (suc k) = c ∷ numbersFrom (suc c) k
 
 -- the lists that f gives, joined
 unfoldable pub joined : (ℕ → List (List ℕ)) → List ℕ → List (List ℕ)
@@ -33,7 +33,7 @@ joined f (a ∷ rest) = f a ++ joined f rest
 -- every word of at most k atoms from 1 to n: the empty one, then those that start with 1, with 2, ..
 unfoldable pub words : ℕ → ℕ → List (List ℕ)
 words n zero = [] ∷ []
-words n (suc k) = [] ∷ joined (λ a. map (λ w. a ∷ w) (words n k)) (from 1 n)
+words n (suc k) = [] ∷ joined (λ a. map (λ w. a ∷ w) (words n k)) (numbersFrom 1 n)
 
 -- those that pass a test, in their order
 unfoldable pub keep : (List ℕ → Bool) → List (List ℕ) → List (List ℕ)

@@ -3,7 +3,7 @@
 use mathlib.Core.Path.{_≡_, refl}
 use mathlib.Core.List.{[], _∷_}
 use Rattle.graph.specs.Chordless.{inRange, induces, isRing, isPath}
-use Rattle.enumeration.specs.Words.{begins, from, joined, words, keep, any, members, isOpen}
+use Rattle.enumeration.specs.Words.{begins, numbersFrom, joined, words, keep, any, members, isOpen}
 use Rattle.enumeration.specs.Machine.{fresh, tried, isEmpty, isDone, unwound, act, trial}
 use Rattle.enumeration.specs.Run.{atLimit, recordOf, recordIf, lists, run}
 use Rattle.enumeration.specs.Trials.{records}
@@ -24,7 +24,7 @@ a and b = (a, b)
 
 computed : AllComputed table
 unfolding
-    inRange induces isRing isPath begins from joined words keep any members isOpen
+    inRange induces isRing isPath begins numbersFrom joined words keep any members isOpen
     fresh tried isEmpty isDone unwound act trial atLimit recordOf recordIf lists run records
     digits readField column columns fieldText cell bonded
     atomsKept noneToItself samePair noneTwice withBit withCell withBond rowsOf

@@ -13,7 +13,7 @@ use Rattle.enumeration.specs.declared.Stop.{Stop}
 use Rattle.enumeration.specs.declared.Stop.the-variants.{Done, Limit, Spent, Full}
 use Rattle.enumeration.specs.Words.{Family}
 use Rattle.enumeration.specs.Machine.{State, isDone, act, trial}
-use Rattle.enumeration.specs.Run.{Outcome, limit, atLimit, lists, stopped, after, run}
+use Rattle.enumeration.specs.Run.{Outcome, limit, atLimit, lists, stopped, afterTrial, run}
 use Rattle.enumeration.specs.RunFacts.{Bounded}
 use Rattle.search.specs.declared.Search.{Search}
 use Rattle.search.specs.declared.Ran.{Ran}
@@ -49,7 +49,7 @@ module _ (F : Family) (room : ℕ) (st : State) where
 
       pub run-turn :
           (budget : ℕ) → length (lists F st) ≤ room →
-          run F (suc budget) room st ≡ after (lists F st) (run F budget (room - length (lists F st)) (trial F st))
+          run F (suc budget) room st ≡ afterTrial (lists F st) (run F budget (room - length (lists F st)) (trial F st))
       unfolding run
       run-turn budget h = rw (d, l, le-ltb room (length (lists F st)) h)
 
@@ -91,7 +91,7 @@ onto-none o = let z : 0 + o .made ≡ o .made = omega arith in rw z
 
 onto-after :
     (bytes more : List ℕ) (made : ℕ) (o : Outcome) →
-    onto bytes made (after more o) ≡ onto (bytes ++ more) (made + 1) o
+    onto bytes made (afterTrial more o) ≡ onto (bytes ++ more) (made + 1) o
 onto-after bytes more made o =
     let m : made + suc (o .made) ≡ made + 1 + o .made = omega arith in
     rw (m, append-assoc bytes more (o .bytes))
@@ -170,7 +170,7 @@ module _ {F : Family} {budget : ℕ} {out₀ : List ℕ} {st₀ : State} where
               rw (front, back, both, drop-drop (length (lists F st)) (length (g .bytes)) out₀)
               (sym (append-assoc (g .bytes) (lists F st) _))
 
-          turned : run F (budget - made) (length out₀ - length (g .bytes)) st ≡ after (lists F st) later
+          turned : run F (budget - made) (length out₀ - length (g .bytes)) st ≡ afterTrial (lists F st) later
           turned =
               let one : budget - made ≡ suc (budget - (made + 1)) = omega arith in
               let room = length out₀ - length (g .bytes) in
