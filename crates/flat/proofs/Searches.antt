@@ -16,7 +16,7 @@ use Rattle.refusal.specs.declared.Refusal.{Refusal}
 use Rattle.refusal.specs.declared.Answer.the-variants.{Accepted, Refused}
 use Rattle.refusal.specs.Number.{numberOf}
 use Rattle.molecule.specs.declared.Molecule.{Molecule}
-use Rattle.molecule.proofs.Passed.{refuted, confirmed}
+use Rattle.graph.proofs.Passed.{refuted, confirmed}
 use Rattle.search.specs.declared.Search.{Search}
 use Rattle.search.specs.declared.Made.{Made}
 use Rattle.search.specs.declared.Ran.{Ran}

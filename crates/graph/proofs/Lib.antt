@@ -3,6 +3,7 @@ pub mod Below
 pub mod Chain
 pub mod Facts
 pub mod Loops
+pub mod Passed
 pub mod Pigeon
 pub mod Places
 pub mod Shape

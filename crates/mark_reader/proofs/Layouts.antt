@@ -1,5 +1,5 @@
 -- Rule 14 by its tests: one that fails makes it false, since rule 14 says that they all pass; past the others it is
--- the last. Fields in a row are read one by one: what is known of those passed is `Passed`.
+-- the last. Fields in a row are read one by one: what is known of those passed is `FieldsPassed`.
 use Prim.Native.Nat.{ℕ, _+_, _*_, _≤_, _<_}
 use native.Mathlib.Omega.{arith}
 use mathlib.Core.Path.{_≡_, refl, ap, sym, _∙_}
@@ -28,7 +28,7 @@ refuted is e holds = clash _ holds (failed is e)
 -- ---- fields in a row
 
 -- the first i of k fields are number fields, and `place` is where they end
-pub record Passed (columns : ℕ) (bytes : List ℕ) (at k i place : ℕ) : Type 0 where
+pub record FieldsPassed (columns : ℕ) (bytes : List ℕ) (at k i place : ℕ) : Type 0 where
   pub room : at + columns * k ≤ length bytes
   pub within : i ≤ k
   pub ends : place ≡ at + columns * i
@@ -39,11 +39,11 @@ pub told : {x y : Number} {r : Bool} → x ≡ y → r ≡ isValue x → isValue
 told is says = sym (ap isValue is) ∙ sym says
 
 module _ {columns : ℕ} {bytes : List ℕ} {at k : ℕ} where
-  pub passed-none : at + columns * k ≤ length bytes → Passed columns bytes at k 0 at
+  pub passed-none : at + columns * k ≤ length bytes → FieldsPassed columns bytes at k 0 at
   unfolding fieldsKept
   passed-none room = record { room = room; within = omega arith; ends = place-first at columns; kept = refl }
 
-  module _ {i place : ℕ} (p : Passed columns bytes at k i place) where
+  module _ {i place : ℕ} (p : FieldsPassed columns bytes at k i place) where
     abbrev isField : ℕ → Bool
     isField j = isValue (fieldAt columns bytes (at + columns * j))
 
@@ -55,7 +55,7 @@ module _ {columns : ℕ} {bytes : List ℕ} {at k : ℕ} where
     passed-fails h e = sym (all-fails k isField i h (rw (p .ends) at e))
 
     pub passed-more :
-        i < k → isValue (fieldAt columns bytes place) ≡ true → Passed columns bytes at k (i + 1) (place + columns)
+        i < k → isValue (fieldAt columns bytes place) ≡ true → FieldsPassed columns bytes at k (i + 1) (place + columns)
     unfolding fieldsKept
     passed-more h e =
         record {

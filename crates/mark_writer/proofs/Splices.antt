@@ -7,7 +7,7 @@ use native.Mathlib.Omega.{arith}
 use mathlib.Core.Path.{_≡_, refl, ap, sym, _∙_}
 use mathlib.Core.List.{List, [], _∷_, _++_, append-assoc, append-nil}
 use lib.ListN.{length, getD, take, drop, set, length-append, length-drop, take-append-drop}
-use lib.Seq.{take-at, drop-append-add, drop-drop, take-suc, take-all, append-snoc, set-split, length-take-le}
+use lib.Seq.{take-at, drop-append-add, drop-drop, take-all, append-snoc, set-split, length-take-le}
 use Rattle.fields.specs.Field.{fieldText}
 use Rattle.fields.proofs.Laws.{field-length}
 use Rattle.fields.proofs.Places.{place-first, place-on, place-fits}
@@ -15,7 +15,7 @@ use Rattle.molecule.specs.declared.Molecule.{Molecule}
 use Rattle.search.specs.declared.Search.{Search}
 use Rattle.search.specs.Place.{beginning}
 use Rattle.search.specs.Mark.{fieldsText, lineFeed, markText}
-use Rattle.search.proofs.Text.{fields-length}
+use Rattle.search.proofs.Text.{fields-length, fields-more}
 use Rattle.search.proofs.Views.{beginning-length}
 use Rattle.search.proofs.Restores.{headOf, countsOf}
 use Rattle.mark_writer.specs.Parts.{MarkFits, spliced}
@@ -80,16 +80,6 @@ pub record Put (l vs : List ℕ) (at c : ℕ) (out : List ℕ) (i place : ℕ) :
   pub ends : place ≡ at + c * i
   pub size : length out ≡ length l
   pub put : out ≡ spliced at (fieldsText c (take i vs)) l
-
-fields-snoc : (c : ℕ) (vs : List ℕ) (v : ℕ) → fieldsText c (vs ++ v ∷ []) ≡ fieldsText c vs ++ fieldText c v
-unfolding fieldsText
-fields-snoc c [] v = append-nil (fieldText c v)
-fields-snoc c (x ∷ vs) v = rw (fields-snoc c vs v, append-assoc)
-
-fields-more :
-    (c : ℕ) (vs : List ℕ) (i : ℕ) → i < length vs →
-    fieldsText c (take (i + 1) vs) ≡ fieldsText c (take i vs) ++ fieldText c (getD vs i 0)
-fields-more c vs i h = rw (add-one, take-suc vs i 0 h) (fields-snoc c (take i vs) (getD vs i 0))
 
 pub put-none : {l vs : List ℕ} {at c : ℕ} → at + c * length vs ≤ length l → Put l vs at c l 0 at
 unfolding fieldsText

@@ -1,4 +1,3 @@
 pub mod Bonds
-pub mod Passed
 pub mod Checks
 pub mod Rules

@@ -7,14 +7,14 @@ use mathlib.Core.Path.{_≡_, refl, ap, sym, _∙_}
 use mathlib.Core.Bool.{Bool, true, false, cond}
 use mathlib.Core.List.{List, [], _∷_, _++_, append-assoc, append-nil}
 use lib.ListN.{length, getD, take, drop, set, length-append, length-drop}
-use lib.Seq.{take-at, drop-at, drop-drop, drop-cons, set-at, append-snoc, take-suc, take-all, length-take-le, sets, sets-eq}
+use lib.Seq.{take-at, drop-at, drop-drop, drop-cons, set-at, append-snoc, take-all, length-take-le, sets, sets-eq}
 use borrow.Rule.Slice.PartMut.{putMid}
 use lib.Dec.{leb}
 use borrow.Author.Tests.{le-leb, lt-leb}
 use Rattle.fields.specs.Field.{fieldText}
 use Rattle.fields.proofs.Laws.{field-length}
 use Rattle.search.specs.Mark.{fieldsText, lineFeed}
-use Rattle.search.proofs.Text.{fields-length}
+use Rattle.search.proofs.Text.{fields-length, fields-more}
 use Rattle.report.specs.Lines.{ringLine, countLine, refusedWord, refusalLine, printed, printedOn, PrintedInto}
 
 -- a buffer with a text over its first bytes
@@ -132,16 +132,6 @@ pub ring-length : (atoms : List ℕ) → length (ringLine atoms) ≡ 4 * length 
 unfolding ringLine
 ring-length atoms = omega (arith, length-append (fieldsText 4 atoms) lineFeed, fields-length 4 atoms)
 
-fields-snoc : (vs : List ℕ) (v : ℕ) → fieldsText 4 (vs ++ v ∷ []) ≡ fieldsText 4 vs ++ fieldText 4 v
-unfolding fieldsText
-fields-snoc [] v = append-nil (fieldText 4 v)
-fields-snoc (x ∷ vs) v = rw (fields-snoc vs v, append-assoc)
-
-fields-more :
-    (vs : List ℕ) (i : ℕ) → i < length vs →
-    fieldsText 4 (take i vs) ++ fieldText 4 (getD vs i 0) ≡ fieldsText 4 (take (i + 1) vs)
-fields-more vs i h = rw (add-one, take-suc vs i 0 h) (sym (fields-snoc (take i vs) (getD vs i 0)))
-
 -- the fields of the first i atoms stand at the start of the buffer, and the rest is as it was
 pub record Lining (l atoms out : List ℕ) (i : ℕ) : Type 0 where
   pub room : 4 * length atoms + 1 ≤ length l
@@ -167,7 +157,7 @@ module _ {l atoms out : List ℕ} {i : ℕ} (p : Lining l atoms out i) where
         room = room;
         within = omega arith;
         size = begins-length next (omega arith);
-        begins = rw (← fields-more atoms i h) (record { size = next .size ∙ place; is = next .is });
+        begins = rw (fields-more 4 atoms i h) (record { size = next .size ∙ place; is = next .is });
       }
 
   pub lining-ends :

@@ -2,12 +2,13 @@
 -- Field by field, from the laws of one field; a place is a number of bytes before it.
 use Prim.Native.Nat.{ℕ, zero, suc, _+_, _*_, _^_, _≤_, _<_}
 use native.Mathlib.Nat.{mul-zero, mul-suc, add-zero}
+use native.Mathlib.Numerals.{add-one}
 use native.Mathlib.Omega.{arith}
 use mathlib.Core.Path.{_≡_, refl, ap, ap₂, sym, _∙_}
 use mathlib.Core.Bool.{true}
-use mathlib.Core.List.{List, [], _∷_, _++_, append-assoc}
+use mathlib.Core.List.{List, [], _∷_, _++_, append-assoc, append-nil}
 use lib.ListN.{length, getD, take, drop, length-append, length-drop, take-append-drop}
-use lib.Seq.{take-at, drop-at, drop-drop, take-add, length-take-le}
+use lib.Seq.{take-at, drop-at, drop-drop, take-add, take-suc, length-take-le}
 use Rattle.graph.proofs.Below.{apart, allBelow-at, allBelow-of}
 use Rattle.graph.proofs.All.{All, _◁_}
 use Rattle.fields.specs.declared.Number.{Number}
@@ -21,6 +22,17 @@ pub fields-length : (c : ℕ) (vs : List ℕ) → length (fieldsText c vs) ≡ c
 unfolding fieldsText
 fields-length c [] = sym (mul-zero c)
 fields-length c (v ∷ vs) = rw (length-append, field-length, fields-length c vs) (omega (arith, mul-suc c (length vs)))
+
+-- one field more
+fields-snoc : (c : ℕ) (vs : List ℕ) (v : ℕ) → fieldsText c (vs ++ v ∷ []) ≡ fieldsText c vs ++ fieldText c v
+unfolding fieldsText
+fields-snoc c [] v = append-nil (fieldText c v)
+fields-snoc c (x ∷ vs) v = rw (fields-snoc c vs v, append-assoc)
+
+pub fields-more :
+    (c : ℕ) (vs : List ℕ) (i : ℕ) → i < length vs →
+    fieldsText c (take (i + 1) vs) ≡ fieldsText c (take i vs) ++ fieldText c (getD vs i 0)
+fields-more c vs i h = rw (add-one, take-suc vs i 0 h) (fields-snoc c (take i vs) (getD vs i 0))
 
 -- the values of k fields of c columns from a place on
 abbrev pub valuesOf : ℕ → List ℕ → ℕ → ℕ → List ℕ

@@ -42,15 +42,15 @@ module _ (prefix : List ℕ) (len i : ℕ) where
   padded-other l d = rw (le-ltb i len l, ne-eqb (getD prefix i 0) 0 d)
 
 -- The places before one are below the length or hold 0; it is not below the length
-pub record Passed (prefix : List ℕ) (len i : ℕ) : Type 0 where
+pub record PlacesPassed (prefix : List ℕ) (len i : ℕ) : Type 0 where
   pub past : len ≤ i
   pub zeros : (k : ℕ) → k < i → paddedAt prefix len k ≡ true
 
-pub passed-none : (prefix : List ℕ) (len : ℕ) → Passed prefix len len
+pub passed-none : (prefix : List ℕ) (len : ℕ) → PlacesPassed prefix len len
 passed-none prefix len = record { past = omega arith; zeros = padded-before prefix len }
 
-module _ {prefix : List ℕ} {len i : ℕ} (p : Passed prefix len i) where
-  pub passed-more : getD prefix i 0 ≡ 0 → Passed prefix len (i + 1)
+module _ {prefix : List ℕ} {len i : ℕ} (p : PlacesPassed prefix len i) where
+  pub passed-more : getD prefix i 0 ≡ 0 → PlacesPassed prefix len (i + 1)
   passed-more e =
       let here = padded-zero prefix len i (p .past) e in
       record { past = omega arith; zeros = below-more _ _ (p .zeros) here }

@@ -50,20 +50,20 @@ others-stay n j k low b d =
 -- ---- the loop over the bits of a word
 
 -- the atoms of the bits that are not left are done
-pub record Passed (adj : Adjacency) (word k : ℕ) (all : List ℕ) (left : ℕ) : Type 0 where
+pub record NeighboursPassed (adj : Adjacency) (word k : ℕ) (all : List ℕ) (left : ℕ) : Type 0 where
   pub some : (a : ℕ) → has all a ≡ true → (j : ℕ) × (j < 64) × (bit word j ≡ true) × (adj (64 * k + j + 1) a ≡ true)
   pub within : (j : ℕ) → bit left j ≡ true → bit word j ≡ true
   pub done : (j a : ℕ) → bit word j ≡ true → adj (64 * k + j + 1) a ≡ true → (has all a ≡ true) ⊎ (bit left j ≡ true)
 
 module _ {adj : Adjacency} {word k : ℕ} where
-  pub passed-none : {all : List ℕ} → ((a : ℕ) → has all a ≡ false) → Passed adj word k all word
+  pub passed-none : {all : List ℕ} → ((a : ℕ) → has all a ≡ false) → NeighboursPassed adj word k all word
   passed-none {all} none =
       record { some = λ a e. absurd (clash (has all a) e (none a)); within = λ j b. b; done = λ j a b e. inr b }
 
   pub passed-more :
-      {all more : List ℕ} {row : ℕ → Bool} {left j : ℕ} → Passed adj word k all left → LowestBit left j →
+      {all more : List ℕ} {row : ℕ → Bool} {left j : ℕ} → NeighboursPassed adj word k all left → LowestBit left j →
       ((a : ℕ) → row a ≡ adj (64 * k + j + 1) a) → ((a : ℕ) → has more a ≡ (has all a || row a)) →
-      Passed adj word k more (bitAnd left (left - 1))
+      NeighboursPassed adj word k more (bitAnd left (left - 1))
   passed-more {all} {more} {row} {left} {j} p low row-is more-is =
       record { some = some; within = λ i b. p .within i (kept i b); done = done }
     where
@@ -91,7 +91,7 @@ module _ {adj : Adjacency} {word k : ℕ} where
           split (inr h) (yes q) = inl (more-is a ∙ or-right (has all a) (row a) (row-is a ∙ (rw q at e)))
           split (inr h) (no q) = inr (others-stay left j i low h q)
 
-  pub passed-all : {all : List ℕ} {left : ℕ} → Passed adj word k all left → left ≡ 0 → NearWord adj word k all
+  pub passed-all : {all : List ℕ} {left : ℕ} → NeighboursPassed adj word k all left → left ≡ 0 → NearWord adj word k all
   passed-all {all} {left} p z = record { only = p .some; every = λ j a b e. finish j a (p .done j a b e) }
     where
       finish : (j a : ℕ) → (has all a ≡ true) ⊎ (bit left j ≡ true) → has all a ≡ true

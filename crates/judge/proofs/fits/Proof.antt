@@ -5,7 +5,7 @@ use mathlib.Core.Path.{_∙_}
 use native.Mathlib.Omega.{arith}
 use lib.ListN.{length}
 use Rattle.molecule.specs.Record.{bonded}
-use Rattle.molecule.proofs.Passed.{Passed, none-passed, told-fails, told-more, all-passed}
+use Rattle.graph.proofs.Passed.{Passed, none-passed, told-fails, told-more, all-passed}
 use Rattle.judge.specs.Parts.{fitsBefore}
 use Rattle.judge.proofs.Tests.{induces-is}
 use Rattle.judge.proofs.fits.Statement.{statement}

@@ -3,7 +3,7 @@
 use Prim.Native.Nat.{_-_}
 use native.Mathlib.Omega.{arith}
 use Rattle.molecule.specs.Record.{bonded}
-use Rattle.molecule.proofs.Passed.{Passed, none-passed, told-fails, told-more, all-passed}
+use Rattle.graph.proofs.Passed.{Passed, none-passed, told-fails, told-more, all-passed}
 use Rattle.judge.specs.Parts.{pairFits, fitsBefore}
 use Rattle.judge.proofs.fits_before.Statement.{statement}
 use Rattle.judge.proofs.fits_before.Tie as tie

@@ -4,7 +4,7 @@ use Prim.Native.Nat.{_-_}
 use mathlib.Core.Path.{_∙_}
 use native.Mathlib.Omega.{arith}
 use lib.ListN.{length}
-use Rattle.molecule.proofs.Passed.{Passed, none-passed, one-fails, one-more, all-passed}
+use Rattle.graph.proofs.Passed.{Passed, none-passed, one-fails, one-more, all-passed}
 use Rattle.judge.specs.Parts.{inRangeAt}
 use Rattle.judge.proofs.Tests.{in-range-is, out-low, out-high, inside}
 use Rattle.judge.proofs.in_range.Statement.{statement}

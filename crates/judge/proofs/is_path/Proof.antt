@@ -4,7 +4,7 @@ use mathlib.Core.Path.{sym, _∙_}
 use borrow.Author.Needs.{needs}
 use borrow.Author.Tests.{le-leb, lt-leb, ne-eqb}
 use Rattle.graph.specs.Chordless.{isPath}
-use Rattle.molecule.proofs.Passed.{refuted, confirmed}
+use Rattle.graph.proofs.Passed.{refuted, confirmed}
 use Rattle.judge.specs.Parts.{Atoms}
 use Rattle.judge.proofs.Tests.{Begun, path-end, path-fits}
 use Rattle.judge.proofs.is_path.Statement.{statement}

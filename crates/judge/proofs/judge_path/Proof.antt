@@ -4,7 +4,7 @@ use mathlib.Core.Path.{_≡_}
 use mathlib.Core.Bool.{true, false}
 use Rattle.molecule.specs.Record.{wellFormed, isAtom}
 use Rattle.molecule.proofs.Bonds.{rule9}
-use Rattle.molecule.proofs.Passed.{refuted, confirmed}
+use Rattle.graph.proofs.Passed.{refuted, confirmed}
 use Rattle.judge.proofs.Answers.{TwoEnds, path-no-record, path-no-start, path-no-end, path-same-ends, path-judged}
 use borrow.Author.Needs.{needs}
 use Rattle.judge.proofs.judge_path.Statement.{statement}

@@ -5,7 +5,7 @@ use mathlib.Core.Bool.{true}
 use lib.ListN.{length}
 use Rattle.graph.specs.Chordless.{induces, alongRing}
 use Rattle.molecule.specs.Record.{wellFormed, bonded}
-use Rattle.molecule.proofs.Passed.{refuted, confirmed}
+use Rattle.graph.proofs.Passed.{refuted, confirmed}
 use Rattle.judge.specs.Parts.{lowestFirst}
 use Rattle.judge.proofs.Answers.{Listed, atoms-of}
 use Rattle.judge.proofs.Answers.{ring-no-record, ring-short, ring-out, ring-chord, ring-low, ring-yes, ring-no}

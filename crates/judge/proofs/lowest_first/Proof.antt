@@ -4,7 +4,7 @@ use Prim.Native.Nat.{_-_}
 use native.Mathlib.Omega.{arith}
 use lib.ListN.{length}
 use borrow.Author.Needs.{needs}
-use Rattle.molecule.proofs.Passed.{Passed, none-passed, one-fails, one-more, all-passed}
+use Rattle.graph.proofs.Passed.{Passed, none-passed, one-fails, one-more, all-passed}
 use Rattle.judge.specs.Parts.{lowestFirst, aboveFirst}
 use Rattle.judge.proofs.Tests.{not-above, above}
 use Rattle.judge.proofs.lowest_first.Statement.{statement}

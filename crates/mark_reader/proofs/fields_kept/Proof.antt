@@ -1,15 +1,15 @@
 -- `mark_reader::fields_kept` meets its contract.
--- The invariant is `Passed`: the first i fields are number fields, and `place` is where they end.
+-- The invariant is `FieldsPassed`: the first i fields are number fields, and `place` is where they end.
 use Prim.Native.Nat.{_-_}
 use native.Mathlib.Omega.{arith}
 use mathlib.Core.Path.{_∙_}
 use borrow.Author.Tests.{not-true, not-false}
-use Rattle.mark_reader.proofs.Layouts.{Passed, told, passed-none, next-fits, passed-fails, passed-more, passed-all}
+use Rattle.mark_reader.proofs.Layouts.{FieldsPassed, told, passed-none, next-fits, passed-fails, passed-more, passed-all}
 use Rattle.mark_reader.proofs.fields_kept.Statement.{statement}
 use Rattle.mark_reader.proofs.fields_kept.Tie as tie
 
 abbrev Inv-loop : tie.InvT-loop
-Inv-loop bytes columns at k i₀ place₀ i place = Passed columns bytes at k i place
+Inv-loop bytes columns at k i₀ place₀ i place = FieldsPassed columns bytes at k i place
 
 abbrev μ-loop : tie.MeasureT-loop
 μ-loop bytes columns at k i₀ place₀ i place = k - i

@@ -6,7 +6,7 @@ use native.Mathlib.Omega.{arith}
 use borrow.Author.Needs.{needs}
 use Rattle.molecule.specs.Parts.{bitSound, byteSound}
 use Rattle.molecule.proofs.Checks.{zero-byte}
-use Rattle.molecule.proofs.Passed.{Passed, none-passed, told-fails, told-more, all-passed}
+use Rattle.graph.proofs.Passed.{Passed, none-passed, told-fails, told-more, all-passed}
 use Rattle.molecule.proofs.byte_sound.Statement.{statement}
 use Rattle.molecule.proofs.byte_sound.Tie as tie
 

@@ -3,7 +3,7 @@
 use Prim.Native.Nat.{_-_}
 use native.Mathlib.Omega.{arith}
 use Rattle.molecule.specs.Parts.{byteSound, rowsSound}
-use Rattle.molecule.proofs.Passed.{Passed, none-passed, told-fails, told-more, all-passed}
+use Rattle.graph.proofs.Passed.{Passed, none-passed, told-fails, told-more, all-passed}
 use Rattle.molecule.proofs.rows_sound.Statement.{statement}
 use Rattle.molecule.proofs.rows_sound.Tie as tie
 

@@ -5,7 +5,7 @@ use mathlib.Core.Bool.{true, false}
 use borrow.Author.Tests.{le-leb, lt-leb}
 use borrow.Author.Needs.{needs}
 use Rattle.molecule.specs.Record.{wellFormed}
-use Rattle.molecule.proofs.Passed.{refuted, confirmed}
+use Rattle.graph.proofs.Passed.{refuted, confirmed}
 use Rattle.molecule.proofs.Rules.{rule-in-range}
 use Rattle.molecule.proofs.well_formed.Statement.{statement}
 use Rattle.molecule.proofs.well_formed.Tie as tie

@@ -1,14 +1,14 @@
 -- `search_rules::is_padded` meets its contract. The loop starts at the length.
--- The invariant is `Passed`: every place passed is below the length or holds 0.
+-- The invariant is `PlacesPassed`: every place passed is below the length or holds 0.
 use Prim.Native.Nat.{_-_}
 use native.Mathlib.Omega.{arith}
 use mathlib.Core.Path.{sym}
-use Rattle.search_rules.proofs.Checks.{Passed, passed-none, passed-more, passed-other, passed-all}
+use Rattle.search_rules.proofs.Checks.{PlacesPassed, passed-none, passed-more, passed-other, passed-all}
 use Rattle.search_rules.proofs.is_padded.Statement.{statement}
 use Rattle.search_rules.proofs.is_padded.Tie as tie
 
 abbrev Inv-loop : tie.InvT-loop
-Inv-loop prefix len i₀ i = Passed prefix len i
+Inv-loop prefix len i₀ i = PlacesPassed prefix len i
 
 abbrev μ-loop : tie.MeasureT-loop
 μ-loop prefix len i₀ i = 128 - i

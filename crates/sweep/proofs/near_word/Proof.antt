@@ -4,12 +4,12 @@ use Prim.Native.Nat.{_-_}
 use native.Mathlib.Omega.{arith}
 use lib.Bits.{and-le-r}
 use Rattle.atomset.specs.Set.{linkedBy}
-use Rattle.sweep.proofs.Words.{Passed, passed-none, passed-more, passed-all}
+use Rattle.sweep.proofs.Words.{NeighboursPassed, passed-none, passed-more, passed-all}
 use Rattle.sweep.proofs.near_word.Statement.{statement}
 use Rattle.sweep.proofs.near_word.Tie as tie
 
 abbrev Inv-loop : tie.InvT-loop
-Inv-loop table word k all₀ left₀ all left = Passed (linkedBy table) word k all left
+Inv-loop table word k all₀ left₀ all left = NeighboursPassed (linkedBy table) word k all left
 
 abbrev μ-loop : tie.MeasureT-loop
 μ-loop table word k all₀ left₀ all left = left
