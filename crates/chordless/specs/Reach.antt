@@ -21,6 +21,10 @@ pub data Walk (adj : Adjacency) (allowed : ℕ → Bool) (b : ℕ) : ℕ → Typ
   there : {v : ℕ} → adj v b ≡ true → Walk adj allowed b v
   through : {v w : ℕ} → adj v w ≡ true → allowed w ≡ true → Walk adj allowed b w → Walk adj allowed b v
 
+-- from v a target is reached through allowed atoms
+abbrev pub Reaches : Adjacency → (ℕ → Bool) → (ℕ → Bool) → ℕ → Type 0
+Reaches adj allowed target v = (b : ℕ) × (target b ≡ true) × Walk adj allowed b v
+
 -- Of the atoms above low, at most n, S holds exactly for those from which a target is reached:
 -- one sweep finds S for every candidate
 abbrev pub Sweeps : ℕ → ℕ → Adjacency → (ℕ → Bool) → (ℕ → Bool) → (ℕ → Bool) → Type 0

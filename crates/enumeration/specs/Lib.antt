@@ -5,3 +5,4 @@ pub mod Lawful
 pub mod Listing
 pub mod Trials
 pub mod RunFacts
+pub mod Makes

@@ -13,12 +13,12 @@ use borrow.Author.Count.{below-more}
 use Rattle.graph.specs.Chordless.{Adjacency}
 use Rattle.graph.proofs.Below.{clash, either, and-left, and-right, and-both, not-of}
 use Rattle.enumeration.proofs.Basics.{or-either, or-left, or-right}
-use Rattle.chordless.specs.Reach.{there, through}
+use Rattle.chordless.specs.Reach.{there, through, Reaches}
 use Rattle.chordless.proofs.Shortest.{walk-within}
 use Rattle.atomset.specs.Set.{has}
 use Rattle.atomset.proofs.Members.{words-none}
 use Rattle.sweep.specs.declared.Front.{Front}
-use Rattle.sweep.specs.Swept.{Symmetric, Reaches, Swept, Stepped}
+use Rattle.sweep.specs.Swept.{Symmetric, Swept, Stepped}
 
 module _ (adj : Adjacency) (allowed target : ℕ → Bool) where
   -- the frontier, or done: the atoms bonded to w are seen

@@ -7,12 +7,12 @@ use mathlib.Core.Path.{_≡_, sym, _∙_}
 use mathlib.Core.Bool.{Bool, true}
 use mathlib.Core.List.{List}
 use Rattle.graph.specs.Chordless.{Adjacency}
-use Rattle.chordless.specs.Reach.{Walk, there, through, Sweeps}
+use Rattle.chordless.specs.Reach.{Walk, there, through, Reaches, Sweeps}
 use Rattle.molecule.specs.declared.Molecule.{Molecule}
 use Rattle.molecule.specs.Record.{bonded, wellFormed}
 use Rattle.atomset.specs.Set.{linkedBy, WordsOf}
 use Rattle.atomset.proofs.Bonds.{linked-bonded}
-use Rattle.sweep.specs.Swept.{Reaches, Swept}
+use Rattle.sweep.specs.Swept.{Swept}
 
 -- the same bonds and the same allowed atoms
 pub walk-same :

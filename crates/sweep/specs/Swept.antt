@@ -7,16 +7,12 @@ use mathlib.Core.Logic.{_↔_}
 use lib.ListN.{getD}
 use Rattle.graph.specs.Chordless.{Adjacency}
 use Rattle.molecule.specs.Record.{bit}
-use Rattle.chordless.specs.Reach.{Walk}
+use Rattle.chordless.specs.Reach.{Reaches}
 use Rattle.atomset.specs.Set.{has}
 use Rattle.sweep.specs.declared.Front.{Front}
 
 abbrev pub Symmetric : Adjacency → Type 0
 Symmetric adj = (a b : ℕ) → adj a b ≡ adj b a
-
--- from v a target is reached through allowed atoms
-abbrev pub Reaches : Adjacency → (ℕ → Bool) → (ℕ → Bool) → ℕ → Type 0
-Reaches adj allowed target v = (b : ℕ) × (target b ≡ true) × Walk adj allowed b v
 
 -- S holds exactly for those atoms
 abbrev pub Swept : Adjacency → (ℕ → Bool) → (ℕ → Bool) → (ℕ → Bool) → Type 0
