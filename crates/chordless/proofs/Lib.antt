@@ -6,3 +6,4 @@ pub mod Rings
 pub mod Paths
 pub mod Sweep
 pub mod Lawful
+pub mod Steers
