@@ -1,18 +1,28 @@
 -- What steers a search below a beginning: how the two sets are handed on, what they tell at the beginning itself, and
 -- that they steer rings from two atoms on and paths from one. From the tests by recursion on the list (`Tests`).
 use Prim.Native.Nat.{ℕ, _≤_}
-use mathlib.Core.Path.{_≡_, sym, subst, fun-ext, _∙_}
-use mathlib.Core.Bool.{Bool, true, false, _&&_}
+use mathlib.Core.Path.{_≡_, refl, sym, fun-ext, _∙_}
+use mathlib.Core.Bool.{Bool, true, false, _&&_, not}
 use mathlib.Core.List.{List, [], _∷_, _++_, append-assoc, append-nil}
-use mathlib.Core.Logic.{_↔_}
+use mathlib.Core.Logic.{_≢_, _↔_}
+use native.Mathlib.Omega.{arith}
 use native.Mathlib.Nat.{not-suc-le-zero}
 use lib.ListN.{length}
-use Rattle.graph.specs.Chordless.{Adjacency}
-use Rattle.graph.proofs.Below.{clash}
+use lib.Dec.{leb, ltb, eqb}
+use borrow.Author.Tests.{leb-true, le-leb, ltb-true, lt-ltb, eqb-true, eq-eqb, eqb-false, ne-eqb, not-true}
+use Rattle.graph.specs.Chordless.{Adjacency, isRing, isPath}
+use Rattle.graph.proofs.Below.{clash, and-parts, and-both, not-of}
 use Rattle.enumeration.specs.Words.{Family, isOpen}
 use Rattle.enumeration.specs.Lawful.{Lawful}
-use Rattle.chordless.specs.Steers.{without, Onward, Steers}
+use Rattle.chordless.specs.Families.{rings, paths}
+use Rattle.chordless.specs.Reach.{Irreflexive, Walk, there, through, clear, free, closing, touchesOnlyLast, RingOpens, PathOpens}
+use Rattle.chordless.specs.Steers.{without, along, lastAfter, Onward, Steers}
 use Rattle.chordless.proofs.Members.{Bounded, open-has, open-of}
+use Rattle.chordless.proofs.Shortest.{walk-more}
+use Rattle.chordless.proofs.Rings.{ring-opens-long}
+use Rattle.chordless.proofs.Paths.{path-opens}
+use Rattle.chordless.proofs.Sweep.{ring-member, path-member}
+use Rattle.chordless.proofs.Tests.{along-touches, along-clear, ends-along, first-along}
 
 module _ {F : Family} {adj : Adjacency} {b : List ℕ} {x : ℕ} {goal free : ℕ → Bool} (k : Steers F adj b x goal free) where
   -- ---- handed on
@@ -61,3 +71,68 @@ module _ {F : Family} (L : Lawful F) where
       goes-on a (c ∷ r) m =
           let opens = open-of F bounded y (p ++ a ∷ []) c r (rw append-assoc m) in
           rw (one v a may (steers-open k e a .0 opens .touches)) opens
+
+-- ---- rings
+
+module _ (n : ℕ) (adj : Adjacency) (s a : ℕ) where
+  -- what may close a ring that begins with s and a, and what may stand between
+  abbrev ringGoal : ℕ → Bool
+  ringGoal u = ltb a u && leb u n && adj s u
+
+  abbrev ringFree : ℕ → Bool
+  ringFree u = ltb s u && leb u n && not (adj s u)
+
+  module _ (r : List ℕ) where
+    ring-closing : (u : ℕ) → closing n adj (s ∷ a ∷ r) a u ≡ without adj (lastAfter a r) (along adj a ringGoal r) u
+    unfolding closing
+    ring-closing u = first-along adj s a (λ w. ltb a w && leb w n) r u
+
+    ring-between : (u : ℕ) → free n adj s (s ∷ a ∷ r) u ≡ without adj (lastAfter a r) (along adj a ringFree r) u
+    unfolding free
+    ring-between u = along-clear adj s (λ w. ltb s w && leb w n) (a ∷ r) u
+
+    ring-next :
+        (v : ℕ) → (ltb s v && leb v n && touchesOnlyLast adj (s ∷ a ∷ r) v) ≡
+        (along adj a ringFree r v && adj (lastAfter a r) v)
+    ring-next v = along-touches adj s (λ w. ltb s w && leb w n) (a ∷ r) v
+
+    module _ (v : ℕ) where
+      ring-onward :
+          RingOpens n adj (s ∷ a ∷ r) a v → Onward adj (lastAfter a r) (along adj a ringGoal r) (along adj a ringFree r) v
+      ring-onward o =
+          let range = and-both (ltb s v) (leb v n) (lt-ltb s v (o .above)) (le-leb v n (o .range)) in
+          let fits = and-both (ltb s v && leb v n) (touchesOnlyLast adj (s ∷ a ∷ r) v) range (o .touches) in
+          let walk = walk-more adj (λ u e. sym (ring-between u) ∙ e) (o .reached) in
+          record {
+            touches = sym (ring-next v) ∙ fits;
+            reaches = (o .last, sym (ring-closing (o .last)) ∙ o .closes, walk);
+          }
+
+      onward-ring :
+          Onward adj (lastAfter a r) (along adj a ringGoal r) (along adj a ringFree r) v → RingOpens n adj (s ∷ a ∷ r) a v
+      onward-ring o =
+          let fits = ring-next v ∙ o .touches in
+          let (range, touches) = and-parts (ltb s v && leb v n) (touchesOnlyLast adj (s ∷ a ∷ r) v) fits in
+          let (above, most) = and-parts (ltb s v) (leb v n) range in
+          let (b, closes, walk) = o .reaches in
+          record {
+            above = ltb-true s v above;
+            range = leb-true v n most;
+            touches = touches;
+            last = b;
+            closes = ring-closing b ∙ closes;
+            reached = walk-more adj (λ u e. ring-between u ∙ e) walk;
+          }
+
+-- from the first two atoms of a ring on
+pub rings-steer :
+    (n : ℕ) (adj : Adjacency) → Irreflexive n adj → (s a : ℕ) →
+    Steers (rings n adj) adj (s ∷ a ∷ []) a
+    (λ b. ltb a b && leb b n && adj s b) (λ u. ltb s u && leb u n && not (adj s u))
+rings-steer n adj irr s a = record {
+  members = λ r e v.
+      ring-member n adj (s ∷ a ∷ r) v (omega arith) e ∙ ends-along adj s a (λ w. ltb a w && leb w n) r v;
+  opens = λ r e v.
+      let (to, back) = ring-opens-long n adj irr (s ∷ a ∷ r) v (omega arith) e in
+      (λ f. ring-onward n adj s a r v (to f), λ o. back (onward-ring n adj s a r v o));
+}
