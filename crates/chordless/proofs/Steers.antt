@@ -10,8 +10,9 @@ use native.Mathlib.Nat.{not-suc-le-zero}
 use lib.ListN.{length}
 use lib.Dec.{leb, ltb, eqb}
 use borrow.Author.Tests.{leb-true, le-leb, ltb-true, lt-ltb, eqb-true, eq-eqb, eqb-false, ne-eqb, not-true}
-use Rattle.graph.specs.Chordless.{Adjacency, isRing, isPath}
+use Rattle.graph.specs.Chordless.{Adjacency}
 use Rattle.graph.proofs.Below.{clash, and-parts, and-both, not-of}
+use Rattle.graph.proofs.All.{all-head}
 use Rattle.enumeration.specs.Words.{Family, isOpen}
 use Rattle.enumeration.specs.Lawful.{Lawful}
 use Rattle.chordless.specs.Families.{rings, paths}
@@ -22,9 +23,11 @@ use Rattle.chordless.proofs.Shortest.{walk-more}
 use Rattle.chordless.proofs.Rings.{ring-opens-long}
 use Rattle.chordless.proofs.Paths.{path-opens}
 use Rattle.chordless.proofs.Sweep.{ring-member, path-member}
+use Rattle.chordless.proofs.Touch.{clear-facts, clear-of, free-facts, free-of}
 use Rattle.chordless.proofs.Tests.{along-touches, along-clear, ends-along, first-along}
 
-module _ {F : Family} {adj : Adjacency} {b : List ℕ} {x : ℕ} {goal free : ℕ → Bool} (k : Steers F adj b x goal free) where
+module _ {F : Family} {adj : Adjacency} {b : List ℕ} {x : ℕ} {goal free : ℕ → Bool}
+    (k : Steers F adj b x goal free) where
   -- ---- handed on
 
   -- v is added
@@ -75,14 +78,16 @@ module _ {F : Family} (L : Lawful F) where
 -- ---- rings
 
 module _ (n : ℕ) (adj : Adjacency) (s a : ℕ) where
-  -- what may close a ring that begins with s and a, and what may stand between
+  -- what may close a ring that begins with s and a
   abbrev ringGoal : ℕ → Bool
   ringGoal u = ltb a u && leb u n && adj s u
 
+  -- what may stand between
   abbrev ringFree : ℕ → Bool
   ringFree u = ltb s u && leb u n && not (adj s u)
 
   module _ (r : List ℕ) where
+    -- the sets after the atoms r, against the tests of `Reach`
     ring-closing : (u : ℕ) → closing n adj (s ∷ a ∷ r) a u ≡ without adj (lastAfter a r) (along adj a ringGoal r) u
     unfolding closing
     ring-closing u = first-along adj s a (λ w. ltb a w && leb w n) r u
@@ -96,9 +101,11 @@ module _ (n : ℕ) (adj : Adjacency) (s a : ℕ) where
         (along adj a ringFree r v && adj (lastAfter a r) v)
     ring-next v = along-touches adj s (λ w. ltb s w && leb w n) (a ∷ r) v
 
+    -- v opens the beginning as they tell, both ways
     module _ (v : ℕ) where
       ring-onward :
-          RingOpens n adj (s ∷ a ∷ r) a v → Onward adj (lastAfter a r) (along adj a ringGoal r) (along adj a ringFree r) v
+          RingOpens n adj (s ∷ a ∷ r) a v →
+          Onward adj (lastAfter a r) (along adj a ringGoal r) (along adj a ringFree r) v
       ring-onward o =
           let range = and-both (ltb s v) (leb v n) (lt-ltb s v (o .above)) (le-leb v n (o .range)) in
           let fits = and-both (ltb s v && leb v n) (touchesOnlyLast adj (s ∷ a ∷ r) v) range (o .touches) in
@@ -109,7 +116,8 @@ module _ (n : ℕ) (adj : Adjacency) (s a : ℕ) where
           }
 
       onward-ring :
-          Onward adj (lastAfter a r) (along adj a ringGoal r) (along adj a ringFree r) v → RingOpens n adj (s ∷ a ∷ r) a v
+          Onward adj (lastAfter a r) (along adj a ringGoal r) (along adj a ringFree r) v →
+          RingOpens n adj (s ∷ a ∷ r) a v
       onward-ring o =
           let fits = ring-next v ∙ o .touches in
           let (range, touches) = and-parts (ltb s v && leb v n) (touchesOnlyLast adj (s ∷ a ∷ r) v) fits in
@@ -135,4 +143,109 @@ rings-steer n adj irr s a = record {
   opens = λ r e v.
       let (to, back) = ring-opens-long n adj irr (s ∷ a ∷ r) v (omega arith) e in
       (λ f. ring-onward n adj s a r v (to f), λ o. back (onward-ring n adj s a r v o));
+}
+
+-- ---- paths
+
+-- four tests at once, and each of them
+all4 : (a b c d : Bool) → a ≡ true → b ≡ true → c ≡ true → d ≡ true → a && b && c && d ≡ true
+all4 a b c d p q r e = and-both (a && b && c) d (and-both (a && b) c (and-both a b p q) r) e
+
+and4 : (a b c d : Bool) → a && b && c && d ≡ true → (a ≡ true) × (b ≡ true) × (c ≡ true) × (d ≡ true)
+and4 a b c d e =
+    let (abc, is-d) = and-parts (a && b && c) d e in
+    let (ab, is-c) = and-parts (a && b) c abc in
+    let (is-a, is-b) = and-parts a b ab in
+    (is-a, is-b, is-c, is-d)
+
+module _ (n : ℕ) (adj : Adjacency) (s t : ℕ) where
+  -- what closes a path from s to t
+  abbrev pathGoal : ℕ → Bool
+  pathGoal u = eqb u t
+
+  -- what may stand between
+  abbrev pathFree : ℕ → Bool
+  pathFree u = leb 1 u && leb u n && not (eqb u s)
+
+  module _ (r : List ℕ) where
+    -- what stands between is free, and is not s
+    free-between :
+        (u : ℕ) → u ≢ s → free n adj 0 (s ∷ r) u ≡ true →
+        without adj (lastAfter s r) (along adj s pathFree r) u ≡ true
+    free-between u differ e =
+        let (least, range, off) = free-facts adj n 0 (s ∷ r) u e in
+        let other = not-of (eqb u s) (ne-eqb u s differ) in
+        sym (along-clear adj s pathFree r u) ∙
+        all4 (leb 1 u) (leb u n) (not (eqb u s)) (clear adj (s ∷ r) u) (le-leb 1 u least) (le-leb u n range) other
+        (clear-of adj (s ∷ r) u off)
+
+    between-free :
+        (u : ℕ) → without adj (lastAfter s r) (along adj s pathFree r) u ≡ true → free n adj 0 (s ∷ r) u ≡ true
+    between-free u e =
+        let tests = along-clear adj s pathFree r u ∙ e in
+        let (least, range, other, off) = and4 (leb 1 u) (leb u n) (not (eqb u s)) (clear adj (s ∷ r) u) tests in
+        free-of adj n 0 (s ∷ r) u (leb-true 1 u least) (leb-true u n range) (clear-facts adj (s ∷ r) u off)
+
+    -- t is still ahead: a walk to it does not come back to s
+    module _ (ahead : clear adj (s ∷ r) t ≡ true) where
+      -- s is bonded to no free atom, nor to t: no walk goes on from it
+      not-first : {v : ℕ} → Walk adj (free n adj 0 (s ∷ r)) t v → v ≢ s
+      not-first (there {v} e) is-s = clash (adj s t) (rw is-s at e) (all-head (clear-facts adj (s ∷ r) t ahead))
+      not-first (through {v} {w} e may k) is-s =
+          let (least, range, off) = free-facts adj n 0 (s ∷ r) w may in
+          clash (adj s w) (rw is-s at e) (all-head off)
+
+      walk-between :
+          {v : ℕ} → Walk adj (free n adj 0 (s ∷ r)) t v →
+          Walk adj (without adj (lastAfter s r) (along adj s pathFree r)) t v
+      walk-between (there e) = there e
+      walk-between (through {v} {w} e may k) = through e (free-between w (not-first k) may) (walk-between k)
+
+    -- v opens the beginning as the sets tell, both ways
+    module _ (v : ℕ) where
+      path-onward :
+          PathOpens n adj t (s ∷ r) v →
+          Onward adj (lastAfter s r) (along adj s pathGoal r) (along adj s pathFree r) v
+      path-onward o =
+          let differ : s ≢ v = o .other in
+          let other = not-of (eqb v s) (ne-eqb v s (λ e. differ (sym e))) in
+          let touches = touchesOnlyLast adj (s ∷ r) v in
+          let fits =
+          all4 (leb 1 v) (leb v n) (not (eqb v s)) touches (le-leb 1 v (o .least)) (le-leb v n (o .range)) other
+          (o .touches) in
+          let goal = and-both (eqb t t) (clear adj (s ∷ r) t) (eq-eqb t t refl) (o .ahead) in
+          record {
+            touches = sym (along-touches adj s pathFree r v) ∙ fits;
+            reaches = (t, sym (along-clear adj s pathGoal r t) ∙ goal, walk-between (o .ahead) (o .reached));
+          }
+
+      onward-path :
+          Onward adj (lastAfter s r) (along adj s pathGoal r) (along adj s pathFree r) v →
+          PathOpens n adj t (s ∷ r) v
+      onward-path o =
+          let fits = along-touches adj s pathFree r v ∙ o .touches in
+          let (least, range, other, touches) =
+          and4 (leb 1 v) (leb v n) (not (eqb v s)) (touchesOnlyLast adj (s ∷ r) v) fits in
+          let (b, goal, walk) = o .reaches in
+          let (is-t, ahead) = and-parts (eqb b t) (clear adj (s ∷ r) b) (along-clear adj s pathGoal r b ∙ goal) in
+          let differ = eqb-false v s (not-true (eqb v s) other) in
+          record {
+            least = leb-true 1 v least;
+            range = leb-true v n range;
+            other = λ e. differ (sym e);
+            touches = touches;
+            ahead = rw (eqb-true b t is-t) at ahead;
+            reached = rw (eqb-true b t is-t) at (walk-more adj between-free walk);
+          }
+
+-- from the first atom of a path on
+pub paths-steer :
+    (n : ℕ) (adj : Adjacency) → Irreflexive n adj → (s t : ℕ) →
+    Steers (paths n adj s t) adj (s ∷ []) s (λ b. eqb b t) (λ u. leb 1 u && leb u n && not (eqb u s))
+paths-steer n adj irr s t = record {
+  members = λ r e v.
+      path-member n adj s t (s ∷ r) v (omega arith) e ∙ along-touches adj s (λ b. eqb b t) r v;
+  opens = λ r e v.
+      let (to, back) = path-opens n adj s t irr (s ∷ r) v (omega arith) e in
+      (λ f. path-onward n adj s t r v (to f), λ o. back (onward-path n adj s t r v o));
 }

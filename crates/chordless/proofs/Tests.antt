@@ -1,4 +1,4 @@
--- The tests of `Reach` on a beginning, first atom by first atom, and what they leave of a set of atoms that is handed on.
+-- The tests of `Reach` on a beginning, atom by atom, and what they leave of a set of atoms that is handed on.
 -- The facts of `Touch` turned back into equations; then by recursion on the atoms added.
 use Prim.Native.Nat.{ℕ}
 use mathlib.Core.Path.{_≡_}
