@@ -55,6 +55,7 @@ steers-same goals frees k = rw (fun-ext goals, fun-ext frees) at k
 -- ---- the sole candidate
 
 module _ {F : Family} (L : Lawful F) where
+  -- members have at most n atoms, all from 1 to n
   bounded : Bounded F
   bounded w m = (L .short w m, L .inRange w m)
 
@@ -210,9 +211,9 @@ module _ (n : ℕ) (adj : Adjacency) (s t : ℕ) where
           let differ : s ≢ v = o .other in
           let other = not-of (eqb v s) (ne-eqb v s (λ e. differ (sym e))) in
           let touches = touchesOnlyLast adj (s ∷ r) v in
-          let fits =
-          all4 (leb 1 v) (leb v n) (not (eqb v s)) touches (le-leb 1 v (o .least)) (le-leb v n (o .range)) other
-          (o .touches) in
+          let least = le-leb 1 v (o .least) in
+          let range = le-leb v n (o .range) in
+          let fits = all4 (leb 1 v) (leb v n) (not (eqb v s)) touches least range other (o .touches) in
           let goal = and-both (eqb t t) (clear adj (s ∷ r) t) (eq-eqb t t refl) (o .ahead) in
           record {
             touches = sym (along-touches adj s pathFree r v) ∙ fits;
@@ -224,8 +225,8 @@ module _ (n : ℕ) (adj : Adjacency) (s t : ℕ) where
           PathOpens n adj t (s ∷ r) v
       onward-path o =
           let fits = along-touches adj s pathFree r v ∙ o .touches in
-          let (least, range, other, touches) =
-          and4 (leb 1 v) (leb v n) (not (eqb v s)) (touchesOnlyLast adj (s ∷ r) v) fits in
+          let touch = touchesOnlyLast adj (s ∷ r) v in
+          let (least, range, other, touches) = and4 (leb 1 v) (leb v n) (not (eqb v s)) touch fits in
           let (b, goal, walk) = o .reaches in
           let (is-t, ahead) = and-parts (eqb b t) (clear adj (s ∷ r) b) (along-clear adj s pathGoal r b ∙ goal) in
           let differ = eqb-false v s (not-true (eqb v s) other) in
