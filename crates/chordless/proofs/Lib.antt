@@ -6,3 +6,5 @@ pub mod Rings
 pub mod Paths
 pub mod Sweep
 pub mod Lawful
+pub mod Tests
+pub mod Steers
