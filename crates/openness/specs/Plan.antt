@@ -5,13 +5,17 @@ use mathlib.Core.Bool.{true, cond}
 use mathlib.Core.List.{List, [], _∷_, _++_}
 use lib.ListN.{length, take}
 use lib.Dec.{eqb}
+use Rattle.graph.specs.Chordless.{Adjacency}
 use Rattle.enumeration.specs.Words.{Family, isOpen}
+use Rattle.enumeration.specs.Lawful.{Lawful}
 use Rattle.chordless.specs.Families.{rings, paths}
 use Rattle.chordless.specs.Reach.{Irreflexive}
+use Rattle.chordless.specs.Steers.{without, Steers}
 use Rattle.atomset.specs.Set.{has, linkedBy}
 use Rattle.sweep.specs.Swept.{Symmetric}
 use Rattle.search.specs.Place.{kindKept}
 use Rattle.openness.specs.declared.Plan.{Plan}
+use Rattle.openness.specs.declared.Aim.{Aim}
 
 -- The family of a kind over a word table
 unfoldable pub familyBy : ℕ → List ℕ → ℕ → ℕ → ℕ → Family
@@ -28,10 +32,14 @@ pub record Tells (F : Family) (p : List ℕ) (plan : Plan) (v : ℕ) : Type 0 wh
   pub members : has (plan .members) v ≡ F .member (p ++ v ∷ [])
   pub opens : has (plan .opens) v ≡ isOpen F (p ++ v ∷ [])
 
--- They tell it of the next atom c, and of every atom where p has two atoms or more
+-- They tell it of every atom
+abbrev pub Everywhere : Family → List ℕ → Plan → Type 0
+Everywhere F p plan = (v : ℕ) → Tells F p plan v
+
+-- They tell it of the next atom c, and of every atom where p has an atom or more
 pub record Planned (F : Family) (p : List ℕ) (c : ℕ) (plan : Plan) : Type 0 where
   pub next : Tells F p plan c
-  pub every : 2 ≤ length p → (v : ℕ) → Tells F p plan v
+  pub every : 1 ≤ length p → Everywhere F p plan
 
 -- an open beginning of a search in its array
 pub record Beginning (n : ℕ) (table : List ℕ) (kind s t : ℕ) (prefix : List ℕ) (len : ℕ) : Type 0 where
@@ -40,3 +48,19 @@ pub record Beginning (n : ℕ) (table : List ℕ) (kind s t : ℕ) (prefix : Lis
   pub size : length prefix ≡ 128
   pub short : len ≤ 127
   pub isOpened : isOpen (familyBy n table kind s t) (take len prefix) ≡ true
+
+-- the length of the shortest beginnings that two sets steer, by the kind
+abbrev pub firstLength : ℕ → ℕ
+firstLength kind = cond (eqb kind 0) 2 1
+
+-- the sets handed on past the last atom x
+pub record HandedOn (adj : Adjacency) (x : ℕ) (aim next : Aim) : Type 0 where
+  pub goal-left : (u : ℕ) → has (next .goal) u ≡ without adj x (has (aim .goal)) u
+  pub free-left : (u : ℕ) → has (next .free) u ≡ without adj x (has (aim .free)) u
+
+-- an open beginning p, with the last atom x, that the sets steer
+pub record Steered (F : Family) (adj : Adjacency) (p : List ℕ) (x : ℕ) (aim : Aim) : Type 0 where
+  pub lawful : Lawful F
+  pub some : 1 ≤ length p
+  pub isOpened : isOpen F p ≡ true
+  pub steers : Steers F adj p x (has (aim .goal)) (has (aim .free))

@@ -1,17 +1,19 @@
-// Members and open beginnings by sets of atoms (lemma 2 of document 003).
+// Members and open beginnings by sets of atoms (lemma 2 of document 003). Two sets steer a search below a beginning, and
+// are handed on to each longer one; a kind of search supplies the first two.
 use widen::u8_usize;
-ghost use Prim.Native.Nat.{suc, _≤_};
+ghost use Prim.Native.Nat.{ℕ, suc, _≤_, _-_};
 ghost use mathlib.Core.Path.{_≡_};
 ghost use mathlib.Core.Bool.{true};
-ghost use mathlib.Core.List.{[], _∷_};
-ghost use lib.ListN.{length, take};
-ghost use Rattle.enumeration.specs.Words.{isOpen};
+ghost use mathlib.Core.List.{List, [], _∷_, _++_};
+ghost use lib.ListN.{length, take, getD};
+ghost use Rattle.enumeration.specs.Words.{Family, isOpen};
 ghost use Rattle.chordless.specs.Families.{rings, paths};
-ghost use Rattle.atomset.specs.Set.{linkedBy};
+ghost use Rattle.chordless.specs.Steers.{Steers};
+ghost use Rattle.atomset.specs.Set.{has, linkedBy};
+ghost use Rattle.sweep.specs.Swept.{Symmetric};
 ghost use Rattle.search.specs.Place.{kindKept};
-ghost use Rattle.openness.specs.Plan.{familyBy, Words, Planned, Beginning};
-ghost use Rattle.openness.specs.Parts.{Near, Everywhere, Alone};
-ghost use Rattle.openness.specs.Parts.{Places, RingBegun, PathBegun, TwoAtoms, OneAtom, TwoEnds};
+ghost use Rattle.openness.specs.Plan.{familyBy, Words, Planned, Beginning, Everywhere, Steered, HandedOn, firstLength};
+ghost use Rattle.openness.specs.Parts.{Alone, OneAtom, TwoAtoms, TwoEnds, Stepping, Seconds};
 
 // The atoms that make a member of a beginning, and those that open it.
 pub struct Plan {
@@ -19,52 +21,176 @@ pub struct Plan {
     pub opens: [u64; 2],
 }
 
-// The atoms bonded to an atom of the prefix at a place from `low` on, below `high`.
-fn near(table: &[u64; 256], prefix: &[u8; 128], low: usize, high: usize) -> [u64; 2]
-    requires { ⌜ Places (now prefix) low high ⌝ }
-    ensures { λ r. ⌜ Near (linkedBy (now (table .entry))) (now (prefix .entry)) low high r ⌝ }
-{
-    let mut all = atomset::empty();
-    let mut i = low;
-    while i < high {
-        let a = u8_usize(prefix[i]);
-        let row = atomset::row(table, a);
-        let more = atomset::union(all, row);
-        all = more;
-        i += 1;
-    }
-    all
+// The two sets that steer a search below a beginning, but for what is bonded to its last atom: the atoms that may close a
+// member, and those that may stand between.
+pub struct Aim {
+    pub goal: [u64; 2],
+    pub free: [u64; 2],
 }
 
-// A ring beginning of two atoms or more: the closing atoms are the targets of the sweep,
-// and no free atom is bonded to the beginning.
-fn ring_plan(table: &[u64; 256], n: usize, prefix: &[u8; 128], len: usize) -> Plan
-    requires { ⌜ RingBegun n (now table) (now prefix) len ⌝ }
-    ensures { λ r. ⌜ Everywhere (rings n (linkedBy (now (table .entry)))) (take len (now (prefix .entry))) r ⌝ }
+// The length of the shortest beginnings that two sets steer: of rings 2, of paths 1.
+pub fn first_length(kind: usize) -> usize
+    ensures { λ r. ⌜ r ≡ firstLength kind ⌝ }
 {
-    let s = u8_usize(prefix[0]);
-    let a = u8_usize(prefix[1]);
-    let x = u8_usize(prefix[len - 1]);
-    let first = atomset::row(table, s);
-    let inner = near(table, prefix, 1, len - 1);
-    let last = atomset::row(table, x);
-    let low = atomset::range(s, n);
+    if kind == 0 {
+        return 2;
+    }
+    1
+}
+
+// The sets handed on past the last atom x: less the atoms bonded to it.
+pub fn aim_after(table: &[u64; 256], aim: Aim, x: usize) -> Aim
+    requires { ⌜ (1 ≤ x) × (x ≤ 128) ⌝ }
+    ensures { λ r. ⌜ HandedOn (linkedBy (now (table .entry))) x aim r ⌝ }
+{
+    let row = atomset::row(table, x);
+    let goal = aim.goal;
+    let free = aim.free;
+    let goal_left = atomset::minus(goal, row);
+    let free_left = atomset::minus(free, row);
+    Aim {
+        goal: goal_left,
+        free: free_left,
+    }
+}
+
+// The first sets of a ring that begins with s and a: above a and bonded to s; above s and not bonded to it.
+fn ring_aim(table: &[u64; 256], n: usize, s: usize, a: usize) -> Aim
+    requires { ⌜ TwoAtoms n (now table) s a ⌝ }
+    ensures { λ r. ⌜
+        Steers (rings n (linkedBy (now (table .entry)))) (linkedBy (now (table .entry))) (s ∷ a ∷ []) a
+        (has (r .goal)) (has (r .free)) ⌝ }
+{
+    let row = atomset::row(table, s);
     let above = atomset::range(a, n);
-    let from_first = atomset::minus(first, inner);
-    let from_both = atomset::intersection(from_first, last);
-    let members = atomset::intersection(above, from_both);
-    let only_first = atomset::minus(from_first, last);
-    let targets = atomset::intersection(above, only_first);
-    let not_first = atomset::minus(low, first);
-    let not_inner = atomset::minus(not_first, inner);
-    let free = atomset::minus(not_inner, last);
-    let swept = sweep::sweep(table, free, targets);
-    let from_last = atomset::intersection(not_inner, last);
-    let opens = atomset::intersection(from_last, swept);
+    let low = atomset::range(s, n);
+    let goal = atomset::intersection(above, row);
+    let free = atomset::minus(low, row);
+    Aim {
+        goal: goal,
+        free: free,
+    }
+}
+
+// The first sets of a path from s to t: t; every atom but s.
+fn path_aim(table: &[u64; 256], n: usize, s: usize, t: usize) -> Aim
+    requires { ⌜ TwoEnds n (now table) s t ⌝ }
+    ensures { λ r. ⌜
+        Steers (paths n (linkedBy (now (table .entry))) s t) (linkedBy (now (table .entry))) (s ∷ []) s
+        (has (r .goal)) (has (r .free)) ⌝ }
+{
+    let goal = atomset::single(t);
+    let all = atomset::up_to(n);
+    let free = atomset::without_atom(all, s);
+    Aim {
+        goal: goal,
+        free: free,
+    }
+}
+
+// The first sets of a beginning, by its kind.
+fn first_aim(
+    table: &[u64; 256],
+    n: usize,
+    kind: usize,
+    s: usize,
+    t: usize,
+    prefix: &[u8; 128],
+) -> Aim
+    requires { ⌜ Beginning n (now table) kind s t (now prefix) (firstLength kind) ⌝ }
+    ensures { λ r. ⌜
+        Steered (familyBy n (now (table .entry)) kind s t) (linkedBy (now (table .entry)))
+        (take (firstLength kind) (now (prefix .entry))) (getD (now (prefix .entry)) (firstLength kind - 1) 0) r ⌝ }
+{
+    if kind != 0 {
+        return path_aim(table, n, s, t);
+    }
+    ring_aim(table, n, u8_usize(prefix[0]), u8_usize(prefix[1]))
+}
+
+// The sets of an open beginning, handed on from the first ones.
+pub fn aim_at(
+    table: &[u64; 256],
+    n: usize,
+    kind: usize,
+    s: usize,
+    t: usize,
+    prefix: &[u8; 128],
+    len: usize,
+) -> Aim
+    requires { ⌜ Beginning n (now table) kind s t (now prefix) len × (firstLength kind ≤ len) ⌝ }
+    ensures { λ r. ⌜
+        Steered (familyBy n (now (table .entry)) kind s t) (linkedBy (now (table .entry)))
+        (take len (now (prefix .entry))) (getD (now (prefix .entry)) (len - 1) 0) r ⌝ }
+{
+    let mut aim = first_aim(table, n, kind, s, t, prefix);
+    let mut i = first_length(kind);
+    while i < len {
+        let next = aim_after(table, aim, u8_usize(prefix[i - 1]));
+        aim = next;
+        i += 1;
+    }
+    aim
+}
+
+// Of the candidates `want` at an open beginning with these members, those that open it. Where it has no member, a sole
+// candidate opens it, in every family; otherwise one sweep tells.
+fn opening(table: &[u64; 256], next: Aim, members: [u64; 2], want: [u64; 2]) -> [u64; 2]
+    requires { ⌜ Symmetric (linkedBy (now table)) ⌝ }
+    ensures { λ r. ⌜
+        ((F : Family) (p : List ℕ) (x : ℕ) (aim : Aim) →
+        Stepping F (linkedBy (now (table .entry))) p x aim next members want →
+        (v : ℕ) → has r v ≡ isOpen F (p ++ v ∷ [])) ⌝ }
+{
+    let goal = next.goal;
+    if atomset::is_empty(goal) {
+        return goal;
+    }
+    if atomset::is_empty(members) {
+        if atomset::at_most_one(want) {
+            return want;
+        }
+    }
+    let free = next.free;
+    sweep::reached(table, free, goal, want)
+}
+
+// The plan of an open beginning that the sets steer, with the last atom x; `next` are the sets handed on.
+pub fn plan_by(table: &[u64; 256], aim: Aim, next: Aim, x: usize) -> Plan
+    requires { ⌜
+        Symmetric (linkedBy (now table)) × HandedOn (linkedBy (now table)) x aim next × (1 ≤ x) × (x ≤ 128) ⌝ }
+    ensures { λ r. ⌜
+        ((F : Family) (p : List ℕ) → Steered F (linkedBy (now (table .entry))) p x aim → Everywhere F p r) ⌝ }
+{
+    let row = atomset::row(table, x);
+    let goal = aim.goal;
+    let free = aim.free;
+    let members = atomset::intersection(goal, row);
+    let want = atomset::intersection(free, row);
+    let opens = opening(table, next, members, want);
     Plan {
         members: members,
         opens: opens,
     }
+}
+
+// The plan of an open beginning that is long enough for its two sets.
+fn steered_plan(
+    table: &[u64; 256],
+    n: usize,
+    kind: usize,
+    s: usize,
+    t: usize,
+    prefix: &[u8; 128],
+    len: usize,
+) -> Plan
+    requires { ⌜ Beginning n (now table) kind s t (now prefix) len × (firstLength kind ≤ len) ⌝ }
+    ensures { λ r. ⌜ Everywhere (familyBy n (now (table .entry)) kind s t) (take len (now (prefix .entry))) r ⌝ }
+{
+    let aim = aim_at(table, n, kind, s, t, prefix, len);
+    let x = u8_usize(prefix[len - 1]);
+    let next = aim_after(table, aim, x);
+    plan_by(table, aim, next, x)
 }
 
 // Whether the ring beginning s, v is open.
@@ -83,8 +209,19 @@ fn pair_opens(table: &[u64; 256], n: usize, s: usize, v: usize) -> bool
     let low = atomset::range(s, n);
     let targets = atomset::intersection(above, first);
     let free = atomset::minus(low, first);
-    let swept = sweep::sweep(table, free, targets);
+    let alone = atomset::single(v);
+    let swept = sweep::reached(table, free, targets, alone);
     atomset::contains(swept, v)
+}
+
+// The atoms above s that are bonded to it: those that may come second in a ring.
+fn seconds(table: &[u64; 256], n: usize, s: usize) -> [u64; 2]
+    requires { ⌜ OneAtom n (now table) s ⌝ }
+    ensures { λ r. ⌜ Seconds n (now (table .entry)) s r ⌝ }
+{
+    let row = atomset::row(table, s);
+    let above = atomset::range(s, n);
+    atomset::intersection(above, row)
 }
 
 // Whether some ring begins with c.
@@ -92,52 +229,34 @@ fn ring_starts(table: &[u64; 256], n: usize, c: usize) -> bool
     requires { ⌜ OneAtom n (now table) c ⌝ }
     ensures { λ r. ⌜ r ≡ isOpen (rings n (linkedBy (now (table .entry)))) (c ∷ []) ⌝ }
 {
-    let mut a = c + 1;
-    while a <= n {
-        if pair_opens(table, n, c, a) {
+    let mut left = seconds(table, n, c);
+    while !atomset::is_empty(left) {
+        if pair_opens(table, n, c, atomset::lowest(left)) {
             return true;
         }
-        a += 1;
+        let rest = atomset::without_lowest(left);
+        left = rest;
     }
     false
 }
 
-// A path beginning that is not empty: no free atom is bonded to it, and t is the target of the sweep.
-fn path_plan(
-    table: &[u64; 256],
-    n: usize,
-    s: usize,
-    t: usize,
-    prefix: &[u8; 128],
-    len: usize,
-) -> Plan
-    requires { ⌜ PathBegun n (now table) s t (now prefix) len ⌝ }
-    ensures { λ r. ⌜ Everywhere (paths n (linkedBy (now (table .entry))) s t) (take len (now (prefix .entry))) r ⌝ }
+// The atoms that open the ring beginning s.
+fn second_atoms(table: &[u64; 256], n: usize, s: usize) -> [u64; 2]
+    requires { ⌜ OneAtom n (now table) s ⌝ }
+    ensures { λ r. ⌜ ((v : ℕ) → has r v ≡ isOpen (rings n (linkedBy (now (table .entry)))) (s ∷ v ∷ [])) ⌝ }
 {
-    let x = u8_usize(prefix[len - 1]);
-    let last = atomset::row(table, x);
-    let others = near(table, prefix, 0, len - 1);
-    let goal = atomset::single(t);
-    let from_last = atomset::minus(last, others);
-    let members = atomset::intersection(goal, from_last);
-    let met = atomset::union(others, last);
-    if atomset::contains(met, t) {
-        let none = atomset::empty();
-        return Plan {
-            members: members,
-            opens: none,
-        };
+    let mut left = seconds(table, n, s);
+    let mut found = left;
+    while !atomset::is_empty(left) {
+        let v = atomset::lowest(left);
+        if !pair_opens(table, n, s, v) {
+            let fewer = atomset::without_atom(found, v);
+            found = fewer;
+        }
+        let rest = atomset::without_lowest(left);
+        left = rest;
     }
-    let all = atomset::up_to(n);
-    let free = atomset::minus(all, met);
-    let swept = sweep::sweep(table, free, goal);
-    let not_first = atomset::without_atom(all, s);
-    let touching = atomset::intersection(not_first, from_last);
-    let opens = atomset::intersection(touching, swept);
-    Plan {
-        members: members,
-        opens: opens,
-    }
+    found
 }
 
 // Whether some path from s to t begins with c.
@@ -150,7 +269,8 @@ fn path_starts(table: &[u64; 256], n: usize, s: usize, t: usize, c: usize) -> bo
     }
     let all = atomset::up_to(n);
     let goal = atomset::single(t);
-    let swept = sweep::sweep(table, all, goal);
+    let alone = atomset::single(s);
+    let swept = sweep::reached(table, all, goal, alone);
     atomset::contains(swept, s)
 }
 
@@ -173,8 +293,8 @@ fn alone(opening: bool, c: usize) -> Plan
     }
 }
 
-// What a trial finds at an open beginning: of the next atom c, and of every atom where the beginning has two atoms
-// or more.
+// What a trial finds at an open beginning: of the next atom c, and of every atom where the beginning has an atom or
+// more.
 pub fn plan_at(
     table: &[u64; 256],
     n: usize,
@@ -188,19 +308,21 @@ pub fn plan_at(
     requires { ⌜ Beginning n (now table) kind s t (now prefix) len × (1 ≤ c) × (c ≤ n) ⌝ }
     ensures { λ r. ⌜ Planned (familyBy n (now (table .entry)) kind s t) (take len (now (prefix .entry))) c r ⌝ }
 {
+    if first_length(kind) <= len {
+        return steered_plan(table, n, kind, s, t, prefix, len);
+    }
     if kind != 0 {
-        if len == 0 {
-            return alone(path_starts(table, n, s, t, c), c);
-        }
-        return path_plan(table, n, s, t, prefix, len);
+        return alone(path_starts(table, n, s, t, c), c);
     }
     if len == 0 {
         return alone(ring_starts(table, n, c), c);
     }
-    if len == 1 {
-        return alone(pair_opens(table, n, u8_usize(prefix[0]), c), c);
+    let none = atomset::empty();
+    let opens = second_atoms(table, n, u8_usize(prefix[0]));
+    Plan {
+        members: none,
+        opens: opens,
     }
-    ring_plan(table, n, prefix, len)
 }
 
 // Whether the atom at place i opens the beginning before it.
