@@ -8,4 +8,5 @@ pub mod Marks
 pub mod Counts
 pub mod Progress
 pub mod Running
+pub mod Makes
 pub mod Theorems

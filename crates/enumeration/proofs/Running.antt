@@ -8,7 +8,7 @@ use mathlib.Core.Bool.{Bool, true, false, _||_, cond}
 use mathlib.Core.List.{List, [], _∷_, _++_, append-assoc, append-nil}
 use lib.ListN.{length, length-append}
 use lib.Dec.{ltb, eqb}
-use borrow.Author.Tests.{ltb-true, ltb-false, eqb-false}
+use borrow.Author.Tests.{lt-ltb, le-ltb, ltb-true, ltb-false, eqb-false}
 use Rattle.enumeration.specs.declared.Stop.{Stop}
 use Rattle.enumeration.specs.declared.Stop.the-variants.{Done, Limit, Spent, Full}
 use Rattle.enumeration.specs.Words.{Family, isOpen}
@@ -26,6 +26,37 @@ pub records-append : (xs ys : List (List ℕ)) → records (xs ++ ys) ≡ record
 unfolding records
 records-append [] ys = refl
 records-append (x ∷ xs) ys = rw (records-append xs ys) (sym (append-assoc (recordOf x) (records xs) (records ys)))
+
+-- ---- one step of the definition
+
+module _ (F : Family) (room : ℕ) (st : State) where
+  pub run-done : (budget : ℕ) → isDone (F .atoms) st ≡ true → run F budget room st ≡ stopped st Done
+  unfolding run
+  run-done zero d = rw d
+  run-done (suc budget) d = rw d
+
+  module _ (d : isDone (F .atoms) st ≡ false) where
+    pub run-limit : (budget : ℕ) → atLimit st ≡ true → run F budget room st ≡ stopped st Limit
+    unfolding run
+    run-limit zero l = rw (d, l)
+    run-limit (suc budget) l = rw (d, l)
+
+    module _ (l : atLimit st ≡ false) where
+      pub run-spent : (budget : ℕ) → budget ≡ 0 → run F budget room st ≡ stopped st Spent
+      unfolding run
+      run-spent zero e = rw (d, l)
+      run-spent (suc budget) e = absurd (omega arith)
+
+      pub run-full : (budget : ℕ) → 0 < budget → room < length (lists F st) → run F budget room st ≡ stopped st Full
+      unfolding run
+      run-full zero b h = absurd (omega arith)
+      run-full (suc budget) b h = rw (d, l, lt-ltb room (length (lists F st)) h)
+
+      pub run-turn :
+          (budget : ℕ) → length (lists F st) ≤ room →
+          run F (suc budget) room st ≡ afterTrial (lists F st) (run F budget (room - length (lists F st)) (trial F st))
+      unfolding run
+      run-turn budget h = rw (d, l, le-ltb room (length (lists F st)) h)
 
 -- ---- one trial and the run after it
 
@@ -131,7 +162,8 @@ module _ (F : Family) where
   below-limit : (x : ℕ) → x ≤ limit → eqb x limit ≡ false → suc x ≤ limit
   below-limit x h e = omega (arith, eqb-false x limit e)
 
-  trial-bounded : (st : State) → Bounded st → atLimit st ≡ false → Bounded (trial F st)
+  -- a trial before which no count stands at the limit takes none past it
+  pub trial-bounded : (st : State) → Bounded st → atLimit st ≡ false → Bounded (trial F st)
   unfolding trial act atLimit
   trial-bounded st b e =
       let (t-or-x, l) = or-neither (eqb (st .trials) limit || eqb (st .extensions) limit) (eqb (st .listed) limit) e in

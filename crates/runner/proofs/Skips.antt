@@ -3,39 +3,18 @@
 use Prim.Native.Nat.{ℕ, zero, suc, _+_, _-_, _≤_, _<_}
 use native.Mathlib.Omega.{arith}
 use mathlib.Core.Path.{_≡_, refl, sym, _∙_}
-use mathlib.Core.Bool.{Bool, true, false, _&&_}
-use mathlib.Core.List.{List, [], _∷_}
+use mathlib.Core.Bool.{Bool, true, false}
+use mathlib.Core.List.{List}
 use lib.ListN.{take}
-use lib.Dec.{eqb}
-use borrow.Author.Tests.{ne-eqb}
 use Rattle.graph.proofs.Below.{apart}
-use Rattle.enumeration.specs.Machine.{State, isEmpty, isDone, act, unwound}
-use Rattle.enumeration.specs.Run.{limit, atLimit}
+use Rattle.enumeration.specs.Machine.{act}
+use Rattle.enumeration.proofs.Makes.{not-done, not-limit, unwound-stays}
 use Rattle.atomset.specs.Set.{has}
 use Rattle.openness.specs.declared.Plan.{Plan}
 use Rattle.openness.specs.Plan.{Planned}
 use Rattle.trial.specs.declared.Spot.{Spot}
 use Rattle.trial.specs.Parts.{stackOf, stateAt, Skips, Idle, skip}
 use Rattle.runner.proofs.Trials.{Task, Turning, Trying, planned-old, member-told, written-none, turn}
-
-and-no : (b : Bool) → b && false ≡ false
-and-no true = refl
-and-no false = refl
-
-not-done : (n : ℕ) (st : State) → st .next ≤ n → isDone n st ≡ false
-unfolding isDone
-not-done n st h = rw (ne-eqb (st .next) (suc n) (λ e. omega arith)) (and-no (isEmpty (st .stack)))
-
-not-limit :
-    (st : State) → st .trials < limit → eqb (st .extensions) limit ≡ false → eqb (st .listed) limit ≡ false →
-    atLimit st ≡ false
-unfolding atLimit
-not-limit st t e l = rw (ne-eqb (st .trials) limit (λ x. omega arith), e, l)
-
-unwound-stays : (n : ℕ) (stack : List ℕ) (next : ℕ) → next ≤ n → unwound n stack next ≡ (stack, next)
-unfolding unwound
-unwound-stays n [] next h = refl
-unwound-stays n (a ∷ stack) next h = rw (ne-eqb next (suc n) (λ e. omega arith))
 
 -- the place after one trial that only raises the next atom
 abbrev raised : Spot → Spot

@@ -1,6 +1,6 @@
 -- The rest of the work: a run is what is written and made so far, followed by the run from the present state.
--- One law for a turn, one for each way out.
-use Prim.Native.Nat.{ℕ, zero, suc, _+_, _-_, _≤_, _<_}
+-- One law for trials more, one for each way out.
+use Prim.Native.Nat.{ℕ, _+_, _-_, _≤_, _<_}
 use native.Mathlib.Omega.{arith}
 use mathlib.Core.Path.{_≡_, refl, ap, sym, _∙_}
 use mathlib.Core.Bool.{Bool, true, false}
@@ -8,50 +8,21 @@ use mathlib.Core.List.{List, [], _++_, append-assoc, append-nil}
 use lib.ListN.{length, take, drop, length-append, length-drop}
 use lib.Seq.{take-at, drop-at, drop-drop}
 use lib.Dec.{eqb}
-use borrow.Author.Tests.{lt-ltb, le-ltb, eqb-false}
+use borrow.Author.Tests.{eqb-false}
 use Rattle.enumeration.specs.declared.Stop.{Stop}
-use Rattle.enumeration.specs.declared.Stop.the-variants.{Done, Limit, Spent, Full}
 use Rattle.enumeration.specs.Words.{Family}
 use Rattle.enumeration.specs.Machine.{State, isDone, act, trial}
-use Rattle.enumeration.specs.Run.{Outcome, limit, atLimit, lists, stopped, afterTrial, run}
+use Rattle.enumeration.specs.Run.{Outcome, limit, atLimit, lists, stopped, onto, run}
 use Rattle.enumeration.specs.RunFacts.{Bounded}
+use Rattle.enumeration.specs.Makes.{Makes}
+use Rattle.enumeration.proofs.Makes.{onto-none, onto-onto, makes-one, makes-run}
+pub use Rattle.enumeration.proofs.Running.{run-done, run-limit, run-spent, run-full}
 use Rattle.search.specs.declared.Search.{Search}
 use Rattle.search.specs.declared.Ran.{Ran}
 use Rattle.search.specs.declared.Ended.the-variants.{Stopped}
 use Rattle.search.specs.Place.{searchAt}
 use Rattle.trial.proofs.Gaps.{none-at-limit}
 use Rattle.runner.specs.Parts.{Yields}
-
--- ---- one step of the definition
-
-module _ (F : Family) (room : ℕ) (st : State) where
-  pub run-done : (budget : ℕ) → isDone (F .atoms) st ≡ true → run F budget room st ≡ stopped st Done
-  unfolding run
-  run-done zero d = rw d
-  run-done (suc budget) d = rw d
-
-  module _ (d : isDone (F .atoms) st ≡ false) where
-    pub run-limit : (budget : ℕ) → atLimit st ≡ true → run F budget room st ≡ stopped st Limit
-    unfolding run
-    run-limit zero l = rw (d, l)
-    run-limit (suc budget) l = rw (d, l)
-
-    module _ (l : atLimit st ≡ false) where
-      pub run-spent : (budget : ℕ) → budget ≡ 0 → run F budget room st ≡ stopped st Spent
-      unfolding run
-      run-spent zero e = rw (d, l)
-      run-spent (suc budget) e = absurd (omega arith)
-
-      pub run-full : (budget : ℕ) → 0 < budget → room < length (lists F st) → run F budget room st ≡ stopped st Full
-      unfolding run
-      run-full zero b h = absurd (omega arith)
-      run-full (suc budget) b h = rw (d, l, lt-ltb room (length (lists F st)) h)
-
-      pub run-turn :
-          (budget : ℕ) → length (lists F st) ≤ room →
-          run F (suc budget) room st ≡ afterTrial (lists F st) (run F budget (room - length (lists F st)) (trial F st))
-      unfolding run
-      run-turn budget h = rw (d, l, le-ltb room (length (lists F st)) h)
 
 -- ---- counts
 
@@ -81,20 +52,6 @@ act-bounded n false true st b = omega (arith, b)
 act-bounded n false false st b = omega (arith, b)
 
 -- ---- the rest of the work
-
--- an outcome with `made` trials before it, which wrote `bytes`
-abbrev onto : List ℕ → ℕ → Outcome → Outcome
-onto bytes made o = record { state = o .state; stop = o .stop; bytes = bytes ++ o .bytes; made = made + o .made }
-
-onto-none : (o : Outcome) → o ≡ onto [] 0 o
-onto-none o = let z : 0 + o .made ≡ o .made = omega arith in rw z
-
-onto-after :
-    (bytes more : List ℕ) (made : ℕ) (o : Outcome) →
-    onto bytes made (afterTrial more o) ≡ onto (bytes ++ more) (made + 1) o
-onto-after bytes more made o =
-    let m : made + suc (o .made) ≡ made + 1 + o .made = omega arith in
-    rw (m, append-assoc bytes more (o .bytes))
 
 onto-stopped :
     (bytes : List ℕ) (made : ℕ) (st : State) (why : Stop) →
@@ -135,48 +92,53 @@ module _ {F : Family} {budget : ℕ} {out₀ : List ℕ} {st₀ : State} where
     pub going-used : used ≤ length out
     going-used = omega (arith, g .used-is, g .in-room, going-length)
 
-    -- the output after the record of one trial more
+    -- the output after more trials, which write `new`
     abbrev pub further : List ℕ → List ℕ
-    further bytes = take used out ++ (bytes ++ drop (length bytes) (drop used out))
+    further new = take used out ++ (new ++ drop (length new) (drop used out))
+
+    pub going-makes :
+        {last : State} {k : ℕ} {new out′ : List ℕ} → Makes F last st k new → made + k ≤ budget →
+        used + length new ≤ length out₀ → out′ ≡ further new →
+        Going F budget out₀ st₀ out′ last (used + length new) (made + k)
+    going-makes {last} {k} {new} m b h e = record {
+      bytes = g .bytes ++ new;
+      wrote = e ∙ written;
+      used-is = omega (arith, both, g .used-is);
+      in-room = omega (arith, both, g .used-is);
+      in-budget = b;
+      rest = g .rest ∙ ap (onto (g .bytes) made) turned ∙ onto-onto (g .bytes) new made k later;
+    }
+      where
+        -- the run after them
+        later : Outcome
+        later = run F (budget - (made + k)) (length out₀ - length (g .bytes ++ new)) last
+
+        both : length (g .bytes ++ new) ≡ length (g .bytes) + length new
+        both = length-append (g .bytes) new
+
+        front : take used out ≡ g .bytes
+        front = ap (take used) (g .wrote) ∙ take-at (g .bytes) (drop (length (g .bytes)) out₀) used (sym (g .used-is))
+
+        back : drop used out ≡ drop (length (g .bytes)) out₀
+        back = ap (drop used) (g .wrote) ∙ drop-at (g .bytes) (drop (length (g .bytes)) out₀) used (sym (g .used-is))
+
+        written : further new ≡ (g .bytes ++ new) ++ drop (length (g .bytes ++ new)) out₀
+        written =
+            rw (front, back, both, drop-drop (length new) (length (g .bytes)) out₀)
+            (sym (append-assoc (g .bytes) new _))
+
+        turned : run F (budget - made) (length out₀ - length (g .bytes)) st ≡ onto new k later
+        turned =
+            let room = length out₀ - length (g .bytes) in
+            let trials : budget - (made + k) ≡ budget - made - k = omega arith in
+            let left : length out₀ - length (g .bytes ++ new) ≡ room - length new = omega (arith, both) in
+            rw (trials, left) (makes-run m (budget - made) room (omega arith) (omega (arith, g .used-is)))
 
     module _ (d : isDone (F .atoms) st ≡ false) (l : atLimit st ≡ false) (b : made < budget) where
       pub going-turn :
           {next : List ℕ} → next ≡ further (lists F st) → length (lists F st) ≤ length out - used →
           Going F budget out₀ st₀ next (trial F st) (used + length (lists F st)) (made + 1)
-      going-turn e h = record {
-        bytes = g .bytes ++ lists F st;
-        wrote = e ∙ written;
-        used-is = omega (arith, both, g .used-is);
-        in-room = omega (arith, both, g .used-is, going-length, going-used);
-        in-budget = omega arith;
-        rest = g .rest ∙ ap (onto (g .bytes) made) turned ∙ onto-after (g .bytes) (lists F st) made later;
-      }
-        where
-          -- the run from the next state
-          later : Outcome
-          later = run F (budget - (made + 1)) (length out₀ - length (g .bytes ++ lists F st)) (trial F st)
-
-          both : length (g .bytes ++ lists F st) ≡ length (g .bytes) + length (lists F st)
-          both = length-append (g .bytes) (lists F st)
-
-          front : take used out ≡ g .bytes
-          front = ap (take used) (g .wrote) ∙ take-at (g .bytes) (drop (length (g .bytes)) out₀) used (sym (g .used-is))
-
-          back : drop used out ≡ drop (length (g .bytes)) out₀
-          back = ap (drop used) (g .wrote) ∙ drop-at (g .bytes) (drop (length (g .bytes)) out₀) used (sym (g .used-is))
-
-          written : further (lists F st) ≡ (g .bytes ++ lists F st) ++ drop (length (g .bytes ++ lists F st)) out₀
-          written =
-              rw (front, back, both, drop-drop (length (lists F st)) (length (g .bytes)) out₀)
-              (sym (append-assoc (g .bytes) (lists F st) _))
-
-          turned : run F (budget - made) (length out₀ - length (g .bytes)) st ≡ afterTrial (lists F st) later
-          turned =
-              let one : budget - made ≡ suc (budget - (made + 1)) = omega arith in
-              let room = length out₀ - length (g .bytes) in
-              let new = lists F st in
-              let left : length out₀ - length (g .bytes ++ new) ≡ room - length new = omega (arith, both) in
-              rw (one, left) (run-turn F room st d l (budget - (made + 1)) (omega (arith, g .used-is, going-length)))
+      going-turn e h = going-makes (makes-one d l) (omega arith) (omega (arith, going-length, going-used)) e
 
     -- a way out: the outcome of the whole run
     going-ends :
