@@ -5,6 +5,7 @@ use Prim.Native.Nat.{ℕ, zero, suc, _+_, _-_, _*_, _/_, _%_, _^_, _≤_, _<_, m
 use native.Mathlib.Nat.{div-one, zero-div, pow-suc, mod-lt, min-le-left, zero-lt-suc}
 use native.Mathlib.Numerals.{one-add}
 use native.Mathlib.Omega.{arith}
+use native.Mathlib.Decide.{ℕ-discrete}
 use mathlib.Core.Path.{_≡_, refl, ap, ap₂, sym, _∙_}
 use mathlib.Core.Bool.{Bool, true, false, _&&_, _||_, not}
 use mathlib.Core.Logic.{_⊎_, inl, inr}
@@ -12,7 +13,7 @@ use lib.Dec.{ltb, eqb, eqb·suc-suc, eqb·zero-suc, eqb·suc-zero, leb·suc-suc}
 use lib.Pow.{pow-pos, shr-shr, high}
 use lib.Bits.{bitAnd, bitOr, and-step, and-shr, or-shr, and-mod, or-mod, and-le-l, block-half, block-odd}
 use lib.Count.{trailingZeros, under}
-use borrow.Author.Tests.{eqb-true, lt-ltb, le-ltb}
+use borrow.Author.Tests.{eqb-true, eq-eqb, ne-eqb, lt-ltb, le-ltb}
 use Rattle.molecule.specs.Record.{bit}
 
 -- the lowest bit, and the others
@@ -167,6 +168,57 @@ trailing-least (suc k) n (suc j) b = split (low-digit n) (trailing-least k (n / 
     split : (n % 2 ≡ 0) ⊎ (n % 2 ≡ 1) → trailingZeros k (n / 2) ≤ j → under (n % 2) (trailingZeros k (n / 2)) ≤ suc j
     split (inl e) h = rw e (omega arith)
     split (inr e) h = rw e (omega arith)
+
+-- one less: the lowest bit goes, those above it stay
+
+module _ (j n : ℕ) (set : bit n (suc j) ≡ true) (least : (i : ℕ) → bit n i ≡ true → suc j ≤ i) where
+  even-low : n % 2 ≡ 1 → ⊥
+  even-low e = let low : suc j ≤ 0 = least 0 (bit-first n ∙ eq-eqb (n % 2) 1 e) in omega arith
+
+  half-one-less : (n - 1) / 2 ≡ n / 2 - 1
+  half-one-less = omega (arith, even-low)
+
+  half-set : bit (n / 2) j ≡ true
+  half-set = sym (bit-next n j) ∙ set
+
+  half-least : (i : ℕ) → bit (n / 2) i ≡ true → j ≤ i
+  half-least i e = let up : suc j ≤ suc i = least (suc i) (bit-next n i ∙ e) in omega arith
+
+at-lowest : (j n : ℕ) → bit n j ≡ true → ((i : ℕ) → bit n i ≡ true → j ≤ i) → bit (n - 1) j ≡ false
+at-lowest zero n set least =
+    let odd : n % 2 ≡ 1 = eqb-true (n % 2) 1 (sym (bit-first n) ∙ set) in
+    let even : (n - 1) % 2 ≡ 0 = omega arith in
+    bit-first (n - 1) ∙ ap (λ (d : ℕ). eqb d 1) even
+at-lowest (suc j) n set least =
+    bit-next (n - 1) j ∙ ap (λ (m : ℕ). bit m j) (half-one-less j n set least)
+    ∙ at-lowest j (n / 2) (half-set j n set least) (half-least j n set least)
+
+above-lowest :
+    (j n k : ℕ) → bit n j ≡ true → ((i : ℕ) → bit n i ≡ true → j ≤ i) → bit n k ≡ true → (k ≡ j → ⊥) →
+    bit (n - 1) k ≡ true
+above-lowest zero n zero set least b d = absurd (d refl)
+above-lowest zero n (suc k) set least b d =
+    let odd : n % 2 ≡ 1 = eqb-true (n % 2) 1 (sym (bit-first n) ∙ set) in
+    let half : (n - 1) / 2 ≡ n / 2 = omega arith in
+    bit-next (n - 1) k ∙ ap (λ (m : ℕ). bit m k) half ∙ sym (bit-next n k) ∙ b
+above-lowest (suc j) n zero set least b d = let low : suc j ≤ 0 = least 0 b in absurd (omega arith)
+above-lowest (suc j) n (suc k) set least b d =
+    bit-next (n - 1) k ∙ ap (λ (m : ℕ). bit m k) (half-one-less j n set least)
+    ∙ above-lowest j (n / 2) k (half-set j n set least) (half-least j n set least) (sym (bit-next n k) ∙ b)
+    (λ e. d (ap suc e))
+
+-- `n & (n - 1)` has the bits of n but for its lowest
+pub bit-cleared :
+    (n j : ℕ) → bit n j ≡ true → ((i : ℕ) → bit n i ≡ true → j ≤ i) → (k : ℕ) →
+    bit (bitAnd n (n - 1)) k ≡ (bit n k && not (eqb k j))
+bit-cleared n j set least k = bit-and n (n - 1) k ∙ split (ℕ-discrete k j) (bit n k) refl
+  where
+    split : Dec (k ≡ j) → (t : Bool) → bit n k ≡ t → (bit n k && bit (n - 1) k) ≡ (bit n k && not (eqb k j))
+    split q false b = rw b
+    split (yes e) true b =
+        let gone : bit (n - 1) k ≡ false = ap (bit (n - 1)) e ∙ at-lowest j n set least in
+        rw (b, gone, eq-eqb k j e)
+    split (no d) true b = rw (b, above-lowest j n k set least b d, ne-eqb k j d)
 
 -- a number above another
 

@@ -1,4 +1,5 @@
 pub mod Bonds
 pub mod Digits
 pub mod Members
+pub mod RowBits
 pub mod Table

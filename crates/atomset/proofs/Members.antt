@@ -3,8 +3,9 @@
 use Prim.Native.Nat.{ℕ, suc, _+_, _-_, _*_, _/_, _%_, _^_, _≤_, _<_}
 use native.Mathlib.Nat.{one-mul}
 use native.Mathlib.Omega.{arith}
+use native.Mathlib.Decide.{ℕ-discrete}
 use mathlib.Core.Path.{_≡_, refl, ap, ap₂, sym, _∙_}
-use mathlib.Core.Bool.{Bool, true, false, _&&_, _||_, not}
+use mathlib.Core.Bool.{Bool, true, false, _&&_, _||_, not, and-true}
 use mathlib.Core.List.{List, [], _∷_}
 use mathlib.Core.Logic.{_⊎_, inl, inr}
 use lib.ListN.{getD}
@@ -13,10 +14,10 @@ use lib.Pow.{shl-exact}
 use lib.Bits.{bitAnd, bitOr}
 use lib.Count.{trailingZeros}
 use borrow.Author.Tests.{le-leb, leb-true, leb-false, lt-leb, lt-ltb, le-ltb, ltb-true, ltb-false, eq-eqb, ne-eqb, eqb-true, eqb-false}
-use Rattle.graph.proofs.Below.{apart, clash, either, and-parts, same-test, false-of}
+use Rattle.graph.proofs.Below.{apart, clash, either, and-parts, and-both, same-test, false-of, not-of}
 use Rattle.molecule.specs.Record.{bit, isAtom}
-use Rattle.atomset.specs.Set.{has, holdsNone, Emptiness, Lowest, LowestBit}
-use Rattle.atomset.proofs.Digits.{bit-none, bit-and, bit-or, bit-less, bit-power, bit-ones, trailing-below, trailing-set, trailing-least}
+use Rattle.atomset.specs.Set.{has, holdsNone, Emptiness, Lowest, LowestBit, LowestLeft, AtMostOne}
+use Rattle.atomset.proofs.Digits.{bit-none, bit-and, bit-or, bit-less, bit-power, bit-ones, bit-cleared, trailing-below, trailing-set, trailing-least}
 
 -- where an atom's bit is
 
@@ -25,7 +26,7 @@ data Zone (a : ℕ) : Type 0 where
   first : 1 ≤ a → a ≤ 64 → Zone a
   second : 65 ≤ a → a ≤ 128 → Zone a
 
-is-atom : (n a : ℕ) → 1 ≤ a → a ≤ n → isAtom n a ≡ true
+pub is-atom : (n a : ℕ) → 1 ≤ a → a ≤ n → isAtom n a ≡ true
 is-atom n a l h = rw (le-leb 1 a l, le-leb a n h)
 
 zone : (a : ℕ) → Zone a
@@ -298,6 +299,16 @@ second-word words e z0 z1 =
     let both : holdsNone words ≡ true = rw (eq-eqb (getD words 0 0) 0 z0, eq-eqb (getD words 1 0) 0 z1) in
     clash (holdsNone words) both e
 
+-- a set that is not empty has a lowest atom
+pub lowest-some :
+    (words : List ℕ) → holdsNone words ≡ false → getD words 0 0 < 2 ^ 64 → getD words 1 0 < 2 ^ 64 →
+    (v : ℕ) × Lowest words v
+lowest-some words e low high = split (ℕ-discrete (getD words 0 0) 0)
+  where
+    split : Dec (getD words 0 0 ≡ 0) → (v : ℕ) × Lowest words v
+    split (no z) = (_, lowest-first words _ (lowest-in (getD words 0 0) z low))
+    split (yes z) = (_, lowest-second words _ z (lowest-in (getD words 1 0) (second-word words e z) high))
+
 -- the test of emptiness, by the word that it ends at
 
 pub not-empty-first : (words : List ℕ) → (getD words 0 0 ≡ 0 → ⊥) → getD words 0 0 < 2 ^ 64 → Emptiness words false
@@ -326,3 +337,125 @@ empty-second words z h =
         let j = trailingZeros 64 (getD words 1 0) in
         let low = lowest-in (getD words 1 0) (eqb-false (getD words 1 0) 0 e) h in
         (j + 65, lowest-second words j z low .member)
+
+-- the set without its lowest atom, by the word that has it
+
+pub lowest-one : {words : List ℕ} {u v : ℕ} → Lowest words u → Lowest words v → u ≡ v
+lowest-one {words} {u} {v} l m =
+    let up : u ≤ v = l .least v (m .member) in
+    let down : v ≤ u = m .least u (l .member) in
+    omega arith
+
+-- bit j of word k is the lowest, and goes; the other word is kept
+pub record Cleared (words rest : List ℕ) (k j : ℕ) : Type 0 where
+  pub inside : k < 2
+  pub lowest : LowestBit (getD words k 0) j
+  pub goes : getD rest k 0 ≡ bitAnd (getD words k 0) (getD words k 0 - 1)
+  pub kept : (w : ℕ) → w < 2 → (w ≡ k → ⊥) → getD rest w 0 ≡ getD words w 0
+
+module _ {words rest : List ℕ} {k j v : ℕ} (c : Cleared words rest k j) (is-v : v ≡ 64 * k + j + 1) where
+  -- at the place of an atom: its word and its bit
+  cleared-place :
+      (a : ℕ) → 1 ≤ a → a ≤ 128 → (w i : ℕ) → a ≡ 64 * w + i + 1 → i < 64 → Dec (w ≡ k) →
+      bit (getD rest w 0) i ≡ (bit (getD words w 0) i && not (eqb a v))
+  cleared-place a l h w i at below (yes e) =
+      let low = c .lowest in
+      let gone = bit-cleared (getD words k 0) j (low .set) (low .least) i in
+      let same = same-test (eqb i j) (eqb a v) (λ q. to (eqb-true i j q)) (λ q. from (eqb-true a v q)) in
+      rw (e, c .goes, gone, same)
+    where
+      to : i ≡ j → eqb a v ≡ true
+      to q = eq-eqb a v (omega arith)
+
+      from : a ≡ v → eqb i j ≡ true
+      from q = eq-eqb i j (omega (arith, c .lowest .below))
+  cleared-place a l h w i at below (no d) =
+      let other : eqb a v ≡ false = ne-eqb a v (λ q. d (omega (arith, c .lowest .below))) in
+      ap (λ (n : ℕ). bit n i) (c .kept w (omega arith) d) ∙ sym (and-true (bit (getD words w 0) i)) ∙
+      ap (λ (q : Bool). bit (getD words w 0) i && not q) (sym other)
+
+  has-cleared : (a : ℕ) → has rest a ≡ (has words a && not (eqb a v))
+  has-cleared a = split (zone a)
+    where
+      inner : 1 ≤ a → a ≤ 128 → has rest a ≡ (has words a && not (eqb a v))
+      inner l h =
+          let w = (a - 1) / 64 in
+          let i = (a - 1) % 64 in
+          sym (has-atom rest a l h) ∙ cleared-place a l h w i (omega arith) (omega arith) (ℕ-discrete w k) ∙
+          ap (λ (t : Bool). t && not (eqb a v)) (has-atom words a l h)
+
+      split : Zone a → has rest a ≡ (has words a && not (eqb a v))
+      split (outside e o) =
+          has-outside rest a e ∙ sym (ap (λ (t : Bool). t && not (eqb a v)) (has-outside words a e))
+      split (first l h) = inner l (omega arith)
+      split (second l h) = inner (omega arith) h
+
+cleared-left :
+    {words rest : List ℕ} {k j : ℕ} → Cleared words rest k j → Lowest words (64 * k + j + 1) → LowestLeft words rest
+cleared-left c m = record { others = λ v l. has-cleared c (lowest-one l m) }
+
+pub left-first :
+    (words : List ℕ) → (getD words 0 0 ≡ 0 → ⊥) → getD words 0 0 < 2 ^ 64 →
+    LowestLeft words (bitAnd (getD words 0 0) (getD words 0 0 - 1) ∷ getD words 1 0 ∷ [])
+left-first words z h = cleared-left cleared (lowest-word words 0 _ (omega arith) (λ w b. absurd (omega arith)) low)
+  where
+    low : LowestBit (getD words 0 0) (trailingZeros 64 (getD words 0 0))
+    low = lowest-in (getD words 0 0) z h
+
+    rest : List ℕ
+    rest = bitAnd (getD words 0 0) (getD words 0 0 - 1) ∷ getD words 1 0 ∷ []
+
+    kept : (w : ℕ) → w < 2 → (w ≡ 0 → ⊥) → getD rest w 0 ≡ getD words w 0
+    kept w b d = let second : w ≡ 1 = omega arith in rw second
+
+    cleared : Cleared words rest 0 (trailingZeros 64 (getD words 0 0))
+    cleared = record { inside = omega arith; lowest = low; goes = refl; kept = kept }
+
+pub left-second :
+    (words : List ℕ) → getD words 0 0 ≡ 0 → (getD words 1 0 ≡ 0 → ⊥) → getD words 1 0 < 2 ^ 64 →
+    LowestLeft words (0 ∷ bitAnd (getD words 1 0) (getD words 1 0 - 1) ∷ [])
+left-second words none z h =
+    cleared-left cleared (lowest-word words 1 _ (omega arith) (λ w b. let at : w ≡ 0 = omega arith in rw at none) low)
+  where
+    low : LowestBit (getD words 1 0) (trailingZeros 64 (getD words 1 0))
+    low = lowest-in (getD words 1 0) z h
+
+    rest : List ℕ
+    rest = 0 ∷ bitAnd (getD words 1 0) (getD words 1 0 - 1) ∷ []
+
+    kept : (w : ℕ) → w < 2 → (w ≡ 1 → ⊥) → getD rest w 0 ≡ getD words w 0
+    kept w b d = let at : w ≡ 0 = omega arith in rw at (sym none)
+
+    cleared : Cleared words rest 1 (trailingZeros 64 (getD words 1 0))
+    cleared = record { inside = omega arith; lowest = low; goes = refl; kept = kept }
+
+-- at most one atom
+
+pub none-sole : {words : List ℕ} → ((a : ℕ) → has words a ≡ false) → AtMostOne words true
+none-sole {words} none =
+    record { sole = λ e u v a b. absurd (clash (has words u) a (none u)); two = λ e. absurd (apart e) }
+
+-- the set has an atom, and the answer is whether the rest has none
+module _ {words rest : List ℕ} {answer : Bool} {v : ℕ} (l : Lowest words v) (r : LowestLeft words rest)
+    (e : Emptiness rest answer) where
+  only-lowest : answer ≡ true → (a : ℕ) → has words a ≡ true → a ≡ v
+  only-lowest none a h = split (either (eqb a v))
+    where
+      split : (eqb a v ≡ true) ⊎ (eqb a v ≡ false) → a ≡ v
+      split (inl q) = eqb-true a v q
+      split (inr q) =
+          let stays = r .others v l a ∙ and-both (has words a) (not (eqb a v)) h (not-of (eqb a v) q) in
+          absurd (clash (has rest a) stays (e .none none a))
+
+  other-atom : answer ≡ false → (u w : ℕ) × (has words u ≡ true) × (has words w ≡ true) × (u ≡ w → ⊥)
+  other-atom some =
+      let (a, stays) = e .some some in
+      let parts = and-parts (has words a) (not (eqb a v)) (sym (r .others v l a) ∙ stays) in
+      (a, v, parts .0, l .member, λ q. clash (not (eqb a v)) (parts .1) (ap not (eq-eqb a v q)))
+
+  pub sole-rest : AtMostOne words answer
+  sole-rest =
+      record {
+        sole = λ none u w a b. only-lowest none u a ∙ sym (only-lowest none w b);
+        two = other-atom;
+      }

@@ -2,7 +2,7 @@
 -- Bit j of word w stands for atom 64 × w + j + 1 (document 02, F-3).
 use Prim.Native.Nat.{ℕ, _+_, _-_, _*_, _/_, _%_, _≤_, _<_}
 use mathlib.Core.Path.{_≡_}
-use mathlib.Core.Bool.{Bool, true, false, _&&_}
+use mathlib.Core.Bool.{Bool, true, false, _&&_, not}
 use mathlib.Core.List.{List}
 use lib.ListN.{getD}
 use lib.Dec.{eqb}
@@ -29,6 +29,15 @@ pub record Lowest (words : List ℕ) (v : ℕ) : Type 0 where
   pub high : v ≤ 128
   pub member : has words v ≡ true
   pub least : (a : ℕ) → has words a ≡ true → v ≤ a
+
+-- the rest is the set without its lowest atom
+pub record LowestLeft (words rest : List ℕ) : Type 0 where
+  pub others : (v : ℕ) → Lowest words v → (a : ℕ) → has rest a ≡ (has words a && not (eqb a v))
+
+-- what the answer tells whether a set has at most one atom
+pub record AtMostOne (words : List ℕ) (answer : Bool) : Type 0 where
+  pub sole : answer ≡ true → (u v : ℕ) → has words u ≡ true → has words v ≡ true → u ≡ v
+  pub two : answer ≡ false → (u v : ℕ) × (has words u ≡ true) × (has words v ≡ true) × (u ≡ v → ⊥)
 
 -- the lowest bit of a word
 pub record LowestBit (word j : ℕ) : Type 0 where

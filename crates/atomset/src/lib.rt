@@ -4,7 +4,8 @@ ghost use mathlib.Core.Path.{_≡_};
 ghost use mathlib.Core.Bool.{false, _&&_, _||_, not};
 ghost use Prim.Native.Nat.{ℕ, _+_, _-_, _*_, _/_, _%_, _^_, _≤_, _<_};
 ghost use lib.Dec.{leb, ltb, eqb};
-ghost use Rattle.atomset.specs.Set.{has, holdsNone, linkedBy, Emptiness, Lowest, LowestBit, Reads, Half, WordsOf};
+ghost use Rattle.atomset.specs.Set.{has, holdsNone, linkedBy, Emptiness, Lowest, LowestBit, LowestLeft, AtMostOne};
+ghost use Rattle.atomset.specs.Set.{Reads, Half, WordsOf};
 
 // The set without atoms.
 pub fn empty() -> [u64; 2]
@@ -126,6 +127,28 @@ pub fn lowest(x: [u64; 2]) -> usize
         return lowest_bit(x[0]) + 1;
     }
     lowest_bit(x[1]) + 65
+}
+
+// The set without its lowest atom.
+pub fn without_lowest(x: [u64; 2]) -> [u64; 2]
+    requires { ⌜ holdsNone x ≡ false ⌝ }
+    ensures { λ r. ⌜ LowestLeft x r ⌝ }
+{
+    if x[0] != 0 {
+        return [x[0] & (x[0] - 1), x[1]];
+    }
+    [0, x[1] & (x[1] - 1)]
+}
+
+// Whether the set has at most one atom.
+pub fn at_most_one(x: [u64; 2]) -> bool
+    ensures { λ r. ⌜ AtMostOne x r ⌝ }
+{
+    if is_empty(x) {
+        return true;
+    }
+    let rest = without_lowest(x);
+    is_empty(rest)
 }
 
 // Four bytes as a number, the lowest first.
