@@ -338,6 +338,10 @@ empty-second words z h =
         let low = lowest-in (getD words 1 0) (eqb-false (getD words 1 0) 0 e) h in
         (j + 65, lowest-second words j z low .member)
 
+-- what the answer tells, to be found by `search`
+pub none-of : {words : List ℕ} {answer : Bool} → Emptiness words answer → answer ≡ true → (a : ℕ) → has words a ≡ false
+none-of e = e .none
+
 -- the set without its lowest atom, by the word that has it
 
 pub lowest-one : {words : List ℕ} {u v : ℕ} → Lowest words u → Lowest words v → u ≡ v

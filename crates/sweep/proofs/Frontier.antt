@@ -71,7 +71,9 @@ module _ {adj : Adjacency} {free target want left unseen pending : ℕ → Bool}
       Reached adj free target want rest
   frontier-end {rest} none rest-is v = (sound, λ r. complete (r .0) (r .1))
     where
-      done : (w : ℕ) → Settled adj free target want left unseen pending w → (u : ℕ) → adj u w ≡ true → Passed left unseen u
+      done :
+          (w : ℕ) → Settled adj free target want left unseen pending w → (u : ℕ) → adj u w ≡ true →
+          Passed left unseen u
       done w (inl p) = absurd (clash (pending w) p (none w))
       done w (inr s) = s
 

@@ -1,9 +1,10 @@
 -- `sweep::reached` meets its contract. The invariant of the rounds is `Frontier`, that of a round `Round`;
 -- the measures are the free atoms not yet seen, and the atoms of the round still to do.
+use Prim.Native.Nat.{ℕ}
 use mathlib.Core.Path.{_≡_, sym, _∙_}
 use mathlib.Core.Bool.{false}
 use Rattle.atomset.specs.Set.{has, holdsNone, linkedBy}
-use Rattle.atomset.proofs.Members.{has-range}
+use Rattle.atomset.proofs.Members.{has-range, none-of}
 use Rattle.sweep.proofs.Size.{size}
 use Rattle.sweep.proofs.Frontier.{Frontier, frontier-start, frontier-end, Taken, decided-all}
 use Rattle.sweep.proofs.Frontier.{Round, round-start, round-step, round-end, round-less, turn-less}
@@ -101,14 +102,6 @@ loop-again c =
     round-step (loop .loop .inv) (begin .pre) (takes row) (decides .minus .ensures) (fresh .intersection .ensures)
     (c .before .minus2 .ensures) (c .union .ensures)
 
-sweep-less : tie.Need-sweep-less Inv-loop μ-loop Inv-sweep μ-sweep
-sweep-less c =
-    let loop : Place tie.At-loop = search in
-    round-less (has-range _) (loop .loop .inv) (c .before .is-empty3 .ensures .some (c .if3 .left))
-
-sweep-again : tie.Need-sweep-again Inv-loop μ-loop Inv-sweep μ-sweep
-sweep-again c = ended (c .before .before)
-
 returns : tie.Need-returns Inv-loop μ-loop Inv-sweep μ-sweep
 returns c =
     let begin : Place tie.Start = search in
@@ -116,14 +109,24 @@ returns c =
     let loop : Place tie.At-loop = search in
     let row : Place tie.After-row = search in
     let decides : Place tie.After-minus = search in
+    let decided : (a : ℕ) → has (decides .minus .result) a ≡ false = search (none-of) in
     decided-all _ (begin .pre) (takes row) (decides .minus .ensures)
-    (loop .loop .inv .keeps _ _ (round .sweep .inv)) (c .before .is-empty2 .ensures .none (c .if2 .taken))
+    (loop .loop .inv .keeps _ _ (round .sweep .inv)) decided
+
+sweep-less : tie.Need-sweep-less Inv-loop μ-loop Inv-sweep μ-sweep
+sweep-less c =
+    let loop : Place tie.At-loop = search in
+    round-less (has-range _) (loop .loop .inv) (c .before .is-empty3 .ensures .some (c .if3 .left))
+
+sweep-again : tie.Need-sweep-again Inv-loop μ-loop Inv-sweep μ-sweep
+sweep-again c = ended (search)
 
 returns-2 : tie.Need-returns-2 Inv-loop μ-loop Inv-sweep μ-sweep
 returns-2 c =
-    let last : Place tie.Then3 = search in
-    let none = last .before .is-empty3 .ensures .none (last .if3 .taken) in
-    frontier-end (ended (last .before .before)) none (c .minus3 .ensures)
+    let loop : Place tie.At-loop = search in
+    let last : Place tie.Then1 = search in
+    let none : (a : ℕ) → has (loop .loop .front) a ≡ false = search (none-of) in
+    frontier-end (ended last) none (c .minus3 .ensures)
 
 pub reached-spec : {M : Type 1} → statement M
 reached-spec =
