@@ -230,12 +230,6 @@ empty-none words e a =
     by-zone words a false (λ o. refl) (λ l h. ap (λ (n : ℕ). bit n (a - 1)) w0 ∙ bit-none (a - 1))
     (λ l h. ap (λ (n : ℕ). bit n (a - 65)) w1 ∙ bit-none (a - 65))
 
--- two words that are 0
-pub words-none : (words : List ℕ) → ((i : ℕ) → i < 2 → getD words i 0 ≡ 0) → (a : ℕ) → has words a ≡ false
-unfolding holdsNone
-words-none words z =
-    empty-none words (rw (eq-eqb (getD words 0 0) 0 (z 0 (omega arith)), eq-eqb (getD words 1 0) 0 (z 1 (omega arith))))
-
 -- A set with an atom is not empty
 pub some-not-empty : (words : List ℕ) (a : ℕ) → has words a ≡ true → holdsNone words ≡ false
 some-not-empty words a e = false-of (holdsNone words) (λ t. clash (has words a) e (empty-none words t a))
@@ -337,6 +331,10 @@ empty-second words z h =
         let j = trailingZeros 64 (getD words 1 0) in
         let low = lowest-in (getD words 1 0) (eqb-false (getD words 1 0) 0 e) h in
         (j + 65, lowest-second words j z low .member)
+
+-- what the answer tells, to be found by `search`
+pub none-of : {words : List ℕ} {answer : Bool} → Emptiness words answer → answer ≡ true → (a : ℕ) → has words a ≡ false
+none-of e = e .none
 
 -- the set without its lowest atom, by the word that has it
 

@@ -4,8 +4,8 @@ ghost use mathlib.Core.Path.{_≡_};
 ghost use mathlib.Core.Bool.{false, _&&_, _||_, not};
 ghost use Prim.Native.Nat.{ℕ, _+_, _-_, _*_, _/_, _%_, _^_, _≤_, _<_};
 ghost use lib.Dec.{leb, ltb, eqb};
-ghost use Rattle.atomset.specs.Set.{has, holdsNone, linkedBy, Emptiness, Lowest, LowestBit, LowestLeft, AtMostOne};
-ghost use Rattle.atomset.specs.Set.{Reads, Half, WordsOf};
+ghost use Rattle.atomset.specs.Set.{has, holdsNone, linkedBy, Emptiness, Lowest, LowestBit, LowestLeft};
+ghost use Rattle.atomset.specs.Set.{AtMostOne, Reads, Half, WordsOf};
 
 // The set without atoms.
 pub fn empty() -> [u64; 2]
