@@ -1,160 +1,310 @@
--- The sweep is sound and complete: what is seen reaches a target,
--- and once the frontier is empty what reaches a target is seen.
--- The invariant: neighbours of the frontier reach a target, and an atom that is
--- a target, or seen and allowed, is in the frontier or has its neighbours seen.
-use Prim.Native.Nat.{ℕ, _+_, _≤_, _<_}
-use native.Mathlib.Omega.{arith}
-use mathlib.Core.Path.{_≡_, sym, _∙_}
-use mathlib.Core.Bool.{Bool, true, false, _&&_, not}
+-- The sweep is sound and complete: a wanted atom that is decided reaches a target,
+-- and once the frontier is empty every wanted atom that reaches a target is decided.
+-- The invariant: neighbours of the frontier reach a target, and an atom that is a target, or
+-- free and seen, is in the frontier or has its neighbours decided and seen.
+use Prim.Native.Nat.{ℕ, _≤_, _<_}
+use mathlib.Core.Path.{_≡_, refl, ap, sym, _∙_}
+use mathlib.Core.Bool.{Bool, true, false, _&&_, _||_, not}
 use mathlib.Core.Logic.{_⊎_, inl, inr}
-use mathlib.Core.List.{List}
-use lib.ListN.{getD}
-use borrow.Author.Count.{below-more}
+use lib.Dec.{eqb}
+use borrow.Author.Tests.{eqb-true, eq-eqb}
 use Rattle.graph.specs.Chordless.{Adjacency}
-use Rattle.graph.proofs.Below.{clash, either, and-left, and-right, and-both, not-of}
+use Rattle.graph.proofs.Below.{clash, either, and-left, and-right, and-both, and-parts, not-of, false-of}
 use Rattle.enumeration.proofs.Basics.{or-either, or-left, or-right}
 use Rattle.chordless.specs.Reach.{there, through, Reaches}
 use Rattle.chordless.proofs.Shortest.{walk-within}
-use Rattle.atomset.specs.Set.{has}
-use Rattle.atomset.proofs.Members.{words-none}
-use Rattle.sweep.specs.declared.Front.{Front}
-use Rattle.sweep.specs.Swept.{Symmetric, Swept, Stepped}
+use Rattle.sweep.specs.Swept.{Symmetric, Reached}
+use Rattle.sweep.proofs.Size.{size, smaller}
 
-module _ (adj : Adjacency) (allowed target : ℕ → Bool) where
-  -- the frontier, or done: the atoms bonded to w are seen
-  abbrev pub Settled : (ℕ → Bool) → (ℕ → Bool) → ℕ → Type 0
-  Settled seen pending w = (pending w ≡ true) ⊎ ((v : ℕ) → adj v w ≡ true → seen v ≡ true)
+-- v is not left to decide, and it is no free atom that was in no round
+pub record Passed (left unseen : ℕ → Bool) (v : ℕ) : Type 0 where
+  pub decided : left v ≡ false
+  pub seen : unseen v ≡ false
 
-  pub record Frontier (seen pending : ℕ → Bool) : Type 0 where
-    pub sound : (v : ℕ) → seen v ≡ true → Reaches adj allowed target v
-    pub sources : (w : ℕ) → pending w ≡ true → (v : ℕ) → adj v w ≡ true → Reaches adj allowed target v
-    pub targets-settled : (w : ℕ) → target w ≡ true → Settled seen pending w
-    pub allowed-settled : (w : ℕ) → allowed w ≡ true → seen w ≡ true → Settled seen pending w
+module _ (adj : Adjacency) (free target want : ℕ → Bool) where
+  -- in the frontier, or done: the atoms bonded to w are passed
+  abbrev pub Settled : (ℕ → Bool) → (ℕ → Bool) → (ℕ → Bool) → ℕ → Type 0
+  Settled left unseen pending w = (pending w ≡ true) ⊎ ((v : ℕ) → adj v w ≡ true → Passed left unseen v)
 
--- at first nothing is seen, and the targets are the frontier
-pub frontier-start :
-    {adj : Adjacency} {allowed target seen : ℕ → Bool} → ((a : ℕ) → seen a ≡ false) →
-    Frontier adj allowed target seen target
-frontier-start {seen = seen} none =
+  pub record Frontier (left unseen pending : ℕ → Bool) : Type 0 where
+    pub sound : (v : ℕ) → want v ≡ true → left v ≡ false → Reaches adj free target v
+    pub sources : (w : ℕ) → pending w ≡ true → (v : ℕ) → adj v w ≡ true → Reaches adj free target v
+    pub unseen-free : (w : ℕ) → unseen w ≡ true → free w ≡ true
+    pub targets-settled : (w : ℕ) → target w ≡ true → Settled left unseen pending w
+    pub seen-settled : (w : ℕ) → free w ≡ true → unseen w ≡ false → Settled left unseen pending w
+
+-- at first nothing is decided or seen, and the targets are the frontier
+pub frontier-start : {adj : Adjacency} {free target want : ℕ → Bool} → Frontier adj free target want want free target
+frontier-start {free = free} {want = want} =
     record {
-      sound = λ v e. absurd (clash (seen v) e (none v));
+      sound = λ v w d. absurd (clash (want v) w d);
       sources = λ w t v e. (w, t, there e);
+      unseen-free = λ w u. u;
       targets-settled = λ w t. inl t;
-      allowed-settled = λ w a e. absurd (clash (seen w) e (none w));
+      seen-settled = λ w f s. absurd (clash (free w) f s);
     }
 
--- at last the frontier is empty
-pub frontier-end :
-    {adj : Adjacency} {allowed target seen pending : ℕ → Bool} → ((a : ℕ) → pending a ≡ false) →
-    Frontier adj allowed target seen pending → Swept adj allowed target seen
-frontier-end {adj} {allowed} {target} {seen} {pending} none f v = (f .sound v, complete)
-  where
-    done : (w : ℕ) → Settled adj allowed target seen pending w → (u : ℕ) → adj u w ≡ true → seen u ≡ true
-    done w (inl p) = absurd (clash (pending w) p (none w))
-    done w (inr s) = s
-
-    complete : Reaches adj allowed target v → seen v ≡ true
-    complete (w, is-target, walk) =
-        walk-within adj (λ u. seen u ≡ true) (done w (f .targets-settled w is-target))
-        (λ u x e a s. done x (f .allowed-settled x a s) u e) walk
-
--- one step, from the atoms taken of the frontier to those near
-module _ {adj : Adjacency} {target : ℕ → Bool} {allowed seen pending : List ℕ} {next : Front}
-    (symmetric : Symmetric adj) (s : Stepped adj allowed seen pending next)
-    (f : Frontier adj (has allowed) target (has seen) (has pending)) where
-  abbrev SettledNow : ℕ → Type 0
-  SettledNow w = Settled adj (has allowed) target (has seen) (has pending) w
-
-  abbrev SettledNext : ℕ → Type 0
-  SettledNext w = Settled adj (has allowed) target (has (next .seen)) (has (next .pending)) w
-
-  abbrev stays : ℕ → Bool
-  stays w = has pending w && not (s .taken w)
-
-  abbrev joins : ℕ → Bool
-  joins w = s .near w && not (has seen w) && has allowed w
-
-  seen-kept : (v : ℕ) → has seen v ≡ true → has (next .seen) v ≡ true
-  seen-kept v e = s .advanced .seen-is v ∙ or-left (has seen v) (s .near v) e
-
-  bonded-seen : (x v : ℕ) → s .taken x ≡ true → adj v x ≡ true → has (next .seen) v ≡ true
-  bonded-seen x v t e =
-      s .advanced .seen-is v ∙ or-right (has seen v) (s .near v) (s .every x v t (symmetric x v ∙ e))
-
-  pending-stays : (w : ℕ) → has pending w ≡ true → s .taken w ≡ false → has (next .pending) w ≡ true
-  pending-stays w p d =
-      s .advanced .pending-is w ∙
-      or-left (stays w) (joins w) (and-both (has pending w) (not (s .taken w)) p (not-of (s .taken w) d))
-
-  pending-joins :
-      (w : ℕ) → s .near w ≡ true → has seen w ≡ false → has allowed w ≡ true → has (next .pending) w ≡ true
-  pending-joins w e d a =
-      let fresh = and-both (s .near w) (not (has seen w)) e (not-of (has seen w) d) in
-      s .advanced .pending-is w ∙
-      or-right (stays w) (joins w) (and-both (s .near w && not (has seen w)) (has allowed w) fresh a)
-
-  reached : (v : ℕ) → s .near v ≡ true → Reaches adj (has allowed) target v
-  reached v e =
-      let (x, taken, bond) = s .only v e in f .sources x (s .were-pending x taken) v (symmetric v x ∙ bond)
-
-  sound-next : (v : ℕ) → has (next .seen) v ≡ true → Reaches adj (has allowed) target v
-  sound-next v e = split (or-either (has seen v) (s .near v) (sym (s .advanced .seen-is v) ∙ e))
-    where
-      split : (has seen v ≡ true) ⊎ (s .near v ≡ true) → Reaches adj (has allowed) target v
-      split (inl was) = f .sound v was
-      split (inr near) = reached v near
-
-  sources-next :
-      (w : ℕ) → has (next .pending) w ≡ true → (v : ℕ) → adj v w ≡ true → Reaches adj (has allowed) target v
-  sources-next w p v e = split (or-either (stays w) (joins w) (sym (s .advanced .pending-is w) ∙ p))
-    where
-      split : (stays w ≡ true) ⊎ (joins w ≡ true) → Reaches adj (has allowed) target v
-      split (inl k) = f .sources w (and-left (has pending w) (not (s .taken w)) k) v e
-      split (inr k) =
-          let fresh = and-left (s .near w && not (has seen w)) (has allowed w) k in
-          let may = and-right (s .near w && not (has seen w)) (has allowed w) k in
-          let (b, is-target, walk) = reached w (and-left (s .near w) (not (has seen w)) fresh) in
-          (b, is-target, through e may walk)
-
-  settled : (w : ℕ) → SettledNow w → SettledNext w
-  settled w (inl p) = split (either (s .taken w))
-    where
-      split : (s .taken w ≡ true) ⊎ (s .taken w ≡ false) → SettledNext w
-      split (inl t) = inr (λ v e. bonded-seen w v t e)
-      split (inr d) = inl (pending-stays w p d)
-  settled w (inr k) = inr (λ v e. seen-kept v (k v e))
-
-  newly :
-      (w : ℕ) → has allowed w ≡ true → has (next .seen) w ≡ true → (has seen w ≡ true) ⊎ (has seen w ≡ false) →
-      SettledNext w
-  newly w a e (inl was) = settled w (f .allowed-settled w a was)
-  newly w a e (inr not-yet) = split (or-either (has seen w) (s .near w) (sym (s .advanced .seen-is w) ∙ e))
-    where
-      split : (has seen w ≡ true) ⊎ (s .near w ≡ true) → SettledNext w
-      split (inl was) = absurd (clash (has seen w) was not-yet)
-      split (inr near) = inl (pending-joins w near not-yet a)
-
-  pub frontier-step : Frontier adj (has allowed) target (has (next .seen)) (has (next .pending))
-  frontier-step =
+module _ {adj : Adjacency} {free target want left unseen pending : ℕ → Bool}
+    (f : Frontier adj free target want left unseen pending) where
+  -- the same frontier, by another test
+  frontier-same :
+      (pending′ : ℕ → Bool) → ((w : ℕ) → pending w ≡ true → pending′ w ≡ true) →
+      ((w : ℕ) → pending′ w ≡ true → pending w ≡ true) → Frontier adj free target want left unseen pending′
+  frontier-same pending′ to from =
       record {
-        sound = sound-next;
-        sources = sources-next;
+        sound = f .sound;
+        sources = λ w p. f .sources w (from w p);
+        unseen-free = f .unseen-free;
         targets-settled = λ w t. settled w (f .targets-settled w t);
-        allowed-settled = λ w a e. newly w a e (either (has seen w));
+        seen-settled = λ w a s. settled w (f .seen-settled w a s);
       }
+    where
+      settled :
+          (w : ℕ) → Settled adj free target want left unseen pending w →
+          Settled adj free target want left unseen pending′ w
+      settled w (inl p) = inl (to w p)
+      settled w (inr d) = inr d
 
--- ---- the search for a word of the frontier
+  -- at last the frontier is empty: those that are not left are reached
+  pub frontier-end :
+      {rest : ℕ → Bool} → ((a : ℕ) → pending a ≡ false) → ((a : ℕ) → rest a ≡ (want a && not (left a))) →
+      Reached adj free target want rest
+  frontier-end {rest} none rest-is v = (sound, λ r. complete (r .0) (r .1))
+    where
+      done : (w : ℕ) → Settled adj free target want left unseen pending w → (u : ℕ) → adj u w ≡ true → Passed left unseen u
+      done w (inl p) = absurd (clash (pending w) p (none w))
+      done w (inr s) = s
 
--- the words before k are 0
-pub record ZeroTo (pending : List ℕ) (k : ℕ) : Type 0 where
-  pub within : k ≤ 2
-  pub zeros : (i : ℕ) → i < k → getD pending i 0 ≡ 0
+      sound : rest v ≡ true → (want v ≡ true) × Reaches adj free target v
+      sound e =
+          let (wanted, gone) = and-parts (want v) (not (left v)) (sym (rest-is v) ∙ e) in
+          (wanted, f .sound v wanted (false-of (left v) (λ l. clash (not (left v)) gone (ap not l))))
 
-pub zero-none : {pending : List ℕ} → ZeroTo pending 0
-zero-none = record { within = omega arith; zeros = λ i h. absurd (omega arith) }
+      complete : want v ≡ true → Reaches adj free target v → rest v ≡ true
+      complete wanted (b, is-target, walk) =
+          let passed =
+          walk-within adj (Passed left unseen) (done b (f .targets-settled b is-target))
+          (λ u w e a p. done w (f .seen-settled w a (p .seen)) u e) walk in
+          rest-is v ∙ and-both (want v) (not (left v)) wanted (not-of (left v) (passed .decided))
 
-pub zero-more : {pending : List ℕ} {k : ℕ} → ZeroTo pending k → k < 2 → getD pending k 0 ≡ 0 → ZeroTo pending (k + 1)
-zero-more z h e = record { within = omega arith; zeros = below-more _ _ (z .zeros) e }
+-- ---- one atom of a round
 
-pub zero-all : {pending : List ℕ} {k : ℕ} → ZeroTo pending k → 2 ≤ k → (a : ℕ) → has pending a ≡ false
-zero-all {pending} z h = words-none pending (λ i below. z .zeros i (omega arith))
+-- x is taken from the round, and near are the atoms bonded to it
+pub record Taken (adj : Adjacency) (taken rest near : ℕ → Bool) (x : ℕ) : Type 0 where
+  pub was : taken x ≡ true
+  pub rest-is : (a : ℕ) → rest a ≡ (taken a && not (eqb a x))
+  pub near-is : (a : ℕ) → near a ≡ adj x a
+
+-- the wanted atoms near x are decided
+module _ {adj : Adjacency} {free target want left unseen taken rest near left′ : ℕ → Bool} {x : ℕ}
+    (front : ℕ → Bool) (symmetric : Symmetric adj) (t : Taken adj taken rest near x)
+    (left-is : (a : ℕ) → left′ a ≡ (left a && not (near a)))
+    (f : Frontier adj free target want left unseen (λ w. taken w || front w)) where
+  near-reaches : (v : ℕ) → near v ≡ true → Reaches adj free target v
+  near-reaches v e =
+      f .sources x (or-left (taken x) (front x) (t .was)) v (symmetric v x ∙ sym (t .near-is v) ∙ e)
+
+  sound-next : (v : ℕ) → want v ≡ true → left′ v ≡ false → Reaches adj free target v
+  sound-next v wanted gone = split (either (near v))
+    where
+      split : (near v ≡ true) ⊎ (near v ≡ false) → Reaches adj free target v
+      split (inl n) = near-reaches v n
+      split (inr n) =
+          f .sound v wanted
+          (false-of (left v) (λ l. clash (left′ v)
+          (left-is v ∙ and-both (left v) (not (near v)) l (not-of (near v) n)) gone))
+
+  -- nothing is left to decide: all the wanted atoms are reached
+  pub decided-all : ((a : ℕ) → left′ a ≡ false) → Reached adj free target want want
+  decided-all none v = (λ e. (e, sound-next v e (none v)), λ r. r .0)
+
+  -- the free atoms near x that were in no round are in the next one
+  module _ {fresh unseen′ front′ : ℕ → Bool} (fresh-is : (a : ℕ) → fresh a ≡ (near a && unseen a))
+      (unseen-is : (a : ℕ) → unseen′ a ≡ (unseen a && not (fresh a)))
+      (front-is : (a : ℕ) → front′ a ≡ (front a || fresh a)) where
+    abbrev SettledNow : ℕ → Type 0
+    SettledNow w = Settled adj free target want left unseen (λ v. taken v || front v) w
+
+    abbrev SettledNext : ℕ → Type 0
+    SettledNext w = Settled adj free target want left′ unseen′ (λ v. rest v || front′ v) w
+
+    in-front : (w : ℕ) → front′ w ≡ true → (rest w || front′ w) ≡ true
+    in-front w p = or-right (rest w) (front′ w) p
+
+    fresh-of : (w : ℕ) → near w ≡ true → unseen w ≡ true → fresh w ≡ true
+    fresh-of w n u = fresh-is w ∙ and-both (near w) (unseen w) n u
+
+    fresh-parts : (w : ℕ) → fresh w ≡ true → (near w ≡ true) × (unseen w ≡ true)
+    fresh-parts w e = and-parts (near w) (unseen w) (sym (fresh-is w) ∙ e)
+
+    was-unseen : (w : ℕ) → unseen′ w ≡ true → (unseen w ≡ true) × (not (fresh w) ≡ true)
+    was-unseen w e = and-parts (unseen w) (not (fresh w)) (sym (unseen-is w) ∙ e)
+
+    was-left : (w : ℕ) → left′ w ≡ true → (left w ≡ true) × (not (near w) ≡ true)
+    was-left w e = and-parts (left w) (not (near w)) (sym (left-is w) ∙ e)
+
+    -- what was passed, and what is near
+    still-passed : (v : ℕ) → Passed left unseen v → Passed left′ unseen′ v
+    still-passed v p =
+        record {
+          decided = false-of (left′ v) (λ e. clash (left v) (was-left v e .0) (p .decided));
+          seen = false-of (unseen′ v) (λ e. clash (unseen v) (was-unseen v e .0) (p .seen));
+        }
+
+    near-passed : (v : ℕ) → adj v x ≡ true → Passed left′ unseen′ v
+    near-passed v e =
+        record {
+          decided = false-of (left′ v) (λ l. clash (not (near v)) (was-left v l .1) (ap not is-near));
+          seen = false-of (unseen′ v) (λ u. twice (was-unseen v u));
+        }
+      where
+        is-near : near v ≡ true
+        is-near = t .near-is v ∙ symmetric x v ∙ e
+
+        twice : (unseen v ≡ true) × (not (fresh v) ≡ true) → ⊥
+        twice (u, gone) = clash (not (fresh v)) gone (ap not (fresh-of v is-near u))
+
+    sources-next : (w : ℕ) → (rest w || front′ w) ≡ true → (v : ℕ) → adj v w ≡ true → Reaches adj free target v
+    sources-next w p v e = split (or-either (rest w) (front′ w) p)
+      where
+        join : (front w ≡ true) ⊎ (fresh w ≡ true) → Reaches adj free target v
+        join (inl k) = f .sources w (or-right (taken w) (front w) k) v e
+        join (inr k) =
+            let (is-near, was) = fresh-parts w k in
+            let (b, is-target, walk) = near-reaches w is-near in
+            (b, is-target, through e (f .unseen-free w was) walk)
+
+        split : (rest w ≡ true) ⊎ (front′ w ≡ true) → Reaches adj free target v
+        split (inl k) =
+            let was = and-left (taken w) (not (eqb w x)) (sym (t .rest-is w) ∙ k) in
+            f .sources w (or-left (taken w) (front w) was) v e
+        split (inr k) = join (or-either (front w) (fresh w) (sym (front-is w) ∙ k))
+
+    settled : (w : ℕ) → SettledNow w → SettledNext w
+    settled w (inr d) = inr (λ v e. still-passed v (d v e))
+    settled w (inl p) = split (or-either (taken w) (front w) p)
+      where
+        other : taken w ≡ true → (eqb w x ≡ true) ⊎ (eqb w x ≡ false) → SettledNext w
+        other k (inl q) = inr (λ v e. near-passed v (rw (eqb-true w x q) at e))
+        other k (inr q) =
+            inl (or-left (rest w) (front′ w)
+            (t .rest-is w ∙ and-both (taken w) (not (eqb w x)) k (not-of (eqb w x) q)))
+
+        split : (taken w ≡ true) ⊎ (front w ≡ true) → SettledNext w
+        split (inl k) = other k (either (eqb w x))
+        split (inr k) = inl (in-front w (front-is w ∙ or-left (front w) (fresh w) k))
+
+    seen-next : (w : ℕ) → free w ≡ true → unseen′ w ≡ false → SettledNext w
+    seen-next w a s = split (either (unseen w)) (either (fresh w))
+      where
+        split :
+            (unseen w ≡ true) ⊎ (unseen w ≡ false) → (fresh w ≡ true) ⊎ (fresh w ≡ false) → SettledNext w
+        split (inr u) k = settled w (f .seen-settled w a u)
+        split (inl u) (inl k) = inl (in-front w (front-is w ∙ or-right (front w) (fresh w) k))
+        split (inl u) (inr k) =
+            let stays = unseen-is w ∙ and-both (unseen w) (not (fresh w)) u (not-of (fresh w) k) in
+            absurd (clash (unseen′ w) stays s)
+
+    pub frontier-step : Frontier adj free target want left′ unseen′ (λ w. rest w || front′ w)
+    frontier-step =
+        record {
+          sound = sound-next;
+          sources = sources-next;
+          unseen-free = λ w u. f .unseen-free w (was-unseen w u .0);
+          targets-settled = λ w k. settled w (f .targets-settled w k);
+          seen-settled = seen-next;
+        }
+
+-- ---- one round
+
+-- What a round has done so far: it keeps the frontier for any free atoms and targets,
+-- and the atoms of the next round are free atoms that it saw first
+pub record Round (adj : Adjacency) (want left₀ unseen₀ taken₀ left unseen taken front : ℕ → Bool) : Type 0 where
+  pub keeps :
+      (free target : ℕ → Bool) → Frontier adj free target want left₀ unseen₀ taken₀ →
+      Frontier adj free target want left unseen (λ w. taken w || front w)
+  pub fewer : (w : ℕ) → unseen w ≡ true → unseen₀ w ≡ true
+  pub were : (w : ℕ) → front w ≡ true → unseen₀ w ≡ true
+  pub seen : (w : ℕ) → front w ≡ true → unseen w ≡ false
+
+pub round-start :
+    {adj : Adjacency} {want left unseen taken front : ℕ → Bool} → ((a : ℕ) → front a ≡ false) →
+    Round adj want left unseen taken left unseen taken front
+round-start {taken = taken} {front} none =
+    record {
+      keeps = λ free target f. frontier-same f (λ w. taken w || front w) (λ w. or-left (taken w) (front w)) back;
+      fewer = λ w u. u;
+      were = λ w k. absurd (clash (front w) k (none w));
+      seen = λ w k. absurd (clash (front w) k (none w));
+    }
+  where
+    split : (w : ℕ) → (taken w ≡ true) ⊎ (front w ≡ true) → taken w ≡ true
+    split w (inl k) = k
+    split w (inr k) = absurd (clash (front w) k (none w))
+
+    back : (w : ℕ) → (taken w || front w) ≡ true → taken w ≡ true
+    back w p = split w (or-either (taken w) (front w) p)
+
+module _ {adj : Adjacency} {want left₀ unseen₀ taken₀ left unseen taken front : ℕ → Bool}
+    (r : Round adj want left₀ unseen₀ taken₀ left unseen taken front) where
+  pub round-step :
+      {rest near left′ fresh unseen′ front′ : ℕ → Bool} {x : ℕ} → Symmetric adj → Taken adj taken rest near x →
+      ((a : ℕ) → left′ a ≡ (left a && not (near a))) → ((a : ℕ) → fresh a ≡ (near a && unseen a)) →
+      ((a : ℕ) → unseen′ a ≡ (unseen a && not (fresh a))) → ((a : ℕ) → front′ a ≡ (front a || fresh a)) →
+      Round adj want left₀ unseen₀ taken₀ left′ unseen′ rest front′
+  round-step {rest} {near} {left′} {fresh} {unseen′} {front′} symmetric t left-is fresh-is unseen-is front-is =
+      record {
+        keeps = λ free target f.
+            frontier-step front symmetric t left-is (r .keeps free target f) fresh-is unseen-is front-is;
+        fewer = λ w u. r .fewer w (stays w u);
+        were = λ w k. joined w (or-either (front w) (fresh w) (sym (front-is w) ∙ k));
+        seen = λ w k. gone w (or-either (front w) (fresh w) (sym (front-is w) ∙ k));
+      }
+    where
+      stays : (w : ℕ) → unseen′ w ≡ true → unseen w ≡ true
+      stays w u = and-left (unseen w) (not (fresh w)) (sym (unseen-is w) ∙ u)
+
+      joined : (w : ℕ) → (front w ≡ true) ⊎ (fresh w ≡ true) → unseen₀ w ≡ true
+      joined w (inl k) = r .were w k
+      joined w (inr k) = r .fewer w (and-right (near w) (unseen w) (sym (fresh-is w) ∙ k))
+
+      gone : (w : ℕ) → (front w ≡ true) ⊎ (fresh w ≡ true) → unseen′ w ≡ false
+      gone w (inl k) = false-of (unseen′ w) (λ u. clash (unseen w) (stays w u) (r .seen w k))
+      gone w (inr k) =
+          false-of (unseen′ w)
+          (λ u. clash (not (fresh w)) (and-right (unseen w) (not (fresh w)) (sym (unseen-is w) ∙ u)) (ap not k))
+
+  -- at its end the frontier is the next round
+  pub round-end :
+      {free target : ℕ → Bool} → ((a : ℕ) → taken a ≡ false) → Frontier adj free target want left₀ unseen₀ taken₀ →
+      Frontier adj free target want left unseen front
+  round-end {free} {target} none f =
+      frontier-same (r .keeps free target f) front (λ w p. split w (or-either (taken w) (front w) p))
+      (λ w. or-right (taken w) (front w))
+    where
+      split : (w : ℕ) → (taken w ≡ true) ⊎ (front w ≡ true) → front w ≡ true
+      split w (inl k) = absurd (clash (taken w) k (none w))
+      split w (inr k) = k
+
+-- The measures: a round that leaves an atom for the next one has seen it, and a turn of a round takes an atom
+
+pub round-less :
+    {adj : Adjacency} {want left₀ unseen₀ taken₀ left unseen taken front : ℕ → Bool} →
+    ((a : ℕ) → unseen₀ a ≡ true → (1 ≤ a) × (a ≤ 128)) →
+    Round adj want left₀ unseen₀ taken₀ left unseen taken front → (x : ℕ) × (front x ≡ true) →
+    size unseen 128 < size unseen₀ 128
+round-less inside r (x, k) = smaller inside (r .fewer) (r .were x k) (r .seen x k)
+
+pub turn-less :
+    {adj : Adjacency} {taken rest near : ℕ → Bool} {x : ℕ} → ((a : ℕ) → taken a ≡ true → (1 ≤ a) × (a ≤ 128)) →
+    Taken adj taken rest near x → size rest 128 < size taken 128
+turn-less {taken = taken} {rest} {x = x} inside t = smaller inside stays (t .was) gone
+  where
+    stays : (a : ℕ) → rest a ≡ true → taken a ≡ true
+    stays a e = and-left (taken a) (not (eqb a x)) (sym (t .rest-is a) ∙ e)
+
+    gone : rest x ≡ false
+    gone =
+        false-of (rest x)
+        (λ e. clash (not (eqb x x)) (and-right (taken x) (not (eqb x x)) (sym (t .rest-is x) ∙ e))
+        (ap not (eq-eqb x x refl)))
