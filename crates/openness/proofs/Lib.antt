@@ -1,4 +1,5 @@
 pub mod Arrays
+pub mod Counts
 pub mod Rings
 pub mod Paths
 pub mod Plans

@@ -52,7 +52,7 @@ module _ (n : ℕ) (table : List ℕ) (kind s t : ℕ) where
       go true = refl
       go false = refl
 
-  pub kind-ends : (kind ≡ 0 → ⊥) → kindKept n kind s t ≡ true → endsKept n s t ≡ true
+  kind-ends : (kind ≡ 0 → ⊥) → kindKept n kind s t ≡ true → endsKept n s t ≡ true
   kind-ends d e = go (kind-facts n kind s t e)
     where
       go : KindFacts n kind s t → endsKept n s t ≡ true

@@ -13,12 +13,11 @@ use Rattle.chordless.specs.Families.{rings}
 use Rattle.chordless.specs.Reach.{RingOpens, clear, free, closing, touchesOnlyFirst}
 use Rattle.chordless.proofs.Touch.{touches-facts, touches-of}
 use Rattle.chordless.proofs.Rings.{ring-opens-one, ring-opens-none}
-use Rattle.atomset.specs.Set.{has, linkedBy, Lowest, LowestLeft}
-use Rattle.atomset.proofs.Members.{has-range}
+use Rattle.atomset.specs.Set.{has, linkedBy, Lowest}
 use Rattle.sweep.specs.Swept.{Reached}
 use Rattle.sweep.proofs.Walks.{reached-same}
-use Rattle.sweep.proofs.Size.{size, smaller}
 use Rattle.openness.specs.Parts.{OneAtom, TwoAtoms, Seconds}
+use Rattle.openness.proofs.Counts.{TakesLowest, taken-off, taken-within}
 
 -- ---- two atoms
 
@@ -83,24 +82,6 @@ module _ {n : ℕ} {table : List ℕ} {s v : ℕ} {targets between want swept : 
           sweeps v .1 (want-is v ∙ eq-eqb v v refl, (o .last, o .closes, o .reached))
 
 -- ---- the second atoms
-
--- the lowest atom v of a set is taken from it, and `rest` is left
-pub record TakesLowest (left rest : List ℕ) (v : ℕ) : Type 0 where
-  pub lowest : Lowest left v
-  pub rest-is : LowestLeft left rest
-
-module _ {left rest : List ℕ} {v : ℕ} (k : TakesLowest left rest v) where
-  pub taken-off : (u : ℕ) → has rest u ≡ (has left u && not (eqb u v))
-  taken-off = k .rest-is .others v (k .lowest)
-
-  taken-within : (u : ℕ) → has rest u ≡ true → has left u ≡ true
-  taken-within u e = and-parts (has left u) (not (eqb u v)) (sym (taken-off u) ∙ e) .0
-
-  -- without its lowest atom a set has fewer atoms
-  pub taken-fewer : size (has rest) 128 < size (has left) 128
-  taken-fewer =
-      let gone : has rest v ≡ false = rw (taken-off v, k .lowest .member, eq-eqb v v refl) in
-      smaller (has-range left) taken-within (k .lowest .member) gone
 
 -- `left` has every second atom that opens, and only atoms from 1 to n
 pub record SecondsLeft (n : ℕ) (table : List ℕ) (s : ℕ) (left : List ℕ) : Type 0 where

@@ -5,8 +5,8 @@ use mathlib.Core.Bool.{false}
 use borrow.Author.Tests.{not-true, not-false}
 use Rattle.atomset.specs.Set.{has, holdsNone}
 use Rattle.sweep.proofs.Size.{size}
-use Rattle.openness.proofs.Rings.{TakesLowest, taken-fewer, second-pair}
-use Rattle.openness.proofs.Rings.{SecondsLeft, seconds-left, seconds-less, start-some, start-none}
+use Rattle.openness.proofs.Counts.{TakesLowest, taken-fewer}
+use Rattle.openness.proofs.Rings.{second-pair, SecondsLeft, seconds-left, seconds-less, start-some, start-none}
 use Rattle.openness.proofs.ring_starts.Statement.{statement}
 use Rattle.openness.proofs.ring_starts.Tie as tie
 

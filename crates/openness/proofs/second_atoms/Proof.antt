@@ -6,8 +6,8 @@ use mathlib.Core.Logic.{inl, inr}
 use borrow.Author.Tests.{not-true, not-false}
 use Rattle.atomset.specs.Set.{has, holdsNone}
 use Rattle.sweep.proofs.Size.{size}
-use Rattle.openness.proofs.Rings.{TakesLowest, taken-fewer, second-pair}
-use Rattle.openness.proofs.Rings.{Sifted, sifted-start, sifted-keeps, sifted-drops, sifted-end}
+use Rattle.openness.proofs.Counts.{TakesLowest, taken-fewer}
+use Rattle.openness.proofs.Rings.{second-pair, Sifted, sifted-start, sifted-keeps, sifted-drops, sifted-end}
 use Rattle.openness.proofs.second_atoms.Statement.{statement}
 use Rattle.openness.proofs.second_atoms.Tie as tie
 
