@@ -1,7 +1,9 @@
-pub mod Sets
 pub mod Arrays
+pub mod Counts
 pub mod Rings
 pub mod Paths
 pub mod Plans
 pub mod Opens
 pub mod Molecules
+pub mod Steps
+pub mod Aims

@@ -1,0 +1,34 @@
+-- `openness::first_aim` meets its contract, by the kind: of a ring the first two atoms, of a path the first one.
+-- The sets of either kind are carried to the array by `first-ring` and `first-path`.
+use mathlib.Core.Path.{refl}
+use borrow.Author.Needs.{needs}
+use Rattle.openness.proofs.Plans.{path-ends}
+use Rattle.openness.proofs.Aims.{two-atoms, first-ring, first-path}
+use Rattle.openness.proofs.first_aim.Statement.{statement}
+use Rattle.openness.proofs.first_aim.Tie as tie
+
+path-aim-requires : tie.Need-path-aim-requires
+path-aim-requires c κs = path-ends (c .before .pre) (c .if1 .taken)
+
+returns : tie.Need-returns
+returns c = first-path (c .before .before .pre) refl (c .before .if1 .taken) (c .path-aim .ensures)
+
+ring-aim-requires : tie.Need-ring-aim-requires
+ring-aim-requires c κs =
+    let ring : tie.Else1 = search in
+    let first : tie.After-u8-usize = search in
+    two-atoms (ring .before .pre) refl (ring .if1 .left) (first .u8-usize .ensures .same) (c .u8-usize2 .ensures .same)
+
+returns-2 : tie.Need-returns-2
+returns-2 c =
+    let ring : tie.Else1 = search in
+    let first : tie.After-u8-usize = search in
+    first-ring (ring .before .pre) refl (ring .if1 .left) (first .u8-usize .ensures .same)
+    (c .before .u8-usize2 .ensures .same) (c .ring-aim .ensures)
+
+pub first-aim-spec : {M : Type 1} → statement M
+first-aim-spec =
+    tie.close
+    (tie.spec
+    path-aim-requires returns (λ c. search needs) (λ c κs. search needs) (λ c. search needs) (λ c κs. search needs)
+    ring-aim-requires returns-2)

@@ -1,0 +1,39 @@
+-- `openness::steered_plan` meets its contract: the plan by the sets that steer the beginning.
+-- Its last atom is read from the array, and is an atom since the beginning is open.
+use native.Mathlib.Omega.{arith}
+use borrow.Author.Needs.{needs}
+use Rattle.openness.proofs.Aims.{first-some, place-atom, steered-last}
+use Rattle.openness.proofs.steered_plan.Statement.{statement}
+use Rattle.openness.proofs.steered_plan.Tie as tie
+
+-- ---- the needs (`search` finds a place in c by its type)
+
+sub-u8-usize : tie.Need-sub-u8-usize
+sub-u8-usize c = let start : tie.Start = search in omega (arith, first-some (start .args .kind))
+
+aim-after-requires : tie.Need-aim-after-requires
+aim-after-requires c κs =
+    let start : tie.Start = search in
+    let some = first-some (start .args .kind) in
+    place-atom (start .pre .0) _ (omega arith) (c .u8-usize .ensures .same)
+
+plan-by-requires : tie.Need-plan-by-requires
+plan-by-requires c κs =
+    let start : tie.Start = search in
+    let read : tie.After-u8-usize = search in
+    let some = first-some (start .args .kind) in
+    let (low, high) = place-atom (start .pre .0) _ (omega arith) (read .u8-usize .ensures .same) in
+    (start .pre .0 .words .symmetric, c .aim-after .ensures, low, high)
+
+returns : tie.Need-returns
+returns c =
+    let aimed : tie.After-aim-at = search in
+    let read : tie.After-u8-usize = search in
+    c .plan-by .ensures _ _ (steered-last (read .u8-usize .ensures .same) (aimed .aim-at .ensures))
+
+pub steered-plan-spec : {M : Type 1} → statement M
+steered-plan-spec =
+    tie.close
+    (tie.spec
+    (λ c κs. search needs) sub-u8-usize (λ c. search needs) (λ c κs. search needs) aim-after-requires plan-by-requires
+    returns)
