@@ -26,6 +26,9 @@ const BRUTE: u64 = 7;
 /// Fewer trials than this and more count apart.
 const FEW: u64 = 256;
 
+/// Numbers of trials about 128 and 256.
+const EDGES: [u64; 9] = [127, 128, 129, 130, 254, 255, 256, 257, 258];
+
 /// Answers from a list of members made before; for other tasks by reachability.
 struct Given<'a> {
     reached: Reached<'a>,
@@ -142,9 +145,9 @@ fn any_budget(rng: &mut Rng, n: u64, kind: u64) -> u64 {
         0 => rng.below(2),
         1 => rng.between(2, 10),
         2 => rng.between(n.max(2) - 1, n + 1) * rng.between(1, 2),
-        3 => rng.pick(&[127, 128, 129, 130, 254, 255, 256, 257, 258]),
+        3 => rng.pick(&EDGES),
         4 => rng.between(200, 300),
-        5 => rng.pick(&[384, 385, 511, 512, 513, 768]),
+        5 => rng.pick(&[384, 385, 511, 512, 513, 767, 768, 769]),
         6 => rng.between(300, 2_000),
         _ => rng.pick(&[u64::MAX, LIMIT, LIMIT + 1, 1 << 32, (1 << 32) + 1, 1 << 63]),
     }
@@ -362,6 +365,8 @@ impl Course {
                 self.bytes(few + 2) + rng.index(2)
             }
             9 => rng.index(300),
+            // About the longest record, and a few of them.
+            10 => 129 * rng.index(4) + rng.index(5),
             _ => 3_000,
         }
     }
@@ -476,9 +481,10 @@ impl Course {
 
 /// A count so near the limit that it may be reached while it grows by `most`.
 fn near_limit(rng: &mut Rng, most: u64) -> u64 {
-    let below = match rng.below(6) {
+    let below = match rng.below(8) {
         0 => rng.below(4),
         1 => rng.below(30),
+        2 => rng.pick(&EDGES),
         _ => rng.below(most.min(3_000) + 1),
     };
     LIMIT - below
@@ -558,7 +564,11 @@ fn schedule(tools: &mut Tools, subject: &Subject, rng: &mut Rng) {
     while !ended(stop) {
         let way = rng.pick(&[Way::Directly, Way::FromMark, Way::ByHost]);
         let room = rng.between(n + 1, 6_000) as usize;
-        let budget = rng.pick(&[u64::MAX, 700, 5_000, 20_000]);
+        let mut budget = rng.pick(&[u64::MAX, 700, 5_000, 20_000]);
+        if begin == Search::fresh(subject.task) && rng.one_in(2) {
+            // All trials that are left, or one fewer or more.
+            budget = subject.trials() - course.made + rng.below(3) - 1;
+        }
         stop = course.slice(tools, subject, way, (budget, room));
     }
     finish(tools, subject, &begin, &course, stop);
