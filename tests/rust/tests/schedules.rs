@@ -531,6 +531,9 @@ fn any_begin(tools: &mut Tools, subject: &Subject, rng: &mut Rng) -> Search {
             _ => rng.between(1, n),
         };
         search = Search::at(task, &member[..len], c);
+    } else if rng.one_in(4) {
+        // Any first atom, and the end.
+        search.next = rng.between(1, n + 1);
     }
     put_counts(subject, rng, &mut search);
     search
@@ -589,10 +592,9 @@ fn finish(tools: &mut Tools, subject: &Subject, begin: &Search, course: &Course,
     let [trials, extensions, listed] = course.search.counts();
     assert_eq!(trials - begin.trials, course.made);
     assert_eq!(listed - begin.listed, course.at as u64);
-    let kind = if subject.task == Task::Rings {
-        "rings"
-    } else {
-        "paths"
+    let kind = match subject.task {
+        Task::Rings => "rings",
+        Task::Paths { .. } => "paths",
     };
     tools.seen.add(format!("schedules of {kind} to {stop:?}"));
     if stop == Stop::Limit {
@@ -617,10 +619,7 @@ fn every_kind_of_place() {
     ];
     let schedules = sum_of_parts(&parts, schedules_of);
     println!("{schedules} schedules in all");
-    assert!(
-        sample() > 1 || schedules >= 20_000,
-        "only {schedules} schedules"
-    );
+    assert!(sample() > 1 || schedules >= 20_000, "only {schedules}");
 }
 
 /// The schedules of one seed.

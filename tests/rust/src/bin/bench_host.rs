@@ -384,9 +384,10 @@ fn above_aim(rows: &[Row]) -> String {
         return String::new();
     }
     format!(
-        "\nAbove {AIM} of `{}`, with the ratio and the share of the fixed cost in the entry's time: {}. A small molecule pays \
-         the fixed cost of a call, most of `resume`: the sheet is read and its record checked, the table of its words made, \
-         the mark saved. Besides, the entry counts trials and can stop before any of them, which `{0}` cannot.\n",
+        "\nAbove {AIM} of `{}`, with the ratio and the share of the entry's time that a call with budget 0 and no mark takes: \
+         {}. A small molecule pays this fixed cost of a call, most of `resume`: the sheet is read and its record checked, the \
+         table of its words made, the mark saved. Besides, the entry counts trials and can stop before any of them, which \
+         `{0}` does not.\n",
         LISTERS[0].name,
         above.join("; "),
     )
