@@ -48,7 +48,11 @@ fn picture(molecules: usize, listers: usize, lengths: usize, most: f64) -> Pictu
             axis: "ratio of times (no unit)".to_string(),
             names: (0..molecules).map(name).collect(),
             series,
-            marks: vec![(1.0, "one".to_string()), (1.2, "the aim".to_string())],
+            marks: vec![
+                (0.75, "an aim below one".to_string()),
+                (1.0, "one".to_string()),
+                (1.1, "an aim above one".to_string()),
+            ],
         },
         notes: vec!["a note".to_string(), "another".to_string()],
     }

@@ -5,16 +5,16 @@
 //!
 //! All take a bond sheet and give the joined records. `lister` is the
 //! Rust lister of the same method (sets as two words, one sweep for each open
-//! beginning), which takes only the atoms that list or open; `stepper` goes
-//! trial by trial as document 01 counts them. They take turns, and of each the
-//! best time counts.
+//! beginning), which takes only the atoms that list or open; `best` is the same
+//! with fewer and shorter sweeps; `stepper` goes trial by trial as document 01
+//! counts them. They take turns, and of each the best time counts.
 
 use std::path::PathBuf;
 use std::time::Instant;
 
 use flat_tests::model::list::Task;
 use flat_tests::model::machine::Stop;
-use flat_tests::model::{lister, sheet, Record};
+use flat_tests::model::{best, lister, sheet, Record};
 use flat_tests::plot::bars::{BarPanel, Series};
 use flat_tests::plot::lines::{Line, LinePanel};
 use flat_tests::plot::Picture;
@@ -30,8 +30,8 @@ const SAMPLE: f64 = 0.002;
 const LENGTHS: [u64; 5] = [100, 1_000, 10_000, 100_000, 1_000_000];
 /// Listings of more calls than this are not timed.
 const MOST_CALLS: u64 = 20_000;
-/// The ratio to the first lister that is aimed for.
-const AIM: f64 = 1.2;
+/// The ratio to the first lister that no molecule is to exceed.
+const AIM: f64 = 1.0;
 const DONE: u32 = 101;
 const MARK: usize = 599;
 
@@ -39,6 +39,8 @@ const MARK: usize = 599;
 struct Lister {
     name: &'static str,
     about: &'static str,
+    /// What the geometric mean of the ratios is not to exceed.
+    aim: Option<f64>,
     run: fn(&Record, &mut [u8]),
 }
 
@@ -47,13 +49,23 @@ const LISTERS: &[Lister] = &[
     Lister {
         name: "lister",
         about: "takes only the atoms that list or open",
+        aim: Some(0.75),
         run: |record, _| {
             black_box(lister::list(record, Task::Rings));
         },
     },
     Lister {
+        name: "best",
+        about: "also omits the sweeps that decide nothing",
+        aim: Some(1.1),
+        run: |record, _| {
+            black_box(best::list(record, Task::Rings));
+        },
+    },
+    Lister {
         name: "stepper",
         about: "goes trial by trial",
+        aim: None,
         run: |record, out| {
             black_box(stepper::run(record, u64::MAX, out));
         },
@@ -75,6 +87,8 @@ struct Row {
     entry: f64,
     /// Of each of the listers.
     listers: Vec<f64>,
+    /// A call with budget 0 and no mark: the fixed cost of the entry.
+    call: f64,
     /// A call with budget 0 from a mark halfway.
     resume: f64,
     /// The whole listing in runs of each length; none where they are too many.
@@ -177,6 +191,10 @@ fn checked(molecule: &Molecule) -> (Case<'_>, Row) {
     let record = sheet::read(sheet).expect("a sheet");
     let expected = lister::list(&record, Task::Rings);
     let trials = record.atoms * (expected.extensions + 1);
+    let again = best::list(&record, Task::Rings);
+    assert!(again.sheet == expected.sheet, "the records of best");
+    let counts = (again.extensions, again.listed);
+    assert_eq!(counts, (expected.extensions, expected.listed));
     let mut out = vec![0; expected.sheet.len()];
     let stepped = stepper::run(&record, u64::MAX, &mut out);
     assert_eq!((stepped.stop, stepped.trials), (Stop::Done, trials));
@@ -195,6 +213,7 @@ fn checked(molecule: &Molecule) -> (Case<'_>, Row) {
         trials,
         entry: f64::MAX,
         listers: vec![f64::MAX; LISTERS.len()],
+        call: f64::MAX,
         resume: f64::MAX,
         runs: [None; LENGTHS.len()],
     };
@@ -226,6 +245,9 @@ fn round(case: &mut Case, row: &mut Row, times: u32) {
             (lister.run)(&record, out);
         }));
     }
+    row.call = row.call.min(time(100, || {
+        host::resume(black_box(sheet), &[], 0, out, &mut next);
+    }));
     row.resume = row.resume.min(time(100, || {
         host::resume(sheet, black_box(halfway), 0, out, &mut next);
     }));
@@ -272,6 +294,11 @@ fn millions(number: f64) -> String {
 fn geometric_mean(values: impl Iterator<Item = f64>) -> f64 {
     let logs: Vec<f64> = values.map(f64::ln).collect();
     (logs.iter().sum::<f64>() / logs.len() as f64).exp()
+}
+
+/// The geometric mean of the ratios to a lister.
+fn mean_ratio(rows: &[Row], lister: usize) -> f64 {
+    geometric_mean(rows.iter().map(|row| row.ratio(lister)))
 }
 
 /// A line of a table.
@@ -328,9 +355,12 @@ fn summary(rows: &[Row]) -> String {
     let entry: f64 = rows.iter().map(|row| row.entry).sum();
     let trials: f64 = rows.iter().map(|row| row.trials as f64).sum();
     let ratios = LISTERS.iter().enumerate().map(|(number, lister)| {
-        let mean = geometric_mean(rows.iter().map(|row| row.ratio(number)));
+        let (name, mean) = (lister.name, mean_ratio(rows, number));
         let added = entry / rows.iter().map(|row| row.listers[number]).sum::<f64>();
-        format!("entry / {} {mean:.2} and {added:.2}", lister.name)
+        match lister.aim {
+            Some(aim) => format!("entry / {name} {mean:.2} (aim {aim}) and {added:.2}"),
+            None => format!("entry / {name} {mean:.2} and {added:.2}"),
+        }
     });
     format!(
         "\nOver the set, as the geometric mean of the ratios and with all times added: {}; \
@@ -345,16 +375,19 @@ fn above_aim(rows: &[Row]) -> String {
     let above: Vec<_> = rows
         .iter()
         .filter(|row| row.ratio(0) > AIM)
-        .map(|row| row.name.as_str())
+        .map(|row| {
+            let share = 100.0 * row.call / row.entry;
+            format!("{} ({:.2}; {share:.0} %)", row.name, row.ratio(0))
+        })
         .collect();
     if above.is_empty() {
         return String::new();
     }
     format!(
-        "\nAbove {AIM} of `{}`: {}. The entry keeps a search that can stop before any trial: it counts trials, tests the \
-         four stops at each atom that lists or opens, walks the present beginning's atoms for its sets, and makes the sets \
-         anew when it comes back to a beginning, where `lister` has them on its stack. A small molecule also pays the fixed \
-         cost of a call, most of `resume`.\n",
+        "\nAbove {AIM} of `{}`, with the ratio and the share of the entry's time that a call with budget 0 and no mark takes: \
+         {}. A small molecule pays this fixed cost of a call, most of `resume`: the sheet is read and its record checked, the \
+         table of its words made, the mark saved. Besides, the entry counts trials and can stop before any of them, which \
+         `{0}` does not.\n",
         LISTERS[0].name,
         above.join("; "),
     )
@@ -378,12 +411,33 @@ fn length_table(rows: &[Row]) -> String {
     text
 }
 
+/// The line of equal times and those of the aims, from the lowest.
+fn marks() -> Vec<(f64, String)> {
+    let first = LISTERS[0].name;
+    let equal = format!("{AIM}: equally fast; the aim for each molecule against {first}");
+    let mut marks = vec![(AIM, equal)];
+    for lister in LISTERS {
+        if let Some(aim) = lister.aim {
+            let text = format!("{aim}: the aim for the mean against {}", lister.name);
+            marks.push((aim, text));
+        }
+    }
+    marks.sort_by(|one, other| one.0.total_cmp(&other.0));
+    marks
+}
+
 /// The picture of both tables.
 fn picture(rows: &[Row]) -> Picture {
     let series = LISTERS.iter().enumerate().map(|(number, lister)| Series {
         about: format!("against {}, which {}", lister.name, lister.about),
-        values: rows.iter().map(|row| row.ratio(number)).collect(),
+        values: rows
+            .iter()
+            .map(|row| row.ratio(number))
+            .chain([mean_ratio(rows, number)])
+            .collect(),
     });
+    let mut names: Vec<String> = rows.iter().map(|row| row.name.clone()).collect();
+    names.push("geometric mean".to_string());
     let mut lines: Vec<Line> = rows.iter().map(Row::line).collect();
     lines.retain(|line| !line.points.is_empty());
     lines.sort_by_key(|line| line.points.len() < 2);
@@ -392,12 +446,9 @@ fn picture(rows: &[Row]) -> Picture {
             title: "A whole listing in one run: time of the host entry / time of a Rust lister"
                 .to_string(),
             axis: "ratio of times (no unit; below 1 the host entry is faster)".to_string(),
-            names: rows.iter().map(|row| row.name.clone()).collect(),
+            names,
             series: series.collect(),
-            marks: vec![
-                (1.0, "1: equally fast".to_string()),
-                (AIM, format!("{AIM}: the aim against {}", LISTERS[0].name)),
-            ],
+            marks: marks(),
         },
         lines: LinePanel {
             title: "A whole listing cut into runs: time of the host entry / its time in one run"
@@ -418,8 +469,11 @@ fn main() {
     let mut rows = Vec::new();
     for molecule in molecules() {
         let row = measure(&molecule);
-        let name = LISTERS[0].name;
-        eprintln!("{:21} entry / {name} {:6.2}", row.name, row.ratio(0));
+        eprint!("{:21}", row.name);
+        for (number, lister) in LISTERS.iter().enumerate() {
+            eprint!(" entry / {} {:6.2}", lister.name, row.ratio(number));
+        }
+        eprintln!();
         rows.push(row);
     }
     let folder = PathBuf::from(concat!(env!("CARGO_MANIFEST_DIR"), "/../../target/bench"));

@@ -1,6 +1,7 @@
 //! The model: the rules of the scope document in plain Rust. It shares
 //! nothing with the library.
 
+pub mod best;
 pub mod field;
 pub mod host;
 pub mod judge;

@@ -185,14 +185,15 @@ impl BarPanel {
         }
     }
 
-    /// Lines across the bars. Their labels stand above the frame, each in its
-    /// own row and right of its line, that of the least number uppermost.
+    /// Lines across the bars, that at 1 unbroken. Their labels stand above the
+    /// frame, each in its own row and right of its line, that of the least
+    /// number uppermost.
     fn marks(&self, drawing: &mut Drawing, place: &Place) {
         let frame = place.frame;
         for (number, (value, text)) in self.marks.iter().enumerate() {
             let rows = (self.marks.len() - number) as f64;
             let (x, y) = (place.x(*value), frame.top - ROW * rows);
-            let dash = if number == 0 { "none" } else { "6 3" };
+            let dash = if *value == 1.0 { "none" } else { "6 3" };
             let stroke = format!(r#"stroke="black" stroke-width="1.2" stroke-dasharray="{dash}""#);
             drawing.line((x, y), (x, frame.bottom), &stroke);
             drawing.label((x + 5.0, y + 11.0), Anchor::Start, SMALL, text);

@@ -1,0 +1,238 @@
+//! A faster lister of the same method: the sets of atoms are handed down a
+//! recursion, an open beginning with one candidate and no member has no sweep,
+//! the second atoms of a ring are found once as a set, and a sweep ends once
+//! every candidate is decided.
+
+use super::list::Task;
+use super::lister::Listing;
+use super::Record;
+
+/// A set of atoms; atom v is bit v - 1.
+type Set = u128;
+
+/// Bytes of a short record, which are copied at once.
+const SHORT: usize = 32;
+
+fn single(v: usize) -> Set {
+    1 << (v - 1)
+}
+
+/// The atoms above v.
+fn above(v: usize) -> Set {
+    !(single(v) | (single(v) - 1))
+}
+
+/// The lowest atom of a set that is not empty.
+fn lowest(set: Set) -> usize {
+    set.trailing_zeros() as usize + 1
+}
+
+struct Lister {
+    /// The neighbours of each atom; those of atom v at place v - 1.
+    bonded: [Set; 128],
+    /// A record: its length, then the beginning at hand.
+    list: [u8; 129],
+    listing: Listing,
+}
+
+impl Lister {
+    fn near(&self, v: usize) -> Set {
+        self.bonded[(v - 1) & 127]
+    }
+
+    /// The neighbours of all atoms of a set, by its lower and its upper half.
+    fn near_any(&self, set: Set) -> Set {
+        let mut near = 0;
+        let (mut low, mut high) = (set as u64, (set >> 64) as u64);
+        while low != 0 {
+            near |= self.near(low.trailing_zeros() as usize + 1);
+            low &= low - 1;
+        }
+        while high != 0 {
+            near |= self.near(high.trailing_zeros() as usize + 65);
+            high &= high - 1;
+        }
+        near
+    }
+
+    /// The atoms of `want` that are bonded to an atom of `goal`, or to one of
+    /// `free` from which an atom of `goal` is reached through such atoms.
+    fn reaching(&self, want: Set, goal: Set, mut free: Set) -> Set {
+        let (mut found, mut new) = (0, goal);
+        while new != 0 && found != want {
+            let near = self.near_any(new);
+            found |= near & want;
+            new = near & free;
+            free &= !near;
+        }
+        found
+    }
+
+    /// Lists the member of the `len` atoms at hand and v.
+    fn member(&mut self, len: usize, v: usize) {
+        self.list[0] = len as u8 + 1;
+        self.list[len + 1] = v as u8;
+        let sheet = &mut self.listing.sheet;
+        let end = sheet.len() + len + 2;
+        if len + 2 <= SHORT {
+            sheet.extend_from_slice(&self.list[..SHORT]);
+            sheet.truncate(end);
+        } else {
+            sheet.extend_from_slice(&self.list[..len + 2]);
+        }
+        self.listing.listed += 1;
+    }
+
+    /// Adds v, which opens, to the `len` atoms at hand.
+    fn open(&mut self, len: usize, v: usize) {
+        self.list[len + 1] = v as u8;
+        self.listing.extensions += 1;
+    }
+
+    /// Lists all members that begin with the `len` atoms at hand, an open
+    /// beginning whose last atom is x. An atom of `goal` may come last, and one
+    /// of `free` between.
+    fn extend(&mut self, mut len: usize, mut x: usize, mut goal: Set, mut free: Set) {
+        let (members, want) = loop {
+            let near = self.near(x);
+            let (members, want) = (goal & near, free & near);
+            goal &= !near;
+            free &= !near;
+            if members != 0 || want & (want - 1) != 0 {
+                break (members, want);
+            }
+            // No member and one candidate: it opens.
+            x = lowest(want);
+            self.open(len, x);
+            len += 1;
+        };
+        let mut rest = members;
+        if want != 0 && goal != 0 {
+            rest |= self.reaching(want, goal, free);
+        }
+        while rest != 0 {
+            let v = lowest(rest);
+            if members & rest & rest.wrapping_neg() != 0 {
+                self.member(len, v);
+            } else {
+                self.open(len, v);
+                self.extend(len + 1, v, goal, free);
+            }
+            rest &= rest - 1;
+        }
+    }
+
+    /// Of `ends`, the atoms bonded to the first atom and above it, those that
+    /// open as a second atom: a higher one is reached from them through `free`.
+    /// One sweep from the highest on, in which no atom of `free` comes twice.
+    fn seconds(&self, ends: Set, mut free: Set) -> Set {
+        let (mut opens, mut below, mut new) = (0, ends, 0);
+        loop {
+            if new == 0 && below != 0 {
+                new = 1 << (127 - below.leading_zeros());
+                below ^= new;
+            }
+            if below & !opens == 0 {
+                return opens;
+            }
+            let near = self.near_any(new);
+            opens |= near & below;
+            new = near & free;
+            free &= !near;
+        }
+    }
+
+    /// All rings, by their first and second atoms.
+    fn rings(&mut self, n: usize) {
+        for s in 1..=n {
+            let (ends, free) = (self.near(s) & above(s), above(s) & !self.near(s));
+            let mut rest = self.seconds(ends, free);
+            if rest != 0 {
+                self.open(0, s);
+            }
+            while rest != 0 {
+                let a = lowest(rest);
+                self.open(1, a);
+                self.extend(2, a, ends & above(a), free);
+                rest &= rest - 1;
+            }
+        }
+    }
+
+    /// All paths from s to t.
+    fn paths(&mut self, s: usize, t: usize) {
+        let (goal, free) = (single(t), !(single(s) | single(t)));
+        if self.reaching(single(s), goal, free) != 0 {
+            self.open(0, s);
+            self.extend(1, s, goal, free);
+        }
+    }
+}
+
+/// All members in dictionary order, and the number of open beginnings but the
+/// empty one, of a lawful record.
+pub fn list(record: &Record, task: Task) -> Listing {
+    let mut lister = Lister {
+        bonded: [0; 128],
+        list: [0; 129],
+        listing: Listing::default(),
+    };
+    for (row, set) in record.rows.chunks_exact(16).zip(&mut lister.bonded) {
+        *set = Set::from_le_bytes(row.try_into().expect("16 bytes"));
+    }
+    match task {
+        Task::Rings => lister.rings(record.atoms as usize),
+        Task::Paths { s, t } => lister.paths(s.into(), t.into()),
+    }
+    lister.listing
+}
+
+#[cfg(test)]
+mod tests {
+    use super::*;
+    use crate::model::lister;
+    use crate::rng::Rng;
+    use crate::{examples, generate, sample, sampled};
+
+    fn agree(record: &Record, task: Task) {
+        let (best, plain) = (list(record, task), lister::list(record, task));
+        assert!(best.sheet == plain.sheet, "{task:?} of {record:?}");
+        assert_eq!(best.extensions, plain.extensions);
+        assert_eq!(best.listed, plain.listed);
+    }
+
+    /// The same as the lister, on rings and on paths.
+    #[test]
+    fn agrees_with_the_lister() {
+        for name in examples::NAMES {
+            let record = examples::record(name);
+            if record.atoms < 60 || sample() == 1 {
+                agree(&record, Task::Rings);
+                agree(&record, Task::Paths { s: 1, t: 4 });
+                agree(&record, Task::Paths { s: 5, t: 2 });
+            }
+        }
+        for case in 0..sampled(10_000) {
+            let mut rng = Rng::of_case(0x42_4553_5431, case);
+            let molecule = match case % 8 {
+                0 => {
+                    let n = rng.between(20, 128);
+                    let m = n + rng.below(12);
+                    generate::random_molecule(&mut rng, n, m)
+                }
+                1 => {
+                    let n = rng.between(8, 14);
+                    let m = rng.between(0, n * (n - 1) / 2);
+                    generate::random_molecule(&mut rng, n, m)
+                }
+                _ => generate::any_searched(&mut rng),
+            };
+            let record = molecule.record();
+            agree(&record, Task::Rings);
+            if record.atoms >= 2 {
+                let (s, t) = generate::any_ends(&mut rng, record.atoms);
+                agree(&record, Task::of(record.atoms, 1, s, t).expect("two atoms"));
+            }
+        }
+    }
+}
