@@ -39,7 +39,7 @@ module _ (F : Family) (L : Lawful F) where
   open-empty = refl
 
   -- A beginning of an open one is open
-  open-take : (k : ℕ) (w : List ℕ) → isOpen F w ≡ true → isOpen F (take k w) ≡ true
+  pub open-take : (k : ℕ) (w : List ℕ) → isOpen F w ≡ true → isOpen F (take k w) ≡ true
   open-take zero w e = open-empty
   open-take (suc k) [] e = open-empty
   open-take (suc k) (x ∷ p) e = open-append x (take k p) (drop k p) (rw (take-append-drop k p) e)

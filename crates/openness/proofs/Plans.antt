@@ -1,12 +1,12 @@
 -- The plan of a beginning, from what is found at each kind and length.
--- A beginning of at most one atom has its next atom alone; a longer one has every atom.
-use Prim.Native.Nat.{ℕ, _≤_}
+-- The empty beginning has its next atom alone; a longer one has every atom.
+use Prim.Native.Nat.{ℕ, _≤_, _<_}
 use native.Mathlib.Omega.{arith}
 use mathlib.Core.Path.{_≡_, refl, sym, _∙_}
 use mathlib.Core.Bool.{Bool, true, false, cond, and-true, and-false}
-use mathlib.Core.List.{List, [], _∷_, _++_}
+use mathlib.Core.List.{List, [], _∷_}
 use mathlib.Core.Logic.{inl, inr}
-use lib.ListN.{length, take}
+use lib.ListN.{take}
 use lib.Seq.{take-suc}
 use lib.Dec.{eqb}
 use borrow.Author.Tests.{eq-eqb, ne-eqb}
@@ -21,8 +21,8 @@ use Rattle.atomset.specs.Set.{has, linkedBy}
 use Rattle.search.specs.Place.{kindKept, endsKept}
 use Rattle.search.proofs.Readings.{kind-facts, KindFacts, ends-facts, ends-of}
 use Rattle.openness.specs.declared.Plan.{Plan}
-use Rattle.openness.specs.Plan.{familyBy, Planned, Beginning}
-use Rattle.openness.specs.Parts.{RingBegun, PathBegun, OneAtom, TwoAtoms, TwoEnds, Everywhere, Alone}
+use Rattle.openness.specs.Plan.{familyBy, firstLength, Planned, Everywhere, Beginning}
+use Rattle.openness.specs.Parts.{OneAtom, TwoEnds, Alone}
 use Rattle.openness.proofs.Arrays.{open-atoms}
 
 -- ---- the family of a kind
@@ -72,15 +72,15 @@ pub alone-no :
 alone-no {c = c} e f = record { no-member = f; one-opens = λ v. f v ∙ sym (rw e (and-false (eqb v c))) }
 
 planned-alone :
-    {F : Family} {p : List ℕ} {c : ℕ} {opening : Bool} {plan : Plan} → length p ≤ 1 → F .member (p ++ c ∷ []) ≡ false →
-    opening ≡ isOpen F (p ++ c ∷ []) → Alone opening c plan → Planned F p c plan
-planned-alone {c = c} h m o k =
+    {F : Family} {c : ℕ} {opening : Bool} {plan : Plan} → F .member (c ∷ []) ≡ false → opening ≡ isOpen F (c ∷ []) →
+    Alone opening c plan → Planned F [] c plan
+planned-alone {c = c} m o k =
     record {
       next = record { members = k .no-member c ∙ sym m; opens = k .one-opens c ∙ rw (eq-eqb c c refl) o };
       every = λ g. absurd (omega arith);
     }
 
-planned-every : {F : Family} {p : List ℕ} {c : ℕ} {plan : Plan} → Everywhere F p plan → Planned F p c plan
+pub planned-every : {F : Family} {p : List ℕ} {c : ℕ} {plan : Plan} → Everywhere F p plan → Planned F p c plan
 planned-every {c = c} f = record { next = f c; every = λ h v. f v }
 
 -- ---- at an open beginning
@@ -96,88 +96,51 @@ module _ {n : ℕ} {table : List ℕ} {kind s t : ℕ} {prefix : List ℕ} {len 
   one-taken : {a : ℕ} → len ≡ 1 → a ≡ atomAt prefix 0 → take len prefix ≡ a ∷ []
   one-taken e f = rw (e, f) (take-suc prefix 0 0 (omega (arith, b .size)))
 
-  -- its first atom
-  pub first-atom : {a : ℕ} → len ≡ 1 → a ≡ atomAt prefix 0 → (1 ≤ a) × (a ≤ n)
-  first-atom e f =
-      let L = family-by-lawful n table kind s t in
-      let short : len ≤ 128 = omega (arith, b .short) in
-      rw f (open-atoms prefix len L (family-by-atoms n table kind s t) (b .size) short (b .isOpened) 0 (omega arith))
-
-  -- the next atom, alone or after a first one
-  pub next-alone : {c : ℕ} → 1 ≤ c → c ≤ n → (1 ≤ c) × (c ≤ 128)
-  next-alone low high = (low, omega (arith, b .words .few))
-
-  pub next-first : {c : ℕ} → 1 ≤ c → c ≤ n → OneAtom n table c
-  next-first low high = record { words = b .words; low = low; high = high }
-
-  pub next-second : {a c : ℕ} → len ≡ 1 → a ≡ atomAt prefix 0 → 1 ≤ c → c ≤ n → TwoAtoms n table a c
-  next-second e f low high =
-      let first = first-atom e f in
-      record {
-        words = b .words;
-        first-low = first .0;
-        first-high = first .1;
-        second-low = low;
-        second-high = high;
-      }
-
   -- a ring search
   module _ (e : kind ≡ 0) where
-    pub begun-ring : 2 ≤ len → RingBegun n table prefix len
-    begun-ring long =
-        record {
-          long = long;
-          opened = record {
-            words = b .words;
-            size = b .size;
-            short = b .short;
-            isOpened = rw (← family-rings n table kind s t e) (b .isOpened);
-          };
-        }
-
     pub planned-ring-start :
         {c : ℕ} {opening : Bool} {plan : Plan} → len ≡ 0 → opening ≡ isOpen (rings n (linkedBy table)) (c ∷ []) →
         Alone opening c plan → PlannedHere c plan
     planned-ring-start {c} z o k =
         let short = ring-not-short n (linkedBy table) [] c (omega arith) in
-        rw (family-rings n table kind s t e, none-taken z) (planned-alone (omega arith) short o k)
+        rw (family-rings n table kind s t e, none-taken z) (planned-alone short o k)
 
-    pub planned-ring-pair :
-        {a c : ℕ} {opening : Bool} {plan : Plan} → len ≡ 1 → a ≡ atomAt prefix 0 →
-        opening ≡ isOpen (rings n (linkedBy table)) (a ∷ c ∷ []) → Alone opening c plan → PlannedHere c plan
-    planned-ring-pair {a} {c} z f o k =
-        let short = ring-not-short n (linkedBy table) (a ∷ []) c (omega arith) in
-        rw (family-rings n table kind s t e, one-taken z f) (planned-alone (omega arith) short o k)
+    -- at a beginning of one atom
+    module _ (before : len < firstLength kind) (d : len ≡ 0 → ⊥) {a : ℕ} (f : a ≡ atomAt prefix 0) where
+      one : len ≡ 1
+      one = let few : len < 2 = rw (eq-eqb kind 0 e) at before in omega arith
 
-    pub planned-rings :
-        {c : ℕ} {plan : Plan} → Everywhere (rings n (linkedBy table)) (take len prefix) plan → PlannedHere c plan
-    planned-rings f = rw (family-rings n table kind s t e) (planned-every f)
+      pub first-atom : OneAtom n table a
+      first-atom =
+          let L = family-by-lawful n table kind s t in
+          let short : len ≤ 128 = omega (arith, b .short) in
+          let first : 0 < len = omega (arith, one) in
+          let (low, high) =
+          open-atoms prefix len L (family-by-atoms n table kind s t) (b .size) short (b .isOpened) 0 first in
+          record { words = b .words; low = rw f low; high = rw f high }
 
-  -- a path search
+      pub planned-seconds :
+          {c : ℕ} {none opens : List ℕ} → ((v : ℕ) → has none v ≡ false) →
+          ((v : ℕ) → has opens v ≡ isOpen (rings n (linkedBy table)) (a ∷ v ∷ [])) →
+          PlannedHere c (record { members = none; opens = opens })
+      planned-seconds none-is opens-is =
+          rw (family-rings n table kind s t e, one-taken one f)
+          (planned-every
+          (λ v. record {
+            members = none-is v ∙ sym (ring-not-short n (linkedBy table) (a ∷ []) v (omega arith));
+            opens = opens-is v;
+          }))
+
+  -- a path search, at the empty beginning
   module _ (d : kind ≡ 0 → ⊥) where
     pub path-ends : TwoEnds n table s t
     path-ends = record { words = b .words; ends = kind-ends n table kind s t d (b .kinds) }
 
-    pub begun-path : 1 ≤ len → PathBegun n table s t prefix len
-    begun-path long =
-        record {
-          long = long;
-          ends = path-ends .ends;
-          opened = record {
-            words = b .words;
-            size = b .size;
-            short = b .short;
-            isOpened = rw (← family-paths n table kind s t d) (b .isOpened);
-          };
-        }
-
     pub planned-path-start :
-        {c : ℕ} {opening : Bool} {plan : Plan} → len ≡ 0 → opening ≡ isOpen (paths n (linkedBy table) s t) (c ∷ []) →
-        Alone opening c plan → PlannedHere c plan
-    planned-path-start {c} z o k =
+        {c : ℕ} {opening : Bool} {plan : Plan} → len < firstLength kind →
+        opening ≡ isOpen (paths n (linkedBy table) s t) (c ∷ []) → Alone opening c plan → PlannedHere c plan
+    planned-path-start {c} before o k =
+        let few : len < 1 = rw (ne-eqb kind 0 d) at before in
+        let none : len ≡ 0 = omega arith in
         let short = path-not-one n (linkedBy table) s t c (ends-facts n s t (path-ends .ends) .differ) in
-        rw (family-paths n table kind s t d, none-taken z) (planned-alone (omega arith) short o k)
-
-    pub planned-paths :
-        {c : ℕ} {plan : Plan} → Everywhere (paths n (linkedBy table) s t) (take len prefix) plan → PlannedHere c plan
-    planned-paths f = rw (family-paths n table kind s t d) (planned-every f)
+        rw (family-paths n table kind s t d, none-taken none) (planned-alone short o k)

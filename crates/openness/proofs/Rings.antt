@@ -1,141 +1,53 @@
--- The sets that a ring search computes tell members and open beginnings.
--- Each set is one of the tests of `chordless.specs.Reach`, and the sweep finds what those tests ask for.
-use Prim.Native.Nat.{ℕ, _+_, _≤_, _<_}
+-- Openness of a beginning of one atom or two of a ring, from what a sweep and the tests of a second atom tell.
+-- By `ring-opens-one` and `ring-opens-none`; a loop over the second atoms takes the lowest one each time.
+use Prim.Native.Nat.{ℕ, _≤_, _<_}
 use native.Mathlib.Omega.{arith}
 use mathlib.Core.Path.{_≡_, refl, sym, ap, _∙_}
-use mathlib.Core.Bool.{Bool, true, false, _&&_, not}
+use mathlib.Core.Bool.{Bool, true, false, _&&_, _||_, not, Bool·beq}
 use mathlib.Core.List.{List, [], _∷_}
-use lib.ListN.{length, take}
-use lib.Dec.{leb, ltb}
-use borrow.Author.Count.{below-more}
-use borrow.Author.Tests.{lt-ltb, le-leb}
-use Rattle.graph.specs.Chordless.{Adjacency, atomAt}
-use Rattle.graph.proofs.Below.{clash, false-of}
+use lib.Dec.{leb, ltb, eqb}
+use borrow.Author.Tests.{lt-ltb, ltb-true, le-leb, leb-true, eq-eqb, eqb-true}
+use Rattle.graph.proofs.Below.{clash, false-of, and-parts, same-test}
 use Rattle.enumeration.specs.Words.{isOpen}
 use Rattle.chordless.specs.Families.{rings}
-use Rattle.chordless.specs.Reach.{Irreflexive, Sweeps, clear, free, closing}
-use Rattle.chordless.specs.Reach.{touchesOnlyFirst, touchesOnlyLast, touchesOnlyEnds}
+use Rattle.chordless.specs.Reach.{RingOpens, clear, free, closing, touchesOnlyFirst}
 use Rattle.chordless.proofs.Touch.{touches-facts, touches-of}
 use Rattle.chordless.proofs.Rings.{ring-opens-one, ring-opens-none}
-use Rattle.chordless.proofs.Sweep.{ring-sweep, ring-sweep-one, ring-member}
-use Rattle.atomset.specs.Set.{has, linkedBy}
-use Rattle.sweep.specs.Swept.{Swept}
-use Rattle.sweep.proofs.Walks.{swept-same, swept-sweeps}
-use Rattle.openness.specs.declared.Plan.{Plan}
-use Rattle.openness.specs.Plan.{Tells}
-use Rattle.openness.specs.Parts.{Everywhere, RingBegun, OneAtom, TwoAtoms}
-use Rattle.openness.proofs.Arrays.{ring-length}
-use Rattle.openness.proofs.Sets.{Around, ends-set, first-set, last-set, clear-set, beq-yes}
+use Rattle.atomset.specs.Set.{has, linkedBy, Lowest, LowestLeft}
+use Rattle.atomset.proofs.Members.{has-range}
+use Rattle.sweep.specs.Swept.{Reached}
+use Rattle.sweep.proofs.Walks.{reached-same}
+use Rattle.sweep.proofs.Size.{size, smaller}
+use Rattle.openness.specs.Parts.{OneAtom, TwoAtoms, Seconds}
 
--- ---- a beginning of two atoms or more
-
--- what its plan is made of: n, its first atom and its second,
--- and the atoms bonded to its first atom, to its inner atoms and to its last
-pub record RingParts : Type 0 where
-  pub n : ℕ
-  pub s : ℕ
-  pub a : ℕ
-  pub first : List ℕ
-  pub inner : List ℕ
-  pub last : List ℕ
-
--- v makes a ring: above the second atom, bonded to the first and the last alone
-abbrev pub isMember : RingParts → ℕ → Bool
-isMember k v = ltb (k .a) v && leb v (k .n) && (has (k .first) v && not (has (k .inner) v) && has (k .last) v)
-
--- v is a target: above the second atom, bonded to the first alone
-abbrev pub isTarget : RingParts → ℕ → Bool
-isTarget k v = ltb (k .a) v && leb v (k .n) && (has (k .first) v && not (has (k .inner) v) && not (has (k .last) v))
-
--- v is above the first atom, and bonded neither to it nor to an inner one
-abbrev pub isOff : RingParts → ℕ → Bool
-isOff k v = ltb (k .s) v && leb v (k .n) && not (has (k .first) v) && not (has (k .inner) v)
-
--- the sets that are computed from these
-pub record RingSets (adj : Adjacency) (p : List ℕ) (k : RingParts) (targets between swept : List ℕ) (plan : Plan)
-    : Type 0
-  where
-    pub around : Around adj p (k .first) (k .inner) (k .last)
-    pub first-is : k .s ≡ atomAt p 0
-    pub second-is : k .a ≡ atomAt p 1
-    pub members-is : (v : ℕ) → has (plan .members) v ≡ isMember k v
-    pub targets-is : (v : ℕ) → has targets v ≡ isTarget k v
-    pub between-is : (v : ℕ) → has between v ≡ (isOff k v && not (has (k .last) v))
-    pub swept-is : Swept adj (has between) (has targets) (has swept)
-    pub opens-is : (v : ℕ) → has (plan .opens) v ≡ (isOff k v && has (k .last) v && has swept v)
-
-regroup : (a b c d : Bool) → (a && b && c && d) ≡ (a && (b && c && d))
-regroup true b c d = refl
-regroup false b c d = refl
-
-module _ {adj : Adjacency} {p : List ℕ} {k : RingParts} {targets between swept : List ℕ} {plan : Plan}
-    (irr : Irreflexive (k .n) adj) (long : 2 ≤ length p) (opened : isOpen (rings (k .n) adj) p ≡ true)
-    (r : RingSets adj p k targets between swept plan) where
-  -- each set is one of the tests
-  member-test : (v : ℕ) → isMember k v ≡ (ltb (atomAt p 1) v && leb v (k .n) && touchesOnlyEnds adj p v)
-  member-test v = rw (ends-set (r .around) long v, r .second-is)
-
-  target-test : (v : ℕ) → isTarget k v ≡ closing (k .n) adj p (atomAt p 1) v
-  unfolding closing
-  target-test v = rw (first-set (r .around) long v, r .second-is)
-
-  between-test : (v : ℕ) → (isOff k v && not (has (k .last) v)) ≡ free (k .n) adj (atomAt p 0) p v
-  unfolding free
-  between-test v =
-      rw (clear-set (r .around) long v, r .first-is)
-      (regroup (ltb (atomAt p 0) v && leb v (k .n)) (not (has (k .first) v)) (not (has (k .inner) v))
-      (not (has (k .last) v)))
-
-  open-test :
-      (v : ℕ) → (isOff k v && has (k .last) v) ≡ (ltb (atomAt p 0) v && leb v (k .n) && touchesOnlyLast adj p v)
-  open-test v =
-      rw (last-set (r .around) long v, r .first-is)
-      (regroup (ltb (atomAt p 0) v && leb v (k .n)) (not (has (k .first) v)) (not (has (k .inner) v)) (has (k .last) v))
-
-  sweeps :
-      Sweeps (k .n) (atomAt p 0) adj (free (k .n) adj (atomAt p 0) p) (closing (k .n) adj p (atomAt p 1)) (has swept)
-  sweeps =
-      swept-sweeps (k .n) (atomAt p 0)
-      (swept-same (λ a b. refl) (λ v. r .between-is v ∙ between-test v) (λ v. r .targets-is v ∙ target-test v)
-      (r .swept-is))
-
-  sets-told : (v : ℕ) → Tells (rings (k .n) adj) p plan v
-  sets-told v =
-      record {
-        members = r .members-is v ∙ member-test v ∙ sym (ring-member (k .n) adj p v long opened);
-        opens =
-            r .opens-is v ∙ ap (λ (b : Bool). b && has swept v) (open-test v) ∙
-            sym (ring-sweep (k .n) adj irr p (has swept) long opened sweeps v);
-      }
-
--- the sets of an open beginning tell of every atom
-pub ring-told :
-    {table prefix : List ℕ} {len : ℕ} {k : RingParts} {targets between swept : List ℕ} {plan : Plan} →
-    RingBegun (k .n) table prefix len → RingSets (linkedBy table) (take len prefix) k targets between swept plan →
-    Everywhere (rings (k .n) (linkedBy table)) (take len prefix) plan
-ring-told b r = sets-told (b .opened .words .irreflexive) (ring-length b) (b .opened .isOpened) r
-
--- ---- a beginning of one atom
+-- ---- two atoms
 
 module _ {n : ℕ} {table : List ℕ} {s : ℕ} (b : OneAtom n table s) (v : ℕ) where
+  -- what a second atom that opens is
+  pair-opens : isOpen (rings n (linkedBy table)) (s ∷ v ∷ []) ≡ true → RingOpens n (linkedBy table) (s ∷ []) v v
+  pair-opens = ring-opens-one n (linkedBy table) (b .words .irreflexive) s v (b .low) .0
+
   pub pair-above : v ≤ s → isOpen (rings n (linkedBy table)) (s ∷ v ∷ []) ≡ false
   pair-above h =
-      false-of (isOpen (rings n (linkedBy table)) (s ∷ v ∷ []))
-      (λ e. omega (arith, ring-opens-one n (linkedBy table) (b .words .irreflexive) s v (b .low) .0 e .above))
+      false-of (isOpen (rings n (linkedBy table)) (s ∷ v ∷ [])) (λ e. omega (arith, pair-opens e .above))
 
   pub pair-bonded : linkedBy table s v ≡ false → isOpen (rings n (linkedBy table)) (s ∷ v ∷ []) ≡ false
   pair-bonded h =
       false-of (isOpen (rings n (linkedBy table)) (s ∷ v ∷ []))
-      (λ e. let o = ring-opens-one n (linkedBy table) (b .words .irreflexive) s v (b .low) .0 e in
-      clash (linkedBy table s v) (touches-facts (linkedBy table) (s ∷ []) v (o .touches)) h)
+      (λ e. clash (linkedBy table s v) (touches-facts (linkedBy table) (s ∷ []) v (pair-opens e .touches)) h)
 
 pub first-of : {n : ℕ} {table : List ℕ} {s v : ℕ} → TwoAtoms n table s v → OneAtom n table s
 first-of b = record { words = b .words; low = b .first-low; high = b .first-high }
 
-module _ {n : ℕ} {table : List ℕ} {s v : ℕ} {targets between swept : ℕ → Bool} (b : TwoAtoms n table s v)
+beq-yes : (a : Bool) → Bool·beq a true ≡ a
+beq-yes true = refl
+beq-yes false = refl
+
+-- a sweep of which the second atom v is the sole candidate
+module _ {n : ℕ} {table : List ℕ} {s v : ℕ} {targets between want swept : ℕ → Bool} (b : TwoAtoms n table s v)
     (targets-is : (u : ℕ) → targets u ≡ (ltb v u && leb u n && linkedBy table s u))
     (between-is : (u : ℕ) → between u ≡ (ltb s u && leb u n && not (linkedBy table s u)))
-    (swept-is : Swept (linkedBy table) between targets swept) where
+    (want-is : (u : ℕ) → want u ≡ eqb u v) (swept-is : Reached (linkedBy table) between targets want swept) where
   between-one : (u : ℕ) → between u ≡ free n (linkedBy table) s (s ∷ []) u
   unfolding free clear
   between-one u = between-is u
@@ -144,45 +56,178 @@ module _ {n : ℕ} {table : List ℕ} {s v : ℕ} {targets between swept : ℕ �
   unfolding closing touchesOnlyFirst
   target-one u = targets-is u ∙ ap (λ (b : Bool). ltb v u && leb u n && b) (sym (beq-yes (linkedBy table s u)))
 
-  pub pair-told :
-      s < v → linkedBy table s v ≡ true → swept v ≡ isOpen (rings n (linkedBy table)) (s ∷ v ∷ [])
-  pair-told above bond =
-      let sweeps = swept-sweeps n s (swept-same (λ a b. refl) between-one target-one swept-is) in
-      let adj = linkedBy table in
-      sym (ring-sweep-one n adj (b .words .irreflexive) s v swept (b .first-low) sweeps ∙
-      rw (lt-ltb s v above, le-leb v n (b .second-high), touches-of adj (s ∷ []) v bond))
+  pub pair-told : s < v → linkedBy table s v ≡ true → swept v ≡ isOpen (rings n (linkedBy table)) (s ∷ v ∷ [])
+  pair-told above bond = same-test (swept v) (isOpen (rings n (linkedBy table)) (s ∷ v ∷ [])) to back
+    where
+      sweeps : Reached (linkedBy table) (free n (linkedBy table) s (s ∷ [])) (closing n (linkedBy table) (s ∷ []) v)
+          want swept
+      sweeps = reached-same (λ a b. refl) between-one target-one swept-is
 
--- ---- the empty beginning
+      to : swept v ≡ true → isOpen (rings n (linkedBy table)) (s ∷ v ∷ []) ≡ true
+      to e =
+          let (wanted, reaches) = sweeps v .0 e in
+          let (last, closes, walk) = reaches in
+          ring-opens-one n (linkedBy table) (b .words .irreflexive) s v (b .first-low) .1
+          (record {
+            above = above;
+            range = b .second-high;
+            touches = touches-of (linkedBy table) (s ∷ []) v bond;
+            last = last;
+            closes = closes;
+            reached = walk;
+          })
 
--- of the second atoms below a, none makes an open beginning with c
-pub record NoneTo (n : ℕ) (table : List ℕ) (c a : ℕ) : Type 0 where
-  pub above : c < a
-  pub within : a ≤ n + 1
-  pub none : (k : ℕ) → k < a → isOpen (rings n (linkedBy table)) (c ∷ k ∷ []) ≡ false
+      back : isOpen (rings n (linkedBy table)) (s ∷ v ∷ []) ≡ true → swept v ≡ true
+      back e =
+          let o = pair-opens (first-of b) v e in
+          sweeps v .1 (want-is v ∙ eq-eqb v v refl, (o .last, o .closes, o .reached))
 
-module _ {n : ℕ} {table : List ℕ} {c : ℕ} (b : OneAtom n table c) where
-  pub none-start : NoneTo n table c (c + 1)
-  none-start =
-      record { above = omega arith; within = omega (arith, b .high); none = λ k h. pair-above b k (omega arith) }
+-- ---- the second atoms
 
+-- the lowest atom v of a set is taken from it, and `rest` is left
+pub record TakesLowest (left rest : List ℕ) (v : ℕ) : Type 0 where
+  pub lowest : Lowest left v
+  pub rest-is : LowestLeft left rest
+
+module _ {left rest : List ℕ} {v : ℕ} (k : TakesLowest left rest v) where
+  pub taken-off : (u : ℕ) → has rest u ≡ (has left u && not (eqb u v))
+  taken-off = k .rest-is .others v (k .lowest)
+
+  taken-within : (u : ℕ) → has rest u ≡ true → has left u ≡ true
+  taken-within u e = and-parts (has left u) (not (eqb u v)) (sym (taken-off u) ∙ e) .0
+
+  -- without its lowest atom a set has fewer atoms
+  pub taken-fewer : size (has rest) 128 < size (has left) 128
+  taken-fewer =
+      let gone : has rest v ≡ false = rw (taken-off v, k .lowest .member, eq-eqb v v refl) in
+      smaller (has-range left) taken-within (k .lowest .member) gone
+
+-- `left` has every second atom that opens, and only atoms from 1 to n
+pub record SecondsLeft (n : ℕ) (table : List ℕ) (s : ℕ) (left : List ℕ) : Type 0 where
+  pub within : (v : ℕ) → has left v ≡ true → (1 ≤ v) × (v ≤ n)
+  pub every : (v : ℕ) → isOpen (rings n (linkedBy table)) (s ∷ v ∷ []) ≡ true → has left v ≡ true
+
+module _ {n : ℕ} {table : List ℕ} {s : ℕ} (b : OneAtom n table s) where
+  seconds-range : (all : List ℕ) → Seconds n table s all → (v : ℕ) → has all v ≡ true → (1 ≤ v) × (v ≤ n)
+  seconds-range all is v e =
+      let (range, bond) = and-parts (ltb s v && leb v n) (linkedBy table s v) (sym (is v) ∙ e) in
+      let (above, high) = and-parts (ltb s v) (leb v n) range in
+      let above′ = ltb-true s v above in
+      (omega arith, leb-true v n high)
+
+  seconds-all :
+      (all : List ℕ) → Seconds n table s all → (v : ℕ) →
+      isOpen (rings n (linkedBy table)) (s ∷ v ∷ []) ≡ true → has all v ≡ true
+  seconds-all all is v e =
+      let o = pair-opens b v e in
+      let bond = touches-facts (linkedBy table) (s ∷ []) v (o .touches) in
+      is v ∙ rw (lt-ltb s v (o .above), le-leb v n (o .range)) bond
+
+  pub seconds-left : {all : List ℕ} → Seconds n table s all → SecondsLeft n table s all
+  seconds-left {all} is = record { within = seconds-range all is; every = seconds-all all is }
+
+  pub second-pair :
+      {left : List ℕ} {v : ℕ} → ((u : ℕ) → has left u ≡ true → (1 ≤ u) × (u ≤ n)) → Lowest left v →
+      TwoAtoms n table s v
+  second-pair within k =
+      let (low, high) = within _ (k .member) in
+      record {
+        words = b .words;
+        first-low = b .low;
+        first-high = b .high;
+        second-low = low;
+        second-high = high;
+      }
+
+  -- one opens: some ring begins with s
   pub start-some :
-      (a : ℕ) → isOpen (rings n (linkedBy table)) (c ∷ a ∷ []) ≡ true →
-      isOpen (rings n (linkedBy table)) (c ∷ []) ≡ true
+      (a : ℕ) → isOpen (rings n (linkedBy table)) (s ∷ a ∷ []) ≡ true →
+      isOpen (rings n (linkedBy table)) (s ∷ []) ≡ true
   start-some a e =
-      let irr = b .words .irreflexive in
-      ring-opens-none n (linkedBy table) irr c .1 (a, b .low, ring-opens-one n (linkedBy table) irr c a (b .low) .0 e)
+      ring-opens-none n (linkedBy table) (b .words .irreflexive) s .1 (a, b .low, pair-opens b a e)
 
+  -- none is left: no ring begins with s
   pub start-none :
-      {a : ℕ} → NoneTo n table c a → n < a → isOpen (rings n (linkedBy table)) (c ∷ []) ≡ false
-  start-none {a} k h =
+      {left : List ℕ} → SecondsLeft n table s left → ((v : ℕ) → has left v ≡ false) →
+      isOpen (rings n (linkedBy table)) (s ∷ []) ≡ false
+  start-none {left} k none =
       let irr = b .words .irreflexive in
-      false-of (isOpen (rings n (linkedBy table)) (c ∷ []))
-      (λ e. let (v, low, o) = ring-opens-none n (linkedBy table) irr c .0 e in
-      clash (isOpen (rings n (linkedBy table)) (c ∷ v ∷ []))
-      (ring-opens-one n (linkedBy table) irr c v (b .low) .1 o) (k .none v (omega (arith, o .range))))
+      false-of (isOpen (rings n (linkedBy table)) (s ∷ []))
+      (λ e. let (v, low, o) = ring-opens-none n (linkedBy table) irr s .0 e in
+      clash (has left v) (k .every v (ring-opens-one n (linkedBy table) irr s v low .1 o)) (none v))
 
-pub none-more :
-    {n : ℕ} {table : List ℕ} {c a : ℕ} → NoneTo n table c a → a ≤ n →
-    isOpen (rings n (linkedBy table)) (c ∷ a ∷ []) ≡ false → NoneTo n table c (a + 1)
-none-more k h e =
-    record { above = omega (arith, k .above); within = omega arith; none = below-more _ _ (k .none) e }
+-- the lowest does not open
+pub seconds-less :
+    {n : ℕ} {table : List ℕ} {s : ℕ} {left rest : List ℕ} {v : ℕ} → SecondsLeft n table s left →
+    TakesLowest left rest v → isOpen (rings n (linkedBy table)) (s ∷ v ∷ []) ≡ false → SecondsLeft n table s rest
+seconds-less {n} {table} {s} {left} {rest} {v} k takes shut =
+    record { within = λ u e. k .within u (taken-within takes u e); every = every }
+  where
+    every : (u : ℕ) → isOpen (rings n (linkedBy table)) (s ∷ u ∷ []) ≡ true → has rest u ≡ true
+    every u e =
+        let differ : eqb u v ≡ false = false-of (eqb u v)
+        (λ same. clash (isOpen (rings n (linkedBy table)) (s ∷ v ∷ [])) (rw (eqb-true u v same) at e) shut) in
+        rw (taken-off takes u, k .every u e, differ)
+
+-- `found` has the second atoms that are still left to try, and of the others those that open
+pub record Sifted (n : ℕ) (table : List ℕ) (s : ℕ) (left found : List ℕ) : Type 0 where
+  pub within : (v : ℕ) → has left v ≡ true → (1 ≤ v) × (v ≤ n)
+  pub found-is : (v : ℕ) → has found v ≡ (has left v || isOpen (rings n (linkedBy table)) (s ∷ v ∷ []))
+
+pub sifted-start :
+    {n : ℕ} {table : List ℕ} {s : ℕ} {all : List ℕ} → OneAtom n table s → Seconds n table s all →
+    Sifted n table s all all
+sifted-start {n} {table} {s} {all} b is =
+    record {
+      within = seconds-range b all is;
+      found-is = λ v. or-within (has all v) (isOpen (rings n (linkedBy table)) (s ∷ v ∷ [])) (seconds-all b all is v);
+    }
+  where
+    or-within : (a o : Bool) → (o ≡ true → a ≡ true) → a ≡ (a || o)
+    or-within true o h = refl
+    or-within false true h = h refl
+    or-within false false h = refl
+
+module _ {n : ℕ} {table : List ℕ} {s : ℕ} {left found : List ℕ} (k : Sifted n table s left found) where
+  module _ {rest : List ℕ} {v : ℕ} (takes : TakesLowest left rest v) where
+    sifted-within : (u : ℕ) → has rest u ≡ true → (1 ≤ u) × (u ≤ n)
+    sifted-within u e = k .within u (taken-within takes u e)
+
+    -- the lowest opens
+    pub sifted-keeps : isOpen (rings n (linkedBy table)) (s ∷ v ∷ []) ≡ true → Sifted n table s rest found
+    sifted-keeps opens = record { within = sifted-within; found-is = found-is }
+      where
+        cases : (a o same : Bool) → (same ≡ true → o ≡ true) → (a || o) ≡ (a && not same || o)
+        cases true o true h = sym (h refl)
+        cases true o false h = refl
+        cases false o same h = refl
+
+        found-is : (u : ℕ) → has found u ≡ (has rest u || isOpen (rings n (linkedBy table)) (s ∷ u ∷ []))
+        found-is u =
+            rw (k .found-is u, taken-off takes u)
+            (cases (has left u) (isOpen (rings n (linkedBy table)) (s ∷ u ∷ [])) (eqb u v)
+            (λ same. rw (eqb-true u v same) opens))
+
+    -- it does not, and leaves `found`
+    pub sifted-drops :
+        {fewer : List ℕ} → isOpen (rings n (linkedBy table)) (s ∷ v ∷ []) ≡ false →
+        ((u : ℕ) → has fewer u ≡ (has found u && not (eqb u v))) → Sifted n table s rest fewer
+    sifted-drops {fewer} shut fewer-is = record { within = sifted-within; found-is = found-is }
+      where
+        cases : (a o same : Bool) → (same ≡ true → o ≡ false) → ((a || o) && not same) ≡ (a && not same || o)
+        cases true o true h = sym (h refl)
+        cases true o false h = refl
+        cases false true true h = sym (h refl)
+        cases false true false h = refl
+        cases false false same h = refl
+
+        found-is : (u : ℕ) → has fewer u ≡ (has rest u || isOpen (rings n (linkedBy table)) (s ∷ u ∷ []))
+        found-is u =
+            rw (fewer-is u, k .found-is u, taken-off takes u)
+            (cases (has left u) (isOpen (rings n (linkedBy table)) (s ∷ u ∷ [])) (eqb u v)
+            (λ same. rw (eqb-true u v same) shut))
+
+  -- none is left to try
+  pub sifted-end :
+      ((v : ℕ) → has left v ≡ false) → (v : ℕ) → has found v ≡ isOpen (rings n (linkedBy table)) (s ∷ v ∷ [])
+  sifted-end none v = k .found-is v ∙ rw (none v)

@@ -1,5 +1,5 @@
--- `openness::pair_opens` meets its contract: the tests of v, and then one sweep, by `pair-told`.
--- Where v is not above s, or not bonded to it, nothing opens.
+-- `openness::pair_opens` meets its contract: the tests of v, and then one sweep with v the sole candidate.
+-- By `pair-told`; where v is not above s, or not bonded to it, nothing opens.
 use Prim.Native.Nat.{ℕ}
 use mathlib.Core.Path.{_≡_, sym, _∙_}
 use mathlib.Core.Bool.{_&&_, not}
@@ -61,12 +61,13 @@ returns-3 c =
     let else1 : tie.Else1 = search in
     let else2 : tie.Else2 = search in
     c .contains2 .ensures ∙
-    pair-told (start .pre) (targets-is (search)) (between-is (search)) (c .before .sweep .ensures) (else1 .if1 .left)
-    (bonded (search) ∙ not-false _ (else2 .if2 .left))
+    pair-told (start .pre) (targets-is (search)) (between-is (search)) (c .before .before .single .ensures)
+    (c .before .reached .ensures) (else1 .if1 .left) (bonded (search) ∙ not-false _ (else2 .if2 .left))
 
 pub pair-opens-spec : {M : Type 1} → statement M
 pair-opens-spec =
     tie.close
     (tie.spec
     returns (λ c κs. search needs) (λ c κs. search needs) returns-2 (λ c κs. search needs) (λ c κs. search needs)
-    (λ c κs. search needs) (λ c κs. search needs) (λ c κs. search needs) (λ c κs. search needs) returns-3)
+    (λ c κs. search needs) (λ c κs. search needs) (λ c κs. search needs) (λ c κs. search needs) (λ c κs. search needs)
+    returns-3)
