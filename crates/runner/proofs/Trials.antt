@@ -285,7 +285,7 @@ module _ {T : Task} {out prefix : List ℕ} {at : Spot} {found : Plan} {stale : 
             let shorter = valid-short (T .family) (T .lawful) (stateAt prefix′ at′) valid′ in
             omega (arith, stack-length prefix′ (at′ .len) (a .within), old .few)
 
-        long : stale′ ≡ false → 2 ≤ length (take (at .len) prefix)
+        long : stale′ ≡ false → 1 ≤ length (take (at .len) prefix)
         long e =
             let room : at .len ≤ length prefix = omega (arith, old .standing .within .size, old .standing .short) in
             omega (arith, length-take-le (at .len) prefix room, fresh .same e, fresh .long e)

@@ -22,9 +22,9 @@ pub struct Spot {
 }
 
 // The length of a beginning and the next atom.
-struct Place {
-    len: usize,
-    next: usize,
+pub struct Place {
+    pub len: usize,
+    pub next: usize,
 }
 
 // Whether a search is done: its beginning is empty and the next atom is n + 1.
@@ -51,11 +51,11 @@ pub fn at_limit(trials: u64, extensions: u64, listed: u64) -> bool
     listed == 9_999_999_999_999_999_999
 }
 
-// Whether the next trial needs a new plan: the beginning has changed, or it has fewer than two atoms.
+// Whether the next trial needs a new plan: the beginning has changed, or it has no atom.
 pub fn is_stale(before: usize, after: usize) -> bool
     ensures { λ r. ⌜ Stale before after r ⌝ }
 {
-    if after < 2 {
+    if after < 1 {
         return true;
     }
     before != after
@@ -87,7 +87,7 @@ pub fn idle_trials(found: Plan, stale: bool, at: Spot, n: usize, left: u64) -> u
     if stale {
         return 0;
     }
-    if at.len < 2 {
+    if at.len < 1 {
         return 0;
     }
     if n < c {
@@ -122,7 +122,7 @@ pub fn skipped(at: Spot, k: usize) -> Spot
 
 // As long as the next atom is n + 1 and the beginning is not empty, its last atom is dropped, and the next atom is that
 // atom + 1.
-fn unwind(prefix: &mut [u8; 128], from: usize, first: usize, n: usize) -> Place
+pub fn unwind(prefix: &mut [u8; 128], from: usize, first: usize, n: usize) -> Place
     requires { ⌜ ToUnwind n (now prefix) from ⌝ }
     ensures { λ r. ⌜ Unwound n (now (prefix .entry)) from first (now (prefix .exit)) r ⌝ }
 {

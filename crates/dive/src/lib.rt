@@ -1,0 +1,282 @@
+// The fast loop of a run (document 02, F-3): trials below an open beginning of which none can stop the run. The sets of
+// each beginning on the way are kept by its length, so that a shorter one finds its own again.
+use widen::u8_usize;
+ghost use mathlib.Core.Path.{_≡_};
+ghost use mathlib.Core.Bool.{true};
+ghost use Prim.Native.Nat.{_-_, _≤_};
+ghost use Rattle.enumeration.specs.Run.{limit};
+ghost use Rattle.atomset.specs.Set.{linkedBy};
+ghost use Rattle.sweep.specs.Swept.{Symmetric};
+ghost use Rattle.openness.specs.Plan.{familyBy, firstLength};
+ghost use Rattle.dive.specs.Levels.{aimIn, restIn, keptAim, keptRest, LevelPlanned};
+ghost use Rattle.dive.specs.Parts.{Rising, listedAt, extendedAt, droppedAt, Room, Bounds, Descent, Left, Entering, Descended};
+use openness::Aim;
+use search::Search;
+use trial::Spot;
+
+// Where the fast loop has left the search, and the bytes used.
+pub struct Dived {
+    pub at: Spot,
+    pub used: usize,
+}
+
+// The two sets kept for the beginnings of i atoms.
+fn aim_in(levels: &[u64; 774], i: usize) -> Aim
+    requires { ⌜ i ≤ 128 ⌝ }
+    ensures { λ r. ⌜ r ≡ aimIn (now (levels .entry)) i ⌝ }
+{
+    let goal0 = levels[6 * i];
+    let goal1 = levels[6 * i + 1];
+    let free0 = levels[6 * i + 2];
+    let free1 = levels[6 * i + 3];
+    Aim {
+        goal: [goal0, goal1],
+        free: [free0, free1],
+    }
+}
+
+// The atoms still to be tried that make a member of the beginning of i atoms or open it.
+fn rest_in(levels: &[u64; 774], i: usize) -> [u64; 2]
+    requires { ⌜ i ≤ 128 ⌝ }
+    ensures { λ r. ⌜ r ≡ restIn (now (levels .entry)) i ⌝ }
+{
+    let rest0 = levels[6 * i + 4];
+    let rest1 = levels[6 * i + 5];
+    [rest0, rest1]
+}
+
+// Keeps the two sets of the beginnings of i atoms.
+fn keep_aim(levels: &mut [u64; 774], i: usize, aim: Aim)
+    requires { ⌜ i ≤ 128 ⌝ }
+    ensures { λ _. ⌜ now (levels .exit) ≡ keptAim (now (levels .entry)) i aim ⌝ }
+{
+    let goal = aim.goal;
+    let free = aim.free;
+    levels[6 * i] = goal[0];
+    levels[6 * i + 1] = goal[1];
+    levels[6 * i + 2] = free[0];
+    levels[6 * i + 3] = free[1];
+}
+
+// Keeps the atoms still to be tried at the beginning of i atoms.
+fn keep_rest(levels: &mut [u64; 774], i: usize, rest: [u64; 2])
+    requires { ⌜ i ≤ 128 ⌝ }
+    ensures { λ _. ⌜ now (levels .exit) ≡ keptRest (now (levels .entry)) i rest ⌝ }
+{
+    levels[6 * i + 4] = rest[0];
+    levels[6 * i + 5] = rest[1];
+}
+
+// Plans the beginning of `len` atoms with the last atom x: keeps the atoms to be tried, and the sets of the beginnings that
+// have an atom more.
+fn plan_level(table: &[u64; 256], levels: &mut [u64; 774], len: usize, x: usize)
+    requires { ⌜ Symmetric (linkedBy (now table)) × (len ≤ 127) × (1 ≤ x) × (x ≤ 128) ⌝ }
+    ensures { λ _. ⌜ LevelPlanned (linkedBy (now (table .entry))) x len (now (levels .entry)) (now (levels .exit)) ⌝ }
+{
+    let aim = aim_in(levels, len);
+    let next = openness::aim_after(table, aim, x);
+    let plan = openness::plan_by(table, aim, next, x);
+    let members = plan.members;
+    let opens = plan.opens;
+    let rest = atomset::union(members, opens);
+    keep_aim(levels, len + 1, next);
+    keep_rest(levels, len, rest);
+}
+
+// The place after the trials from the next atom up to v, of which the last lists its word.
+fn listed(at: Spot, v: usize) -> Spot
+    requires { ⌜ Rising at v × (at .listed ≤ limit) ⌝ }
+    ensures { λ r. ⌜ r ≡ listedAt at v ⌝ }
+{
+    Spot {
+        len: at.len,
+        next: v + 1,
+        trials: at.trials + (v + 1 - at.next) as u64,
+        extensions: at.extensions,
+        listed: at.listed + 1,
+    }
+}
+
+// The place after the trials from the next atom up to v, of which the last adds v to the beginning.
+fn extended(at: Spot, v: usize) -> Spot
+    requires { ⌜ Rising at v × (at .len ≤ 128) × (at .extensions ≤ limit) ⌝ }
+    ensures { λ r. ⌜ r ≡ extendedAt at v ⌝ }
+{
+    Spot {
+        len: at.len + 1,
+        next: 1,
+        trials: at.trials + (v + 1 - at.next) as u64,
+        extensions: at.extensions + 1,
+        listed: at.listed,
+    }
+}
+
+// The place after the trials from the next atom up to n, where the last atom is dropped.
+fn dropped(at: Spot, n: usize, last: usize) -> Spot
+    requires { ⌜ Rising at n × (1 ≤ at .len) × (last ≤ 255) ⌝ }
+    ensures { λ r. ⌜ r ≡ droppedAt at n last ⌝ }
+{
+    Spot {
+        len: at.len - 1,
+        next: last + 1,
+        trials: at.trials + (n + 1 - at.next) as u64,
+        extensions: at.extensions,
+        listed: at.listed,
+    }
+}
+
+// Trials below the beginning of `from`, as long as none of them can stop the run: up to 128 trials before the count of
+// trials is `most`, and before a record that does not fit.
+fn dive(
+    table: &[u64; 256],
+    n: usize,
+    most: u64,
+    from: Spot,
+    start: usize,
+    prefix: &mut [u8; 128],
+    levels: &mut [u64; 774],
+    out: &mut [u8],
+) -> Dived
+    requires { ⌜ Descent n (now table) most from start (now prefix) (now levels) (now out) ⌝ }
+    ensures { λ r. ⌜
+        ((d : Descent n (now (table .entry)) most from start (now (prefix .entry)) (now (levels .entry))
+        (now (out .entry))) →
+        Left (d .family) n most (now (prefix .entry)) from (now (out .entry)) start (now (prefix .exit)) (now (out .exit))
+        r) ⌝ }
+{
+    let base = from.len;
+    let mut at = from;
+    let mut used = start;
+    while base <= at.len {
+        if most - at.trials < 129 {
+            break;
+        }
+        let len = at.len;
+        let rest = rest_in(levels, len);
+        if atomset::is_empty(rest) {
+            let last = u8_usize(prefix[len - 1]);
+            prefix[len - 1] = 0;
+            at = dropped(at, n, last);
+        } else {
+            let v = atomset::lowest(rest);
+            let others = atomset::without_lowest(rest);
+            keep_rest(levels, len, others);
+            let aim = aim_in(levels, len);
+            let goal = aim.goal;
+            if atomset::contains(goal, v) {
+                if out.len() - used < len + 2 {
+                    break;
+                }
+                trial::put_record(&mut out[used..], prefix, len, v);
+                used += len + 2;
+                at = listed(at, v);
+            } else {
+                prefix[len] = v as u8;
+                at = extended(at, v);
+                plan_level(table, levels, len + 1, v);
+            }
+        }
+    }
+    Dived { at: at, used: used }
+}
+
+// The lower of two numbers.
+fn least(a: u64, b: u64) -> u64
+    ensures { λ r. ⌜ (r ≤ a) × (r ≤ b) ⌝ }
+{
+    if a < b {
+        return a;
+    }
+    b
+}
+
+// How many trials, of at most `left`, take no count past the limit.
+fn room_for(at: Spot, left: u64) -> u64
+    requires { ⌜ (at .trials ≤ limit) × (at .extensions ≤ limit) × (at .listed ≤ limit) ⌝ }
+    ensures { λ r. ⌜ Room at left r ⌝ }
+{
+    let trials = least(left, 9_999_999_999_999_999_999 - at.trials);
+    let extensions = least(trials, 9_999_999_999_999_999_999 - at.extensions);
+    least(extensions, 9_999_999_999_999_999_999 - at.listed)
+}
+
+// Whether the fast loop pays: the last trial has added an atom, two sets steer the beginning, and some hundred trials are
+// left.
+fn enters(kind: usize, at: Spot, left: u64) -> bool
+    ensures { λ r. ⌜ (r ≡ true → (at .next ≡ 1) × (firstLength kind ≤ at .len)) ⌝ }
+{
+    if left < 256 {
+        return false;
+    }
+    if at.next != 1 {
+        return false;
+    }
+    openness::first_length(kind) <= at.len
+}
+
+// The trials below an open beginning of q whose next atom is 1, as long as none of them can stop the run; then the
+// unwinding.
+fn below(
+    table: &[u64; 256],
+    n: usize,
+    q: Search,
+    at: Spot,
+    most: u64,
+    start: usize,
+    prefix: &mut [u8; 128],
+    levels: &mut [u64; 774],
+    out: &mut [u8],
+) -> Dived
+    requires { ⌜
+        Entering n (now table) q at start (now prefix) (now out) × (at .next ≡ 1) × (firstLength (q .kind) ≤ at .len) ×
+        Bounds at most ⌝ }
+    ensures { λ r. ⌜
+        Descended (familyBy n (now (table .entry)) (q .kind) (q .s) (q .t)) (now (prefix .entry)) at (most - at .trials)
+        (now (out .entry)) start (now (prefix .exit)) (now (out .exit)) r ⌝ }
+{
+    let len = at.len;
+    let aim = openness::aim_at(table, n, q.kind, q.s, q.t, prefix, len);
+    keep_aim(levels, len, aim);
+    plan_level(table, levels, len, u8_usize(prefix[len - 1]));
+    let dived = dive(table, n, most, at, start, prefix, levels, out);
+    let end = dived.at;
+    let place = trial::unwind(prefix, end.len, end.next, n);
+    let spot = Spot {
+        len: place.len,
+        next: place.next,
+        trials: end.trials,
+        extensions: end.extensions,
+        listed: end.listed,
+    };
+    Dived {
+        at: spot,
+        used: dived.used,
+    }
+}
+
+// The trials that the fast loop makes from a place of a run of q, if it pays, of at most `left`.
+pub fn descend(
+    table: &[u64; 256],
+    n: usize,
+    q: Search,
+    at: Spot,
+    left: u64,
+    start: usize,
+    prefix: &mut [u8; 128],
+    levels: &mut [u64; 774],
+    out: &mut [u8],
+) -> Dived
+    requires { ⌜ Entering n (now table) q at start (now prefix) (now out) ⌝ }
+    ensures { λ r. ⌜
+        Descended (familyBy n (now (table .entry)) (q .kind) (q .s) (q .t)) (now (prefix .entry)) at left
+        (now (out .entry)) start (now (prefix .exit)) (now (out .exit)) r ⌝ }
+{
+    if enters(q.kind, at, left) {
+        let most = at.trials + room_for(at, left);
+        return below(table, n, q, at, most, start, prefix, levels, out);
+    }
+    Dived {
+        at: at,
+        used: start,
+    }
+}
