@@ -1,10 +1,11 @@
 -- The sets kept by length: what is kept for a length is found again, and the other lengths are as they were.
 -- The words of length i have the places from 6 × i to 6 × i + 5, so those of two lengths are apart.
-use Prim.Native.Nat.{ℕ, _+_, _*_, _≤_}
+use Prim.Native.Nat.{ℕ, suc, _+_, _*_, _≤_}
+use native.Mathlib.Numerals.{add-one}
 use native.Mathlib.Omega.{arith}
 use native.Mathlib.Decide.{decLe}
-use mathlib.Core.Path.{_≡_, refl, _∙_}
-use mathlib.Core.Bool.{true, false}
+use mathlib.Core.Path.{_≡_, refl, ap, ap₂, _∙_}
+use mathlib.Core.Bool.{true, false, _||_}
 use mathlib.Core.List.{List, [], _∷_}
 use mathlib.Core.Logic.{_⊎_, inl, inr}
 use lib.ListN.{length, getD, set, length-set}
@@ -14,8 +15,12 @@ use Rattle.graph.proofs.Below.{either, and-parts}
 use Rattle.molecule.specs.Record.{isAtom}
 use Rattle.atomset.specs.Set.{has}
 use Rattle.atomset.proofs.Members.{has-outside, has-first, has-second}
+use Rattle.graph.specs.Chordless.{Adjacency}
+use Rattle.enumeration.specs.Words.{Family}
 use Rattle.openness.specs.declared.Aim.{Aim}
-use Rattle.dive.specs.Levels.{aimIn, restIn, keptAim, keptRest}
+use Rattle.openness.specs.declared.Plan.{Plan}
+use Rattle.openness.specs.Plan.{HandedOn, Steered, Everywhere}
+use Rattle.dive.specs.Levels.{aimIn, restIn, keptAim, keptRest, LevelPlanned}
 
 -- ---- sets with the same two words hold the same atoms
 
@@ -145,3 +150,45 @@ module _ (levels : List ℕ) (i : ℕ) (aim : Aim) where
         (getD-set-other kept3 (6 * i + 3) (6 * i + 2) (getD (aim .free) 1 0) 0 (λ e. omega arith)
         ∙ getD-set-same kept2 (6 * i + 2) (getD (aim .free) 0 0) 0 (omega (arith, size2)))
         (getD-set-same kept3 (6 * i + 3) (getD (aim .free) 1 0) 0 (omega (arith, size3)))
+
+-- ---- a beginning is planned
+
+-- what is found for the beginning of `len` atoms with the last atom x: the sets handed on, the plan, the atoms to be tried
+pub record Found (adj : Adjacency) (x : ℕ) (aim next : Aim) (plan : Plan) (rest : List ℕ) : Type 0 where
+  pub handing : HandedOn adj x aim next
+  pub telling : (F : Family) (p : List ℕ) → Steered F adj p x aim → Everywhere F p plan
+  pub either-set : (v : ℕ) → has rest v ≡ (has (plan .members) v || has (plan .opens) v)
+
+module _ {adj : Adjacency} {x : ℕ} {next : Aim} {plan : Plan} {rest : List ℕ} where
+  kept-planned :
+      (levels : List ℕ) (len : ℕ) → length levels ≡ 774 → len ≤ 127 → Found adj x (aimIn levels len) next plan rest →
+      LevelPlanned adj x len levels (keptRest (keptAim levels (suc len) next) len rest)
+  kept-planned levels len size h found =
+      let longer = keptAim levels (suc len) next in
+      let size′ : length longer ≡ 774 = length-kept-aim levels (suc len) next ∙ size in
+      record {
+        size = length-kept-rest longer len rest ∙ length-kept-aim levels (suc len) next;
+        handed = record {
+          goal-left = λ u.
+              ap (λ (a : Aim). has (a .goal) u) (aim-past-rest longer len rest (suc len))
+              ∙ goal-kept-same levels (suc len) next size (omega arith) u ∙ found .handing .goal-left u;
+          free-left = λ u.
+              ap (λ (a : Aim). has (a .free) u) (aim-past-rest longer len rest (suc len))
+              ∙ free-kept-same levels (suc len) next size (omega arith) u ∙ found .handing .free-left u;
+        };
+        to-try = λ F p steered v.
+            let tells = found .telling F p steered v in
+            rest-kept-same longer len rest size′ (omega arith) v ∙ found .either-set v
+            ∙ ap₂ _||_ (tells .members) (tells .opens);
+        aims-kept = λ i l.
+            aim-past-rest longer len rest i ∙ aim-kept-other levels (suc len) next i (λ e. omega arith);
+        rests-kept = λ i l.
+            rest-kept-other longer len rest i (λ e. omega arith) ∙ rest-past-aim levels (suc len) next i;
+      }
+
+  pub level-planned :
+      {levels longer after : List ℕ} {len : ℕ} {aim : Aim} → length levels ≡ 774 → len ≤ 127 →
+      aim ≡ aimIn levels len → Found adj x aim next plan rest → longer ≡ keptAim levels (len + 1) next →
+      after ≡ keptRest longer len rest → LevelPlanned adj x len levels after
+  level-planned {levels} {longer} {after} {len} {aim} size h aim-is found kept kept-rest =
+      rw (kept-rest, kept, add-one len) (kept-planned levels len size h (rw aim-is at found))
