@@ -75,6 +75,7 @@ pub record Descent (n : ℕ) (table : List ℕ) (most : ℕ) (from : Spot) (star
     pub family : Family
     pub atoms : family .atoms ≡ n
     pub words : Words n table
+    pub sized : length levels ≡ 774
     pub standing : HeldWithRoom prefix (from .len)
     pub some : 1 ≤ from .len
     pub first : from .next ≡ 1
@@ -110,8 +111,9 @@ pub record Left (F : Family) (n most : ℕ) (prefix₀ : List ℕ) (from : Spot)
   pub listing : Listed out₀ start bytes out (r .used)
 
 -- a place of a run of q: an open beginning in its array, counts at most the limit
-pub record Entering (n : ℕ) (table : List ℕ) (q : Search) (at : Spot) (start : ℕ) (prefix out : List ℕ) : Type 0
+pub record Entering (n : ℕ) (table : List ℕ) (q : Search) (at : Spot) (start : ℕ) (prefix levels out : List ℕ) : Type 0
   where
+    pub sized : length levels ≡ 774
     pub begun : Beginning n table (q .kind) (q .s) (q .t) prefix (at .len)
     pub standing : HeldWithRoom prefix (at .len)
     pub trials-most : at .trials ≤ limit
@@ -128,3 +130,5 @@ pub record Descended (F : Family) (prefix₀ : List ℕ) (at : Spot) (left : ℕ
   pub affordable : r .at .trials - at .trials ≤ left
   pub makes : Makes F (stateAt prefix (r .at)) (stateAt prefix₀ at) (r .at .trials - at .trials) bytes
   pub listing : Listed out₀ start bytes out (r .used)
+  -- trials are made only where the next atom is 1: elsewhere the beginning is as it was
+  pub same : (at .next ≡ 1 → ⊥) → take (r .at .len) prefix ≡ take (at .len) prefix₀

@@ -4,6 +4,7 @@ use widen::u8_usize;
 ghost use mathlib.Core.Path.{_≡_};
 ghost use mathlib.Core.Bool.{true};
 ghost use Prim.Native.Nat.{_-_, _≤_};
+ghost use lib.ListN.{length};
 ghost use Rattle.enumeration.specs.Run.{limit};
 ghost use Rattle.atomset.specs.Set.{linkedBy};
 ghost use Rattle.sweep.specs.Swept.{Symmetric};
@@ -70,7 +71,8 @@ fn keep_rest(levels: &mut [u64; 774], i: usize, rest: [u64; 2])
 // Plans the beginning of `len` atoms with the last atom x: keeps the atoms to be tried, and the sets of the beginnings that
 // have an atom more.
 fn plan_level(table: &[u64; 256], levels: &mut [u64; 774], len: usize, x: usize)
-    requires { ⌜ Symmetric (linkedBy (now table)) × (len ≤ 127) × (1 ≤ x) × (x ≤ 128) ⌝ }
+    requires { ⌜
+        Symmetric (linkedBy (now table)) × (len ≤ 127) × (1 ≤ x) × (x ≤ 128) × (length (now levels) ≡ 774) ⌝ }
     ensures { λ _. ⌜ LevelPlanned (linkedBy (now (table .entry))) x len (now (levels .entry)) (now (levels .exit)) ⌝ }
 {
     let aim = aim_in(levels, len);
@@ -228,8 +230,8 @@ fn below(
     out: &mut [u8],
 ) -> Dived
     requires { ⌜
-        Entering n (now table) q at start (now prefix) (now out) × (at .next ≡ 1) × (firstLength (q .kind) ≤ at .len) ×
-        Bounds at most ⌝ }
+        Entering n (now table) q at start (now prefix) (now levels) (now out) × (at .next ≡ 1) ×
+        (firstLength (q .kind) ≤ at .len) × Bounds at most ⌝ }
     ensures { λ r. ⌜
         Descended (familyBy n (now (table .entry)) (q .kind) (q .s) (q .t)) (now (prefix .entry)) at (most - at .trials)
         (now (out .entry)) start (now (prefix .exit)) (now (out .exit)) r ⌝ }
@@ -266,7 +268,7 @@ pub fn descend(
     levels: &mut [u64; 774],
     out: &mut [u8],
 ) -> Dived
-    requires { ⌜ Entering n (now table) q at start (now prefix) (now out) ⌝ }
+    requires { ⌜ Entering n (now table) q at start (now prefix) (now levels) (now out) ⌝ }
     ensures { λ r. ⌜
         Descended (familyBy n (now (table .entry)) (q .kind) (q .s) (q .t)) (now (prefix .entry)) at left
         (now (out .entry)) start (now (prefix .exit)) (now (out .exit)) r ⌝ }

@@ -186,7 +186,7 @@ acted-extends {n} {before} {at} h counting =
 
 -- ---- the length tells whether the beginning has changed
 
-unwound-most : (n : ℕ) (stack : List ℕ) (c : ℕ) → length (unwound n stack c .0) ≤ length stack
+pub unwound-most : (n : ℕ) (stack : List ℕ) (c : ℕ) → length (unwound n stack c .0) ≤ length stack
 unfolding unwound
 unwound-most n [] c = omega arith
 unwound-most n (a ∷ stack) c = go (eqb c (suc n)) (unwound-most n stack (suc a))

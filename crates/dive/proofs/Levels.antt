@@ -1,0 +1,194 @@
+-- The sets kept by length: what is kept for a length is found again, and the other lengths are as they were.
+-- The words of length i have the places from 6 × i to 6 × i + 5, so those of two lengths are apart.
+use Prim.Native.Nat.{ℕ, suc, _+_, _*_, _≤_}
+use native.Mathlib.Numerals.{add-one}
+use native.Mathlib.Omega.{arith}
+use native.Mathlib.Decide.{decLe}
+use mathlib.Core.Path.{_≡_, refl, ap, ap₂, _∙_}
+use mathlib.Core.Bool.{true, false, _||_}
+use mathlib.Core.List.{List, [], _∷_}
+use mathlib.Core.Logic.{_⊎_, inl, inr}
+use lib.ListN.{length, getD, set, length-set}
+use lib.Seq.{getD-set-same, getD-set-other}
+use borrow.Author.Tests.{leb-true}
+use Rattle.graph.proofs.Below.{either, and-parts}
+use Rattle.molecule.specs.Record.{isAtom}
+use Rattle.atomset.specs.Set.{has}
+use Rattle.atomset.proofs.Members.{has-outside, has-first, has-second}
+use Rattle.graph.specs.Chordless.{Adjacency}
+use Rattle.enumeration.specs.Words.{Family}
+use Rattle.openness.specs.declared.Aim.{Aim}
+use Rattle.openness.specs.declared.Plan.{Plan}
+use Rattle.openness.specs.Plan.{HandedOn, Steered, Everywhere}
+use Rattle.dive.specs.Levels.{aimIn, restIn, keptAim, keptRest, LevelPlanned}
+
+-- ---- sets with the same two words hold the same atoms
+
+pub same-words :
+    (these those : List ℕ) → getD these 0 0 ≡ getD those 0 0 → getD these 1 0 ≡ getD those 1 0 → (u : ℕ) →
+    has these u ≡ has those u
+same-words these those first second u = go (either (isAtom 128 u))
+  where
+    within : 1 ≤ u → u ≤ 128 → Dec (u ≤ 64) → has these u ≡ has those u
+    within l h (yes m) = rw (has-first these u l m, has-first those u l m, first)
+    within l h (no m) =
+        let past : 65 ≤ u = omega arith in
+        rw (has-second these u past h, has-second those u past h, second)
+
+    go : (isAtom 128 u ≡ true) ⊎ (isAtom 128 u ≡ false) → has these u ≡ has those u
+    go (inl e) =
+        let parts = and-parts _ _ e in
+        within (leb-true 1 u (parts .0)) (leb-true u 128 (parts .1)) (decLe u 64)
+    go (inr e) = rw (has-outside these u e, has-outside those u e)
+
+pub has-pair : (words : List ℕ) (u : ℕ) → has (getD words 0 0 ∷ getD words 1 0 ∷ []) u ≡ has words u
+has-pair words u = same-words (getD words 0 0 ∷ getD words 1 0 ∷ []) words refl refl u
+
+-- ---- the atoms to be tried
+
+pub length-kept-rest : (levels : List ℕ) (i : ℕ) (rest : List ℕ) → length (keptRest levels i rest) ≡ length levels
+length-kept-rest levels i rest = simp length-set
+
+-- a word at another place
+past-rest :
+    (levels : List ℕ) (i : ℕ) (rest : List ℕ) (k : ℕ) → (k ≡ 6 * i + 4 → ⊥) → (k ≡ 6 * i + 5 → ⊥) →
+    getD (keptRest levels i rest) k 0 ≡ getD levels k 0
+past-rest levels i rest k d4 d5 =
+    getD-set-other (set levels (6 * i + 4) (getD rest 0 0)) (6 * i + 5) k (getD rest 1 0) 0 d5
+    ∙ getD-set-other levels (6 * i + 4) k (getD rest 0 0) 0 d4
+
+pub rest-kept-same :
+    (levels : List ℕ) (i : ℕ) (rest : List ℕ) → length levels ≡ 774 → i ≤ 128 → (u : ℕ) →
+    has (restIn (keptRest levels i rest) i) u ≡ has rest u
+rest-kept-same levels i rest size h =
+    same-words (restIn (keptRest levels i rest) i) rest
+    (getD-set-other (set levels (6 * i + 4) (getD rest 0 0)) (6 * i + 5) (6 * i + 4) (getD rest 1 0) 0 (λ e. omega arith)
+    ∙ getD-set-same levels (6 * i + 4) (getD rest 0 0) 0 (omega arith))
+    (getD-set-same (set levels (6 * i + 4) (getD rest 0 0)) (6 * i + 5) (getD rest 1 0) 0
+    (omega (arith, length-set levels (6 * i + 4) (getD rest 0 0))))
+
+pub rest-kept-other :
+    (levels : List ℕ) (i : ℕ) (rest : List ℕ) (j : ℕ) → (j ≡ i → ⊥) →
+    restIn (keptRest levels i rest) j ≡ restIn levels j
+rest-kept-other levels i rest j d =
+    let word4 = past-rest levels i rest (6 * j + 4) (λ e. d (omega arith)) (λ e. d (omega arith)) in
+    let word5 = past-rest levels i rest (6 * j + 5) (λ e. d (omega arith)) (λ e. d (omega arith)) in
+    rw (word4, word5)
+
+pub aim-past-rest :
+    (levels : List ℕ) (i : ℕ) (rest : List ℕ) (j : ℕ) → aimIn (keptRest levels i rest) j ≡ aimIn levels j
+aim-past-rest levels i rest j =
+    let word0 = past-rest levels i rest (6 * j) (λ e. omega arith) (λ e. omega arith) in
+    let word1 = past-rest levels i rest (6 * j + 1) (λ e. omega arith) (λ e. omega arith) in
+    let word2 = past-rest levels i rest (6 * j + 2) (λ e. omega arith) (λ e. omega arith) in
+    let word3 = past-rest levels i rest (6 * j + 3) (λ e. omega arith) (λ e. omega arith) in
+    rw (word0, word1, word2, word3)
+
+-- ---- the two sets that steer
+
+pub length-kept-aim : (levels : List ℕ) (i : ℕ) (aim : Aim) → length (keptAim levels i aim) ≡ length levels
+length-kept-aim levels i aim = simp length-set
+
+module _ (levels : List ℕ) (i : ℕ) (aim : Aim) where
+  -- the words but the last, the last two, the last three
+  abbrev kept1 : List ℕ
+  kept1 = set levels (6 * i) (getD (aim .goal) 0 0)
+
+  abbrev kept2 : List ℕ
+  kept2 = set kept1 (6 * i + 1) (getD (aim .goal) 1 0)
+
+  abbrev kept3 : List ℕ
+  kept3 = set kept2 (6 * i + 2) (getD (aim .free) 0 0)
+
+  -- a word at another place
+  past-aim :
+      (k : ℕ) → ((e : ℕ) → e ≤ 3 → k ≡ 6 * i + e → ⊥) → getD (keptAim levels i aim) k 0 ≡ getD levels k 0
+  past-aim k d =
+      getD-set-other kept3 (6 * i + 3) k (getD (aim .free) 1 0) 0 (d 3 (omega arith))
+      ∙ getD-set-other kept2 (6 * i + 2) k (getD (aim .free) 0 0) 0 (d 2 (omega arith))
+      ∙ getD-set-other kept1 (6 * i + 1) k (getD (aim .goal) 1 0) 0 (d 1 (omega arith))
+      ∙ getD-set-other levels (6 * i) k (getD (aim .goal) 0 0) 0 (λ e. d 0 (omega arith) (omega arith))
+
+  pub aim-kept-other : (j : ℕ) → (j ≡ i → ⊥) → aimIn (keptAim levels i aim) j ≡ aimIn levels j
+  aim-kept-other j d =
+      let word0 = past-aim (6 * j) (λ e h q. d (omega arith)) in
+      let word1 = past-aim (6 * j + 1) (λ e h q. d (omega arith)) in
+      let word2 = past-aim (6 * j + 2) (λ e h q. d (omega arith)) in
+      let word3 = past-aim (6 * j + 3) (λ e h q. d (omega arith)) in
+      rw (word0, word1, word2, word3)
+
+  pub rest-past-aim : (j : ℕ) → restIn (keptAim levels i aim) j ≡ restIn levels j
+  rest-past-aim j =
+      let word4 = past-aim (6 * j + 4) (λ e h q. omega arith) in
+      let word5 = past-aim (6 * j + 5) (λ e h q. omega arith) in
+      rw (word4, word5)
+
+  module _ (size : length levels ≡ 774) (h : i ≤ 128) where
+    size1 : length kept1 ≡ 774
+    size1 = length-set levels (6 * i) (getD (aim .goal) 0 0) ∙ size
+
+    size2 : length kept2 ≡ 774
+    size2 = length-set kept1 (6 * i + 1) (getD (aim .goal) 1 0) ∙ size1
+
+    size3 : length kept3 ≡ 774
+    size3 = length-set kept2 (6 * i + 2) (getD (aim .free) 0 0) ∙ size2
+
+    pub goal-kept-same : (u : ℕ) → has (aimIn (keptAim levels i aim) i .goal) u ≡ has (aim .goal) u
+    goal-kept-same =
+        same-words (aimIn (keptAim levels i aim) i .goal) (aim .goal)
+        (getD-set-other kept3 (6 * i + 3) (6 * i) (getD (aim .free) 1 0) 0 (λ e. omega arith)
+        ∙ getD-set-other kept2 (6 * i + 2) (6 * i) (getD (aim .free) 0 0) 0 (λ e. omega arith)
+        ∙ getD-set-other kept1 (6 * i + 1) (6 * i) (getD (aim .goal) 1 0) 0 (λ e. omega arith)
+        ∙ getD-set-same levels (6 * i) (getD (aim .goal) 0 0) 0 (omega arith))
+        (getD-set-other kept3 (6 * i + 3) (6 * i + 1) (getD (aim .free) 1 0) 0 (λ e. omega arith)
+        ∙ getD-set-other kept2 (6 * i + 2) (6 * i + 1) (getD (aim .free) 0 0) 0 (λ e. omega arith)
+        ∙ getD-set-same kept1 (6 * i + 1) (getD (aim .goal) 1 0) 0 (omega (arith, size1)))
+
+    pub free-kept-same : (u : ℕ) → has (aimIn (keptAim levels i aim) i .free) u ≡ has (aim .free) u
+    free-kept-same =
+        same-words (aimIn (keptAim levels i aim) i .free) (aim .free)
+        (getD-set-other kept3 (6 * i + 3) (6 * i + 2) (getD (aim .free) 1 0) 0 (λ e. omega arith)
+        ∙ getD-set-same kept2 (6 * i + 2) (getD (aim .free) 0 0) 0 (omega (arith, size2)))
+        (getD-set-same kept3 (6 * i + 3) (getD (aim .free) 1 0) 0 (omega (arith, size3)))
+
+-- ---- a beginning is planned
+
+-- what is found for the beginning of `len` atoms with the last atom x: the sets handed on, the plan, the atoms to be tried
+pub record Found (adj : Adjacency) (x : ℕ) (aim next : Aim) (plan : Plan) (rest : List ℕ) : Type 0 where
+  pub handing : HandedOn adj x aim next
+  pub telling : (F : Family) (p : List ℕ) → Steered F adj p x aim → Everywhere F p plan
+  pub either-set : (v : ℕ) → has rest v ≡ (has (plan .members) v || has (plan .opens) v)
+
+module _ {adj : Adjacency} {x : ℕ} {next : Aim} {plan : Plan} {rest : List ℕ} where
+  kept-planned :
+      (levels : List ℕ) (len : ℕ) → length levels ≡ 774 → len ≤ 127 → Found adj x (aimIn levels len) next plan rest →
+      LevelPlanned adj x len levels (keptRest (keptAim levels (suc len) next) len rest)
+  kept-planned levels len size h found =
+      let longer = keptAim levels (suc len) next in
+      let size′ : length longer ≡ 774 = length-kept-aim levels (suc len) next ∙ size in
+      record {
+        size = length-kept-rest longer len rest ∙ length-kept-aim levels (suc len) next;
+        handed = record {
+          goal-left = λ u.
+              ap (λ (a : Aim). has (a .goal) u) (aim-past-rest longer len rest (suc len))
+              ∙ goal-kept-same levels (suc len) next size (omega arith) u ∙ found .handing .goal-left u;
+          free-left = λ u.
+              ap (λ (a : Aim). has (a .free) u) (aim-past-rest longer len rest (suc len))
+              ∙ free-kept-same levels (suc len) next size (omega arith) u ∙ found .handing .free-left u;
+        };
+        to-try = λ F p steered v.
+            let tells = found .telling F p steered v in
+            rest-kept-same longer len rest size′ (omega arith) v ∙ found .either-set v
+            ∙ ap₂ _||_ (tells .members) (tells .opens);
+        aims-kept = λ i l.
+            aim-past-rest longer len rest i ∙ aim-kept-other levels (suc len) next i (λ e. omega arith);
+        rests-kept = λ i l.
+            rest-kept-other longer len rest i (λ e. omega arith) ∙ rest-past-aim levels (suc len) next i;
+      }
+
+  pub level-planned :
+      {levels longer after : List ℕ} {len : ℕ} {aim : Aim} → length levels ≡ 774 → len ≤ 127 →
+      aim ≡ aimIn levels len → Found adj x aim next plan rest → longer ≡ keptAim levels (len + 1) next →
+      after ≡ keptRest longer len rest → LevelPlanned adj x len levels after
+  level-planned {levels} {longer} {after} {len} {aim} size h aim-is found kept kept-rest =
+      rw (kept-rest, kept, add-one len) (kept-planned levels len size h (rw aim-is at found))
