@@ -77,7 +77,7 @@ fn run_trials(table: &[u64; 256], n: usize, q: Search, budget: u64, out: &mut [u
     let mut at = trial::spot_of(q);
     let mut found = no_plan();
     let mut stale = true;
-    let mut levels = [0u64; 774];
+    let mut kept = [0u64; 774];
     let mut used: usize = 0;
     let mut made: u64 = 0;
     let stop = loop {
@@ -110,17 +110,7 @@ fn run_trials(table: &[u64; 256], n: usize, q: Search, budget: u64, out: &mut [u
         made += 1;
         stale = trial::is_stale(len, tried.len);
         let left = budget - made;
-        let dived = dive::descend(
-            table,
-            n,
-            q,
-            tried,
-            left,
-            used,
-            &mut prefix,
-            &mut levels,
-            out,
-        );
+        let dived = dive::descend(table, n, q, tried, left, used, &mut prefix, &mut kept, out);
         at = dived.at;
         used = dived.used;
         made += at.trials - tried.trials;
