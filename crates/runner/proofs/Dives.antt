@@ -17,7 +17,7 @@ use Rattle.runner.specs.Parts.{Ready}
 use Rattle.runner.proofs.Turns.{going-makes}
 use Rattle.runner.proofs.Trials.{Task, taskOf, Turning, opened, used-within, length-kept}
 
--- ---- what the fast loop asks
+-- ---- what a plan and the fast loop ask
 
 module _ {n : ℕ} {table : List ℕ} {q : Search} (ready : Ready n table q) {budget : ℕ} {out₀ out prefix : List ℕ}
     {at : Spot} {found : Plan} {stale : Bool} {used made : ℕ}

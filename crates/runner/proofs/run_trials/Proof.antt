@@ -216,7 +216,7 @@ plan-at-requires : tie.Need-plan-at-requires Inv-loop μ-loop
 plan-at-requires c κs =
     let t = trying (search) in
     let start : Place tie.Start = search in
-    (?, (begun (start .pre) (t .turning), next-range t .0, next-range t .1))
+    (begun (start .pre) (t .turning), next-range t .0, next-range t .1)
 
 lists-at-requires : tie.Need-lists-at-requires Inv-loop μ-loop
 lists-at-requires c κs = next-in-set (trying (search))
@@ -265,7 +265,7 @@ sub-left c = turned c .going .in-budget
 descend-requires : tie.Need-descend-requires Inv-loop μ-loop
 descend-requires c κs =
     let after : Place tie.After-is-stale = search in
-    (?, entering (start (stood after) .pre) (turned after))
+    entering (start (stood after) .pre) (turned after)
 
 sub-made : tie.Need-sub-made Inv-loop μ-loop
 sub-made c = let dived : Place tie.After-descend = search in omega (arith, dived .descend .ensures .more)
