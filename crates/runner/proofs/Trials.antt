@@ -29,7 +29,7 @@ use Rattle.openness.specs.Plan.{familyBy, Tells, Planned}
 use Rattle.openness.proofs.Plans.{family-by-lawful, family-by-atoms}
 use Rattle.trial.specs.declared.Spot.{Spot}
 use Rattle.trial.specs.Parts.{stackOf, stateAt, spotOf, Held, HeldWithRoom, Counting, Acted, Stale}
-use Rattle.trial.proofs.Arrays.{stack-length, stack-back, stack-more, act-same, search-held, tried-word}
+use Rattle.trial.proofs.Arrays.{stack-length, stack-back, stack-more, placeOf, act-same, search-held, tried-word}
 use Rattle.trial.proofs.Bytes.{part-length, part-back, record-length}
 use Rattle.runner.specs.Parts.{stoppedAt, Ready, Yields}
 use Rattle.runner.proofs.Turns.{Going, going-starts, going-length, going-used, going-turn, going-answers}
@@ -245,6 +245,33 @@ module _ {T : Task} {out prefix : List ℕ} {at : Spot} {found : Plan} {stale : 
         fits = omega (arith, size);
       }
 
+  -- a trial after which the plan is not stale: the beginning is as it was, and the next atom is raised
+  module _ {prefix′ : List ℕ} {at′ : Spot} {member extends stale′ : Bool}
+      (a : Acted (T .n) prefix at member extends prefix′ at′) (fresh : Stale (at .len) (at′ .len) stale′)
+      (e : stale′ ≡ false) where
+    same-length : length (act (T .n) member extends now .stack) ≡ length (stackOf prefix (at .len))
+    same-length =
+        ap (λ (s : State). length (s .stack)) (sym (a .state-is))
+        ∙ stack-length prefix′ (at′ .len) (a .within)
+        ∙ sym (fresh .same e)
+        ∙ sym (stack-length prefix (at .len) (t .turning .standing .within))
+
+    same-place : placeOf (stateAt prefix′ at′) ≡ (stackOf prefix (at .len), suc (at .next))
+    same-place =
+        ap placeOf (a .state-is)
+        ∙ act-same (T .n) member extends now (omega (arith, next-range)) same-length
+
+    same-beginning : take (at′ .len) prefix′ ≡ take (at .len) prefix
+    same-beginning =
+        sym (stack-back prefix′ (at′ .len))
+        ∙ ap (λ (place : List ℕ × ℕ). reverse (place .0)) same-place
+        ∙ stack-back prefix (at .len)
+
+    pub not-first : at′ .next ≡ 1 → ⊥
+    not-first f =
+        let raised : at′ .next ≡ suc (at .next) = ap (λ (place : List ℕ × ℕ). place .1) same-place in
+        omega (arith, next-range)
+
   module _ {plan : Plan} (planned : Planned (T .family) (take (at .len) prefix) (at .next) plan) where
     pub member-told : has (plan .members) (at .next) ≡ T .family .member (tried now)
     member-told = planned .next .members ∙ ap (T .family .member) (sym (tried-word prefix at))
@@ -262,7 +289,7 @@ module _ {T : Task} {out prefix : List ℕ} {at : Spot} {found : Plan} {stale : 
       standing = record { within = a .within; short = short′ };
       valid = valid′;
       bounded = rw (a .state-is) (act-bounded (T .n) member extends now below);
-      told = λ e v. rw (same-beginning e) (planned .every (long e) v);
+      told = λ e v. rw (same-beginning a fresh e) (planned .every (long e) v);
       going =
           rw (stepped, w .count)
           (going-turn (old .going) (t .not-done) (t .not-limit) (t .paid) (w .output) (w .fits));
@@ -289,19 +316,3 @@ module _ {T : Task} {out prefix : List ℕ} {at : Spot} {found : Plan} {stale : 
         long e =
             let room : at .len ≤ length prefix = omega (arith, old .standing .within .size, old .standing .short) in
             omega (arith, length-take-le (at .len) prefix room, fresh .same e, fresh .long e)
-
-        same-length : stale′ ≡ false → length (act (T .n) member extends now .stack) ≡ length (stackOf prefix (at .len))
-        same-length e =
-            ap (λ (s : State). length (s .stack)) (sym (a .state-is))
-            ∙ stack-length prefix′ (at′ .len) (a .within)
-            ∙ sym (fresh .same e)
-            ∙ sym (stack-length prefix (at .len) (old .standing .within))
-
-        same-stack : stale′ ≡ false → stackOf prefix′ (at′ .len) ≡ stackOf prefix (at .len)
-        same-stack e =
-            ap (λ (s : State). s .stack) (a .state-is)
-            ∙ act-same (T .n) member extends now (omega (arith, next-range)) (same-length e)
-
-        same-beginning : stale′ ≡ false → take (at′ .len) prefix′ ≡ take (at .len) prefix
-        same-beginning e =
-            sym (stack-back prefix′ (at′ .len)) ∙ ap reverse (same-stack e) ∙ stack-back prefix (at .len)

@@ -198,7 +198,7 @@ unwound-most n (a ∷ stack) c = go (eqb c (suc n)) (unwound-most n stack (suc a
     go false h = omega arith
 
 unwound-same :
-    (n : ℕ) (stack : List ℕ) (c : ℕ) → length (unwound n stack c .0) ≡ length stack → unwound n stack c .0 ≡ stack
+    (n : ℕ) (stack : List ℕ) (c : ℕ) → length (unwound n stack c .0) ≡ length stack → unwound n stack c ≡ (stack, c)
 unfolding unwound
 unwound-same n [] c e = refl
 unwound-same n (a ∷ stack) c e = go (eqb c (suc n)) e (unwound-most n stack (suc a))
@@ -206,13 +206,19 @@ unwound-same n (a ∷ stack) c e = go (eqb c (suc n)) e (unwound-most n stack (s
     go :
         (b : Bool) → length (cond b (unwound n stack (suc a)) (a ∷ stack, c) .0) ≡ suc (length stack) →
         length (unwound n stack (suc a) .0) ≤ length stack →
-        cond b (unwound n stack (suc a)) (a ∷ stack, c) .0 ≡ a ∷ stack
+        cond b (unwound n stack (suc a)) (a ∷ stack, c) ≡ (a ∷ stack, c)
     go true q m = absurd (omega arith)
     go false q m = refl
 
+-- the beginning as a stack, and the next atom
+abbrev pub placeOf : State → List ℕ × ℕ
+placeOf st = (st .stack, st .next)
+
+-- a trial that leaves the length as it was leaves the beginning, and raises the next atom
 pub act-same :
     (n : ℕ) (member extends : Bool) (st : State) → 1 ≤ n →
-    length (act n member extends st .stack) ≡ length (st .stack) → act n member extends st .stack ≡ st .stack
+    length (act n member extends st .stack) ≡ length (st .stack) →
+    placeOf (act n member extends st) ≡ (st .stack, suc (st .next))
 unfolding act
 act-same n true extends st some e = unwound-same n (st .stack) (suc (st .next)) e
 act-same n false true st some e =

@@ -11,20 +11,21 @@ use Rattle.openness.specs.declared.Plan.{Plan}
 use Rattle.openness.specs.Plan.{Planned}
 use Rattle.trial.specs.Parts.{stateAt}
 use Rattle.runner.proofs.Trials.{Task, taskOf, Turning, Trying, Written, StopsBy}
-use Rattle.runner.proofs.Trials.{starts, opened, used-within, room-in-part, length-kept, next-most, done-test}
+use Rattle.runner.proofs.Trials.{starts, used-within, room-in-part, length-kept, next-most, done-test}
 use Rattle.runner.proofs.Trials.{next-range, next-in-set, counting, planned-old, member-told}
-use Rattle.runner.proofs.Trials.{written-none, written-record, turn}
+use Rattle.runner.proofs.Trials.{written-none, written-record, not-first, turn}
 use Rattle.runner.proofs.Trials.{stops-done, stops-limit, stops-spent, stops-full, answers}
 use Rattle.runner.proofs.Skips.{skips}
+use Rattle.runner.proofs.Dives.{begun, entering, dives, further-paid}
 use Rattle.runner.proofs.run_trials.Statement.{statement}
 use Rattle.runner.proofs.run_trials.Tie as tie
 
 abbrev Inv-loop : tie.InvT-loop
-Inv-loop table n q budget out₀ prefix₀ at₀ found₀ stale₀ used₀ made₀ out prefix at found stale used made =
+Inv-loop table n q budget out₀ prefix₀ at₀ found₀ stale₀ kept₀ used₀ made₀ out prefix at found stale kept used made =
     Turning (taskOf n table q budget out₀) out prefix at found stale used made
 
 abbrev μ-loop : tie.MeasureT-loop
-μ-loop table n q budget out₀ prefix₀ at₀ found₀ stale₀ used₀ made₀ out prefix at found stale used made =
+μ-loop table n q budget out₀ prefix₀ at₀ found₀ stale₀ kept₀ used₀ made₀ out prefix at found stale kept used made =
     budget - made
 
 -- ---- the places of a turn: each name goes back from a later place to an earlier one
@@ -48,6 +49,10 @@ tests c = c .before .before .before .before
 -- from where the plan told whether the word is listed
 abbrev trial : Place tie.After-lists-at → Place tie.Else3
 trial c = c .before .before
+
+-- from where the trial is made: its record is written, if it lists one
+abbrev listed : Place tie.After-is-stale → Place tie.Joined5
+listed c = c .before .before .before .before
 
 -- ---- the head of a turn, after the trials that are skipped
 
@@ -78,6 +83,7 @@ head c =
         at = c .skipped .result;
         found = loop .found;
         stale = loop .stale;
+        kept = loop .kept;
         used = loop .used;
         made = loop .made + c .before .idle-trials .result;
         inv = turning c;
@@ -141,6 +147,25 @@ written c =
       | inr (lists, out, used) ↦ rw (out, used) (written-none _ _ _ _ (member ∙ lists .left))
     ]
 
+-- ---- the trial
+
+-- as the loop stood before it
+abbrev stood : Place tie.After-is-stale → Place tie.At-loop
+stood c = here (trial (listed c .before))
+
+turned :
+    (c : Place tie.After-is-stale) →
+    let found = listed c .before .before .if4 .found in
+    let written = listed c .if5 in
+    let act = c .before .act in
+    Turning (task (stood c)) (written .out) (act .last .0) (act .result) found (c .is-stale .result) (written .used)
+    (stood c .loop .made + 1)
+turned c =
+    let lists : Place tie.After-lists-at = search in
+    let opens : Place tie.After-opens-at = search in
+    turn (trying (search)) (planned (search)) (written (search))
+    (lists .lists-at .ensures) (opens .opens-at .ensures) (c .before .act .ensures) (c .is-stale .ensures)
+
 -- ---- the ways out: done, limit, spent, full
 
 stops :
@@ -190,17 +215,8 @@ is-done-requires c κs = turning (search) .few
 plan-at-requires : tie.Need-plan-at-requires Inv-loop μ-loop
 plan-at-requires c κs =
     let t = trying (search) in
-    let start : Place tie.Start = search in (
-      record {
-        words = start .pre .words;
-        kinds = start .pre .kinds;
-        size = t .turning .standing .within .size;
-        short = t .turning .standing .short;
-        isOpened = opened (t .turning);
-      },
-      next-range t .0,
-      next-range t .1,
-    )
+    let start : Place tie.Start = search in
+    (begun (start .pre) (t .turning), next-range t .0, next-range t .1)
 
 lists-at-requires : tie.Need-lists-at-requires Inv-loop μ-loop
 lists-at-requires c κs = next-in-set (trying (search))
@@ -243,15 +259,32 @@ act-requires c κs = let t = trying (search) in (t .turning .standing, counting 
 add-made-2 : tie.Need-add-made-2 Inv-loop μ-loop
 add-made-2 c = let start : Place tie.Start = search in omega (arith, trying (search) .paid, start .fits .budget)
 
+sub-left : tie.Need-sub-left Inv-loop μ-loop
+sub-left c = turned c .going .in-budget
+
+descend-requires : tie.Need-descend-requires Inv-loop μ-loop
+descend-requires c κs =
+    let after : Place tie.After-is-stale = search in
+    entering (start (stood after) .pre) (turned after)
+
+sub-made : tie.Need-sub-made Inv-loop μ-loop
+sub-made c = let dived : Place tie.After-descend = search in omega (arith, dived .descend .ensures .more)
+
+add-made-3 : tie.Need-add-made-3 Inv-loop μ-loop
+add-made-3 c =
+    let after : Place tie.After-is-stale = search in
+    let dived : Place tie.After-descend = search in
+    omega (arith, further-paid (turned after) (dived .descend .ensures), start (stood after) .fits .budget)
+
 loop-less : tie.Need-loop-less Inv-loop μ-loop
-loop-less c = omega (arith, trying (search) .paid)
+loop-less c = omega (arith, turned (search) .going .in-budget)
 
 loop-again : tie.Need-loop-again Inv-loop μ-loop
 loop-again c =
-    let lists : Place tie.After-lists-at = search in
-    let opens : Place tie.After-opens-at = search in
-    turn (trying (search)) (planned (search)) (written (search))
-    (lists .lists-at .ensures) (opens .opens-at .ensures) (c .before .act .ensures) (c .is-stale .ensures)
+    let after : Place tie.After-is-stale = search in
+    let dived : Place tie.After-descend = search in
+    dives (turned after) (dived .descend .ensures)
+    (not-first (trying (search)) (after .before .act .ensures) (after .is-stale .ensures))
 
 same-length : tie.Need-same-length Inv-loop μ-loop
 same-length c = length-kept (turning (search))
@@ -268,4 +301,5 @@ run-trials-spec =
     Inv-loop μ-loop (λ c κs. tt) (λ c κs. tt) loop-holds (λ c. omega arith) (λ c κs. omega arith) skipped-requires
     add-made is-done-requires (λ c κs. tt) plan-at-requires lists-at-requires sub-if6 add-if6 sub-put-record
     part-put-record-start (λ c. omega arith) put-record-requires add-used add-used-2 opens-at-requires act-requires
-    add-made-2 (λ c κs. tt) loop-less loop-again (λ c κs. tt) same-length returns)
+    add-made-2 (λ c κs. tt) sub-left descend-requires sub-made add-made-3 loop-less loop-again (λ c κs. tt)
+    same-length returns)
