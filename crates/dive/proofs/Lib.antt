@@ -1,2 +1,5 @@
 pub mod Levels
+pub mod Stages
+pub mod Listings
+pub mod Descents
 pub mod Entries
