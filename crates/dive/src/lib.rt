@@ -144,7 +144,7 @@ fn dive(
         ((d : Descent n (now (table .entry)) most from start (now (prefix .entry)) (now (levels .entry))
         (now (out .entry))) →
         Left (d .family) n most (now (prefix .entry)) from (now (out .entry)) start (now (prefix .exit)) (now (out .exit))
-        r) ⌝ }
+        r) × (length (now (levels .exit)) ≡ 774) ⌝ }
 {
     let base = from.len;
     let mut at = from;
@@ -234,7 +234,7 @@ fn below(
         (firstLength (q .kind) ≤ at .len) × Bounds at most ⌝ }
     ensures { λ r. ⌜
         Descended (familyBy n (now (table .entry)) (q .kind) (q .s) (q .t)) (now (prefix .entry)) at (most - at .trials)
-        (now (out .entry)) start (now (prefix .exit)) (now (out .exit)) r ⌝ }
+        (now (out .entry)) start (now (prefix .exit)) (now (out .exit)) r × (length (now (levels .exit)) ≡ 774) ⌝ }
 {
     let len = at.len;
     let aim = openness::aim_at(table, n, q.kind, q.s, q.t, prefix, len);
@@ -271,7 +271,7 @@ pub fn descend(
     requires { ⌜ Entering n (now table) q at start (now prefix) (now levels) (now out) ⌝ }
     ensures { λ r. ⌜
         Descended (familyBy n (now (table .entry)) (q .kind) (q .s) (q .t)) (now (prefix .entry)) at left
-        (now (out .entry)) start (now (prefix .exit)) (now (out .exit)) r ⌝ }
+        (now (out .entry)) start (now (prefix .exit)) (now (out .exit)) r × (length (now (levels .exit)) ≡ 774) ⌝ }
 {
     if enters(q.kind, at, left) {
         let most = at.trials + room_for(at, left);

@@ -31,8 +31,9 @@ module _ {n : ℕ} {table : List ℕ} {q : Search} (ready : Ready n table q) {bu
     isOpened = opened t;
   }
 
-  pub entering : Entering n table q at used prefix out
-  entering = record {
+  pub entering : {kept : List ℕ} → length kept ≡ 774 → Entering n table q at used prefix kept out
+  entering size = record {
+    sized = size;
     begun = begun;
     standing = t .standing;
     trials-most = t .bounded .trials-most;

@@ -70,7 +70,7 @@ left :
     (args .prefix .now) (args .at) (args .out .now) (args .start) (c .dive .last .1 .1 .1 .1 .1 .0)
     (c .dive .last .1 .1 .1 .1 .1 .1 .1 .0) (c .dive .result)
 unfolding descent
-left c = c .dive .ensures (descent (planned c))
+left c = c .dive .ensures .0 (descent (planned c))
 
 abbrev dived : tie.After-unwind-arg → tie.After-dive
 dived c = c .before .before .before .before
@@ -83,8 +83,9 @@ unwind-requires c κs = record {
 
 returns : tie.Need-returns
 returns c =
-    let start = place (planned (dived (c .before))) in
-    left-unwound (begun-atoms (begun start)) (start .pre .1) (left (dived (c .before))) (c .unwind .ensures)
+    let end = dived (c .before) in
+    let start = place (planned end) in
+    (left-unwound (begun-atoms (begun start)) (start .pre .1) (left end) (c .unwind .ensures), end .dive .ensures .1)
 
 pub below-spec : {M : Type 1} → statement M
 below-spec =

@@ -280,19 +280,26 @@ same-length : tie.Need-same-length Inv-loop μ-loop
 same-length c = listed-length (diving (search) .listing)
 
 returns : tie.Need-returns Inv-loop μ-loop
-returns c d = let loop : Place tie.At-loop = search in diving-left d (loop .loop .inv d)
+returns c = let loop : Place tie.At-loop = search in (λ d. diving-left d (loop .loop .inv d), diving loop .size)
 
 same-length-2 : tie.Need-same-length-2 Inv-loop μ-loop
 same-length-2 c = listed-length (diving (search) .listing)
 
 returns-2 : tie.Need-returns-2 Inv-loop μ-loop
-returns-2 c d = let loop : Place tie.At-loop = search in diving-left d (loop .loop .inv d)
+returns-2 c = let loop : Place tie.At-loop = search in (λ d. diving-left d (loop .loop .inv d), diving loop .size)
 
 same-length-3 : tie.Need-same-length-3 Inv-loop μ-loop
 same-length-3 c = listed-length (diving (search) .listing)
 
 returns-3 : tie.Need-returns-3 Inv-loop μ-loop
-returns-3 c d = let loop : Place tie.At-loop = search in diving-left d (loop .loop .inv d)
+returns-3 c =
+    let t : Place tie.After-contains = search in
+    let kept : Place tie.After-keep-rest = search in
+    let now = loop (here t) in (
+      λ d. diving-left d (now .loop .inv d),
+      kept-size _ (diving now) (deep (here t)) (far (here t)) (lowest-in (others t .before)) (left-in (others t))
+          (kept .keep-rest .ensures),
+    )
 
 pub dive-spec : {M : Type 1} → statement M
 dive-spec =

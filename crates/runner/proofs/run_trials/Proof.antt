@@ -1,10 +1,10 @@
 -- `runner::run_trials` meets its contract. The invariant is `Turning`, the rest of the work; the measure is the budget
 -- that is left. What the tests, the plan and the record tell is said once at each place.
-use Prim.Native.Nat.{_+_, _-_}
+use Prim.Native.Nat.{ℕ, _+_, _-_}
 use native.Mathlib.Omega.{arith}
 use mathlib.Core.Path.{_≡_, sym, _∙_}
 use mathlib.Core.Logic.{inl, inr}
-use lib.ListN.{take}
+use lib.ListN.{length, take, length-replicate}
 use Rattle.enumeration.specs.Machine.{State, isDone, tried}
 use Rattle.enumeration.specs.Run.{atLimit}
 use Rattle.openness.specs.declared.Plan.{Plan}
@@ -22,7 +22,7 @@ use Rattle.runner.proofs.run_trials.Tie as tie
 
 abbrev Inv-loop : tie.InvT-loop
 Inv-loop table n q budget out₀ prefix₀ at₀ found₀ stale₀ kept₀ used₀ made₀ out prefix at found stale kept used made =
-    Turning (taskOf n table q budget out₀) out prefix at found stale used made
+    Turning (taskOf n table q budget out₀) out prefix at found stale used made × (length kept ≡ 774)
 
 abbrev μ-loop : tie.MeasureT-loop
 μ-loop table n q budget out₀ prefix₀ at₀ found₀ stale₀ kept₀ used₀ made₀ out prefix at found stale kept used made =
@@ -69,7 +69,7 @@ turning :
     let loop = c .before .before .loop in
     Turning (task (c .before .before)) (loop .out) (loop .prefix) (c .skipped .result) (loop .found) (loop .stale)
     (loop .used) (loop .made + c .before .idle-trials .result)
-turning c = rw (c .skipped .ensures) (skips _ _ (c .before .before .loop .inv) (c .before .idle-trials .ensures))
+turning c = rw (c .skipped .ensures) (skips _ _ (c .before .before .loop .inv .0) (c .before .idle-trials .ensures))
 
 -- as if the loop stood there
 abbrev head : Place tie.After-skipped → Place tie.At-loop
@@ -86,7 +86,7 @@ head c =
         kept = loop .kept;
         used = loop .used;
         made = loop .made + c .before .idle-trials .result;
-        inv = turning c;
+        inv = (turning c, loop .inv .1);
       };
     }
 
@@ -197,17 +197,17 @@ stops c =
 loop-holds : tie.Need-loop-holds Inv-loop μ-loop
 loop-holds c =
     let start : Place tie.Start = search in
-    rw (c .before .spot-of .ensures) (starts _ _ _ (start .pre))
+    (rw (c .before .spot-of .ensures) (starts _ _ _ (start .pre)), length-replicate {A = ℕ} 774 0)
 
 skipped-requires : tie.Need-skipped-requires Inv-loop μ-loop
 skipped-requires c κs =
-    let t = c .before .loop .inv in
+    let t = c .before .loop .inv .0 in
     (omega (arith, next-most t, t .few), t .bounded .trials-most, c .idle-trials .ensures .small)
 
 add-made : tie.Need-add-made Inv-loop μ-loop
 add-made c =
     let loop : Place tie.At-loop = search in
-    omega (arith, c .before .idle-trials .ensures, loop .loop .inv .going .in-budget, start loop .fits .budget)
+    omega (arith, c .before .idle-trials .ensures, loop .loop .inv .0 .going .in-budget, start loop .fits .budget)
 
 is-done-requires : tie.Need-is-done-requires Inv-loop μ-loop
 is-done-requires c κs = turning (search) .few
@@ -265,16 +265,16 @@ sub-left c = turned c .going .in-budget
 descend-requires : tie.Need-descend-requires Inv-loop μ-loop
 descend-requires c κs =
     let after : Place tie.After-is-stale = search in
-    entering (start (stood after) .pre) (turned after)
+    entering (start (stood after) .pre) (turned after) (stood after .loop .inv .1)
 
 sub-made : tie.Need-sub-made Inv-loop μ-loop
-sub-made c = let dived : Place tie.After-descend = search in omega (arith, dived .descend .ensures .more)
+sub-made c = let dived : Place tie.After-descend = search in omega (arith, dived .descend .ensures .0 .more)
 
 add-made-3 : tie.Need-add-made-3 Inv-loop μ-loop
 add-made-3 c =
     let after : Place tie.After-is-stale = search in
     let dived : Place tie.After-descend = search in
-    omega (arith, further-paid (turned after) (dived .descend .ensures), start (stood after) .fits .budget)
+    omega (arith, further-paid (turned after) (dived .descend .ensures .0), start (stood after) .fits .budget)
 
 loop-less : tie.Need-loop-less Inv-loop μ-loop
 loop-less c = omega (arith, turned (search) .going .in-budget)
@@ -282,9 +282,11 @@ loop-less c = omega (arith, turned (search) .going .in-budget)
 loop-again : tie.Need-loop-again Inv-loop μ-loop
 loop-again c =
     let after : Place tie.After-is-stale = search in
-    let dived : Place tie.After-descend = search in
-    dives (turned after) (dived .descend .ensures)
-    (not-first (trying (search)) (after .before .act .ensures) (after .is-stale .ensures))
+    let dived : Place tie.After-descend = search in (
+      dives (turned after) (dived .descend .ensures .0)
+          (not-first (trying (search)) (after .before .act .ensures) (after .is-stale .ensures)),
+      dived .descend .ensures .1,
+    )
 
 same-length : tie.Need-same-length Inv-loop μ-loop
 same-length c = length-kept (turning (search))
