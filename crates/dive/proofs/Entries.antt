@@ -1,32 +1,29 @@
 -- From a place of a run to what the fast loop starts from, and from where the fast loop leaves to the unwound place.
 -- The two sets of the beginning and its plan are kept and found again; a beginning whose next atom is 1 is unwound.
-use Prim.Native.Nat.{ℕ, suc, _+_, _-_, _≤_, _<_}
+use Prim.Native.Nat.{ℕ, _+_, _-_, _≤_, _<_}
 use native.Mathlib.Omega.{arith}
 use mathlib.Core.Path.{_≡_, refl, ap, sym, _∙_}
-use mathlib.Core.Bool.{true}
-use mathlib.Core.List.{List, [], _∷_, _++_}
+use mathlib.Core.List.{List, []}
 use lib.ListN.{length, getD, take, take-append-drop}
-use Rattle.graph.specs.Chordless.{Adjacency}
-use Rattle.enumeration.specs.Words.{Family, isOpen}
-use Rattle.enumeration.specs.Machine.{State, placed, unwound}
-use Rattle.enumeration.specs.Run.{limit}
-use Rattle.enumeration.specs.Makes.{Makes, none}
+use Rattle.enumeration.specs.Words.{Family}
+use Rattle.enumeration.specs.Machine.{placed}
+use Rattle.enumeration.specs.Makes.{none}
 use Rattle.enumeration.proofs.Makes.{unwound-stays}
 use Rattle.chordless.proofs.Steers.{steers-same}
-use Rattle.atomset.specs.Set.{has, linkedBy}
+use Rattle.atomset.specs.Set.{linkedBy}
 use Rattle.search.specs.declared.Search.{Search}
 use Rattle.openness.specs.declared.Aim.{Aim}
-use Rattle.openness.specs.Plan.{familyBy, firstLength, HandedOn, Steered}
+use Rattle.openness.specs.Plan.{familyBy, firstLength, Steered}
 use Rattle.openness.proofs.Arrays.{open-atoms}
 use Rattle.openness.proofs.Plans.{family-by-lawful, family-by-atoms}
 use Rattle.openness.proofs.Aims.{first-some}
 use Rattle.trial.specs.declared.Spot.{Spot}
 use Rattle.trial.specs.declared.Place.{Place}
-use Rattle.trial.specs.Parts.{stackOf, stateAt, HeldWithRoom, Unwound}
+use Rattle.trial.specs.Parts.{stackOf, stateAt, Unwound}
 use Rattle.trial.proofs.Arrays.{stack-length, unwound-most}
 use Rattle.dive.specs.declared.Dived.{Dived}
-use Rattle.dive.specs.Levels.{aimIn, restIn, keptAim, LevelPlanned}
-use Rattle.dive.specs.Parts.{Bounds, Room, Descent, Left, Listed, Entering, Descended, stateBefore}
+use Rattle.dive.specs.Levels.{aimIn, keptAim, LevelPlanned}
+use Rattle.dive.specs.Parts.{Bounds, Room, Descent, Left, Entering, Descended, stateBefore}
 use Rattle.dive.proofs.Levels.{length-kept-aim, goal-kept-same, free-kept-same}
 
 -- ---- what the fast loop starts from

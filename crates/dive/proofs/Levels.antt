@@ -62,7 +62,8 @@ pub rest-kept-same :
     has (restIn (keptRest levels i rest) i) u ≡ has rest u
 rest-kept-same levels i rest size h =
     same-words (restIn (keptRest levels i rest) i) rest
-    (getD-set-other (set levels (6 * i + 4) (getD rest 0 0)) (6 * i + 5) (6 * i + 4) (getD rest 1 0) 0 (λ e. omega arith)
+    (getD-set-other (set levels (6 * i + 4) (getD rest 0 0)) (6 * i + 5) (6 * i + 4) (getD rest 1 0) 0
+    (λ e. omega arith)
     ∙ getD-set-same levels (6 * i + 4) (getD rest 0 0) 0 (omega arith))
     (getD-set-same (set levels (6 * i + 4) (getD rest 0 0)) (6 * i + 5) (getD rest 1 0) 0
     (omega (arith, length-set levels (6 * i + 4) (getD rest 0 0))))
@@ -153,7 +154,7 @@ module _ (levels : List ℕ) (i : ℕ) (aim : Aim) where
 
 -- ---- a beginning is planned
 
--- what is found for the beginning of `len` atoms with the last atom x: the sets handed on, the plan, the atoms to be tried
+-- what is found for a beginning with the last atom x: the sets handed on, the plan, the atoms to be tried
 pub record Found (adj : Adjacency) (x : ℕ) (aim next : Aim) (plan : Plan) (rest : List ℕ) : Type 0 where
   pub handing : HandedOn adj x aim next
   pub telling : (F : Family) (p : List ℕ) → Steered F adj p x aim → Everywhere F p plan

@@ -1,5 +1,5 @@
--- The sets kept by length: those of the beginnings of i atoms have 6 words from place 6 × i on. Nothing to believe: they
--- serve the proof of the fast loop.
+-- The sets kept by length: those of the beginnings of i atoms have 6 words from place 6 × i on. Nothing to believe:
+-- they serve the proof of the fast loop.
 use Prim.Native.Nat.{ℕ, suc, _+_, _*_, _≤_}
 use mathlib.Core.Path.{_≡_}
 use mathlib.Core.Bool.{_||_}

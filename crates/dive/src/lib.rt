@@ -68,8 +68,8 @@ fn keep_rest(levels: &mut [u64; 774], i: usize, rest: [u64; 2])
     levels[6 * i + 5] = rest[1];
 }
 
-// Plans the beginning of `len` atoms with the last atom x: keeps the atoms to be tried, and the sets of the beginnings that
-// have an atom more.
+// Plans the beginning of `len` atoms with the last atom x: keeps the atoms to be tried, and the sets of the beginnings
+// that have an atom more.
 fn plan_level(table: &[u64; 256], levels: &mut [u64; 774], len: usize, x: usize)
     requires { ⌜
         Symmetric (linkedBy (now table)) × (len ≤ 127) × (1 ≤ x) × (x ≤ 128) × (length (now levels) ≡ 774) ⌝ }
@@ -143,8 +143,8 @@ fn dive(
     ensures { λ r. ⌜
         ((d : Descent n (now (table .entry)) most from start (now (prefix .entry)) (now (levels .entry))
         (now (out .entry))) →
-        Left (d .family) n most (now (prefix .entry)) from (now (out .entry)) start (now (prefix .exit)) (now (out .exit))
-        r) × (length (now (levels .exit)) ≡ 774) ⌝ }
+        Left (d .family) n most (now (prefix .entry)) from (now (out .entry)) start (now (prefix .exit))
+        (now (out .exit)) r) × (length (now (levels .exit)) ≡ 774) ⌝ }
 {
     let base = from.len;
     let mut at = from;
@@ -202,8 +202,8 @@ fn room_for(at: Spot, left: u64) -> u64
     least(extensions, 9_999_999_999_999_999_999 - at.listed)
 }
 
-// Whether the fast loop pays: the last trial has added an atom, two sets steer the beginning, and some hundred trials are
-// left.
+// Whether the fast loop pays: the last trial has added an atom, two sets steer the beginning, and some hundred trials
+// are left.
 fn enters(kind: usize, at: Spot, left: u64) -> bool
     ensures { λ r. ⌜ (r ≡ true → (at .next ≡ 1) × (firstLength kind ≤ at .len)) ⌝ }
 {

@@ -50,8 +50,8 @@ place c = sets c .before .before .before .before .before
 descent :
     (c : tie.After-plan-level) →
     let args = place c .args in
-    Descent (args .n) (args .table .now) (args .most) (args .at) (args .start) (args .prefix .now) (c .plan-level .last .1 .0)
-    (args .out .now)
+    Descent (args .n) (args .table .now) (args .most) (args .at) (args .start) (args .prefix .now)
+    (c .plan-level .last .1 .0) (args .out .now)
 descent c =
     begun-descent (begun (place c)) (sets c .keep-aim .ensures) (atom c .u8-usize .ensures .same)
     (sets c .before .before .aim-at .ensures) (c .plan-level .ensures)

@@ -1,6 +1,5 @@
 -- `dive::descend` meets its contract: the trials below the beginning where it enters, and no trial where it does not.
 -- The room that the counts leave bounds the trials.
-use native.Mathlib.Omega.{arith}
 use borrow.Author.Needs.{needs}
 use Rattle.openness.specs.Plan.{familyBy}
 use Rattle.dive.proofs.Entries.{room-bounds, descended-within, none-made}

@@ -15,4 +15,5 @@ returns-3 c = λ e.
 
 pub enters-spec : {M : Type 1} → statement M
 enters-spec =
-    tie.close (tie.spec (λ c e. absurd (apart (sym e))) (λ c e. absurd (apart (sym e))) (λ c κs. search needs) returns-3)
+    tie.close
+    (tie.spec (λ c e. absurd (apart (sym e))) (λ c e. absurd (apart (sym e))) (λ c κs. search needs) returns-3)
