@@ -1,5 +1,5 @@
--- What the fast loop keeps from turn to turn, and its three turns: the last atom is dropped, a member is listed, an atom
--- is added. Each turn is trials that only raise the next atom and at most one more, so `Makes` of enumeration joins them.
+-- What the fast loop keeps from turn to turn, and its three turns: the last atom is dropped, a member is listed, an
+-- atom is added. Each turn is trials that only raise the next atom, and at most one more: `Makes` joins them.
 use Prim.Native.Nat.{ℕ, suc, _+_, _-_, _*_, _≤_, _<_}
 use native.Mathlib.Omega.{arith}
 use native.Mathlib.Numerals.{add-one}
@@ -111,7 +111,8 @@ module _ {n : ℕ} {table : List ℕ} {most : ℕ} {from : Spot} {start : ℕ} {
       where
         split : (F .member (word ++ v ∷ []) ≡ true) ⊎ (isOpen F (word ++ v ∷ []) ≡ true) → v ≤ F .atoms
         split (inl m) =
-            let whole = range-at (F .atoms) (reverse (v ∷ stack)) (lawful .inRange (reverse (v ∷ stack)) (rw (word-is v) m)) in
+            let atoms = lawful .inRange (reverse (v ∷ stack)) (rw (word-is v) m) in
+            let whole = range-at (F .atoms) (reverse (v ∷ stack)) atoms in
             let (low, high, only) = range-on (F .atoms) stack (v ∷ []) whole in
             high
         split (inr o) = stack-top F lawful stack v (rw (word-is v) o) .1
@@ -161,14 +162,17 @@ module _ {n : ℕ} {table : List ℕ} {most : ℕ} {from : Spot} {start : ℕ} {
       idle u h =
           false-of (goesOnBy F word u)
           (λ e. clash (has (restIn levels (at .len)) u)
-          (stage .to-try u (omega (arith, k .low)) ∙ and-both (leb (at .next) u) (goesOnBy F word u) (le-leb (at .next) u h) e)
+          (stage .to-try u (omega (arith, k .low)) ∙
+          and-both (leb (at .next) u) (goesOnBy F word u) (le-leb (at .next) u h) e)
           (nothing u))
 
       raised : Makes F (stateBefore n shorter (droppedAt at n last)) (stateBefore n prefix at) (n + 1 - at .next) []
       raised =
           let all : at .next + (n + 1 - at .next) ≡ n + 1 = omega (arith, k .high) in
           rw (popped .rest)
-          (rw all at (rises (n + 1 - at .next) (omega (arith, k .high)) (omega (arith, k .low, d .words .few)) (λ u l h. idle u l)))
+          (rw all at
+          (rises (n + 1 - at .next) (omega (arith, k .high)) (omega (arith, k .low, d .words .few))
+          (λ u l h. idle u l)))
 
       -- the places of a shorter beginning are as they were
       word-kept : (i : ℕ) → i ≤ at .len - 1 → take i shorter ≡ take i prefix
@@ -249,7 +253,8 @@ module _ {n : ℕ} {table : List ℕ} {most : ℕ} {from : Spot} {start : ℕ} {
       -- its trial, of which the state and the bytes are given
       with-last :
           {last : State} {bytes : List ℕ} →
-          Makes F last (placed (unwound n stack v) (at .trials + (v - at .next)) (at .extensions) (at .listed)) 1 bytes →
+          Makes F last (placed (unwound n stack v) (at .trials + (v - at .next)) (at .extensions) (at .listed)) 1
+          bytes →
           Makes F last (stateBefore n prefix₀ from) (at .trials + (v + 1 - at .next) - from .trials) (k .bytes ++ bytes)
       with-last m = joins (makes-join before m) (omega (arith, v-from))
 
@@ -287,7 +292,9 @@ module _ {n : ℕ} {table : List ℕ} {most : ℕ} {from : Spot} {start : ℕ} {
         more = omega (arith, k .more);
         bounds = counts′ (at .listed + 1) (at .extensions) (omega arith) (omega arith);
         makes = with-last member;
-        listing = listed-more (k .listing) (recordOf (word ++ v ∷ [])) (omega (arith, record-size)) written (omega (arith, record-size));
+        listing =
+            listed-more (k .listing) (recordOf (word ++ v ∷ [])) (omega (arith, record-size)) written
+            (omega (arith, record-size));
         here = λ h. lowered;
         passed = passed′;
       }
@@ -295,10 +302,12 @@ module _ {n : ℕ} {table : List ℕ} {most : ℕ} {from : Spot} {start : ℕ} {
           record-size : length (recordOf (word ++ v ∷ [])) ≡ at .len + 2
           record-size = record-length prefix (at .len) v (k .held .within .size) (k .held .short)
 
-          written : out′ ≡ take used out ++ (recordOf (word ++ v ∷ []) ++ drop (length (recordOf (word ++ v ∷ []))) (drop used out))
+          written :
+              let bytes = recordOf (word ++ v ∷ []) in
+              out′ ≡ take used out ++ (bytes ++ drop (length bytes) (drop used out))
           written =
-              rw record-size
-              (back ∙ part-back out part (recordOf (word ++ v ∷ [])) used (at .len + 2) (listed-within (k .listing)) put)
+              let bytes = recordOf (word ++ v ∷ []) in
+              rw record-size (back ∙ part-back out part bytes used (at .len + 2) (listed-within (k .listing)) put)
 
           member :
               Makes F (stateBefore n prefix (listedAt at v))
@@ -306,7 +315,8 @@ module _ {n : ℕ} {table : List ℕ} {most : ℕ} {from : Spot} {start : ℕ} {
               (recordOf (word ++ v ∷ []))
           member =
               let next : v + 1 ≡ suc v = add-one v in
-              let trials : at .trials + (v + 1 - at .next) ≡ suc (at .trials + (v - at .next)) = omega (arith, v-from) in
+              let trials : at .trials + (v + 1 - at .next) ≡ suc (at .trials + (v - at .next)) =
+              omega (arith, v-from) in
               let listed : at .listed + 1 ≡ suc (at .listed) = add-one (at .listed) in
               let e< : at .extensions < limit = omega (arith, k .bounds) in
               let l< : at .listed < limit = omega (arith, k .bounds) in
@@ -356,7 +366,9 @@ module _ {n : ℕ} {table : List ℕ} {most : ℕ} {from : Spot} {start : ℕ} {
           room = omega (arith, k .held .within .size, k .held .short)
 
           -- the beginnings that it goes on from
-          kept : (i : ℕ) {c : ℕ} → from .len ≤ i → i ≤ at .len → StageHere prefix levels′ i c → StageHere (set prefix (at .len) v) levels″ i c
+          kept :
+              (i : ℕ) {c : ℕ} → from .len ≤ i → i ≤ at .len → StageHere prefix levels′ i c →
+              StageHere (set prefix (at .len) v) levels″ i c
           kept i low h s =
               stage-same s (take-set-le i prefix (at .len) v h)
               (getD-set-other prefix (at .len) (i - 1) v 0 (λ e. omega (arith, d .some)))
@@ -368,9 +380,12 @@ module _ {n : ℕ} {table : List ℕ} {most : ℕ} {from : Spot} {start : ℕ} {
               StageHere (set prefix (at .len) v) levels″ i (getD (set prefix (at .len) v) i 0 + 1)
           passed″ i low h = split (decLt i (at .len))
             where
-              split : Dec (i < at .len) → StageHere (set prefix (at .len) v) levels″ i (getD (set prefix (at .len) v) i 0 + 1)
+              split :
+                  Dec (i < at .len) →
+                  StageHere (set prefix (at .len) v) levels″ i (getD (set prefix (at .len) v) i 0 + 1)
               split (yes b) =
-                  rw (getD-set-other prefix (at .len) i v 0 (λ e. omega arith)) (kept i low (omega arith) (passed′ i low b))
+                  rw (getD-set-other prefix (at .len) i v 0 (λ e. omega arith))
+                  (kept i low (omega arith) (passed′ i low b))
               split (no b) =
                   let same : i ≡ at .len = omega arith in
                   rw (same, getD-set-same prefix (at .len) v 0 room) (kept (at .len) deep (omega arith) lowered)
@@ -380,7 +395,8 @@ module _ {n : ℕ} {table : List ℕ} {most : ℕ} {from : Spot} {start : ℕ} {
               (placed (unwound n stack v) (at .trials + (v - at .next)) (at .extensions) (at .listed)) 1 []
           added =
               let len : at .len + 1 ≡ suc (at .len) = add-one (at .len) in
-              let trials : at .trials + (v + 1 - at .next) ≡ suc (at .trials + (v - at .next)) = omega (arith, v-from) in
+              let trials : at .trials + (v + 1 - at .next) ≡ suc (at .trials + (v - at .next)) =
+              omega (arith, v-from) in
               let extensions : at .extensions + 1 ≡ suc (at .extensions) = add-one (at .extensions) in
               let e< : at .extensions < limit = omega (arith, k .bounds) in
               let l< : at .listed < limit = omega (arith, k .bounds) in
@@ -392,37 +408,49 @@ module _ {n : ℕ} {table : List ℕ} {most : ℕ} {from : Spot} {start : ℕ} {
               (placed (unwound m (v ∷ stack) 1) (suc (at .trials + (v - at .next))) (suc (at .extensions)) (at .listed))
               (placed (unwound m stack v) (at .trials + (v - at .next)) (at .extensions) (at .listed)) 1 [])
               (d .atoms)
-              (makes-extends stack v (l .low) (omega (arith, v-most, d .atoms)) no-member (opens-stack not-closing) t< e< l<))
+              (makes-extends stack v (l .low) (omega (arith, v-most, d .atoms)) no-member (opens-stack not-closing) t<
+              e< l<))
 
 -- ---- the turns as the calls tell them
 
+-- a turn that tries the lowest atom v: the beginning is not shorter than at the start, no stop is near, and the atoms
+-- still to be tried are kept without it
+pub record Tries (most : ℕ) (from at : Spot) (levels : List ℕ) (v : ℕ) (others kept : List ℕ) : Type 0 where
+  pub deep : from .len ≤ at .len
+  pub far : 129 ≤ most - at .trials
+  pub lowest : Lowest (restIn levels (at .len)) v
+  pub left : LowestLeft (restIn levels (at .len)) others
+  pub kept-is : kept ≡ keptRest levels (at .len) others
+
 module _ {n : ℕ} {table : List ℕ} {most : ℕ} {from : Spot} {start : ℕ} {prefix₀ levels₀ out₀ : List ℕ}
     (d : Descent n table most from start prefix₀ levels₀ out₀) {prefix levels out : List ℕ} {at : Spot} {used : ℕ}
-    (k : Diving d prefix levels out at used) (deep : from .len ≤ at .len) (far : 129 ≤ most - at .trials)
+    (k : Diving d prefix levels out at used)
   where
     pub drops :
-        {last : ℕ} {at′ : Spot} → last ≡ getD prefix (at .len - 1) 0 →
+        from .len ≤ at .len → 129 ≤ most - at .trials → {last : ℕ} {at′ : Spot} → last ≡ getD prefix (at .len - 1) 0 →
         ((u : ℕ) → has (restIn levels (at .len)) u ≡ false) → at′ ≡ droppedAt at n last →
         Diving d (set prefix (at .len - 1) 0) levels out at′ used
-    drops last-is nothing e = rw e (diving-drops d k deep far last-is nothing)
+    drops deep far last-is nothing e = rw e (diving-drops d k deep far last-is nothing)
 
-    module _ {v : ℕ} {others kept : List ℕ} (l : Lowest (restIn levels (at .len)) v)
-        (left : LowestLeft (restIn levels (at .len)) others) (kept-is : kept ≡ keptRest levels (at .len) others) where
+    module _ {v : ℕ} {others kept : List ℕ} (t : Tries most from at levels v others kept) where
+      from-next : at .next ≤ v
+      from-next = v-from d k (t .deep) (t .far) (t .lowest) (t .left)
+
       -- the trials up to v can be counted
       pub rising : Rising at v
-      rising =
-          record {
-            ahead = omega (arith, v-from d k deep far l left);
-            few = l .high;
-            countable = omega (arith, k .bounds);
-          }
+      rising = record {
+        ahead = omega (arith, from-next);
+        few = t .lowest .high;
+        countable = omega (arith, k .bounds);
+      }
 
       pub kept-size : length kept ≡ 774
-      kept-size = ap length kept-is ∙ size′ d k deep far l left
+      kept-size = ap length (t .kept-is) ∙ size′ d k (t .deep) (t .far) (t .lowest) (t .left)
 
       -- the trials that are left fall
-      pub falls-by : 129 * (most - (at .trials + (v + 1 - at .next))) + suc (at .len) < 129 * (most - at .trials) + at .len
-      falls-by = omega (arith, v-from d k deep far l left, k .low, l .high)
+      pub falls-by :
+          129 * (most - (at .trials + (v + 1 - at .next))) + suc (at .len) < 129 * (most - at .trials) + at .len
+      falls-by = omega (arith, from-next, k .low, t .lowest .high, t .far)
 
       pub lists :
           {out′ part : List ℕ} {at′ : Spot} → has (aimIn levels (at .len) .goal) v ≡ true →
@@ -431,16 +459,20 @@ module _ {n : ℕ} {table : List ℕ} {most : ℕ} {from : Spot} {start : ℕ} {
           drop (at .len + 2) (take (length out - used) (drop used out)) →
           out′ ≡ putMid used (length out - used) out part → at′ ≡ listedAt at v →
           Diving d prefix kept out′ at′ (used + (at .len + 2))
-      lists closes room put back e = rw (e, kept-is) (diving-lists d k deep far l left closes room put back refl)
+      lists closes room put back e =
+          rw (e, t .kept-is)
+          (diving-lists d k (t .deep) (t .far) (t .lowest) (t .left) closes room put back refl)
 
       pub extends-length : has (aimIn levels (at .len) .goal) v ≡ false → at .len + 1 ≤ 127
-      extends-length not-closing = short′ d k deep far l left not-closing
+      extends-length not-closing = short′ d k (t .deep) (t .far) (t .lowest) (t .left) not-closing
 
       pub extends :
           {planned : List ℕ} {at′ : Spot} → has (aimIn levels (at .len) .goal) v ≡ false →
           LevelPlanned (linkedBy table) v (at .len + 1) kept planned → at′ ≡ extendedAt at v →
           Diving d (set prefix (at .len) v) planned out at′ used
-      extends not-closing p e = rw e (diving-extends d k deep far l left not-closing (rw kept-is at p))
+      extends not-closing p e =
+          rw e
+          (diving-extends d k (t .deep) (t .far) (t .lowest) (t .left) not-closing (rw (t .kept-is) at p))
 
 -- ---- the loop is left
 

@@ -16,7 +16,8 @@ listed-none {out} {start} h = record {
   output = sym (take-append-drop start out);
 }
 
-module _ {before : List ℕ} {start : ℕ} {bytes after : List ℕ} {used : ℕ} (k : Listed before start bytes after used) where
+module _ {before : List ℕ} {start : ℕ} {bytes after : List ℕ} {used : ℕ}
+    (k : Listed before start bytes after used) where
   -- the bytes before the place, and those after it
   abbrev front : List ℕ
   front = take start before ++ bytes
@@ -42,7 +43,8 @@ module _ {before : List ℕ} {start : ℕ} {bytes after : List ℕ} {used : ℕ}
   listed-within = omega (arith, listed-length, k .fits, k .used-is)
 
   -- a record that fits the rest of the output fits the part that is lent
-  pub room-in-part : {size : ℕ} → size ≤ length after - used → size ≤ length (take (length after - used) (drop used after))
+  pub room-in-part :
+      {size : ℕ} → size ≤ length after - used → size ≤ length (take (length after - used) (drop used after))
   room-in-part h = omega (arith, part-length after used listed-within)
 
   -- one record more

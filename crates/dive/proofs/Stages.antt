@@ -169,5 +169,6 @@ module _ {F : Family} {adj : Adjacency} {prefix levels : List ℕ} {i c : ℕ} w
           long [] = omega arith
           long (a ∷ p) = omega arith
 
-      steered′ : Steered F adj (take (i + 1) (set prefix i v)) (getD (set prefix i v) (i + 1 - 1) 0) (aimIn levels′ (i + 1))
+      steered′ :
+          Steered F adj (take (i + 1) (set prefix i v)) (getD (set prefix i v) (i + 1 - 1) 0) (aimIn levels′ (i + 1))
       steered′ = rw (last-is, planned .aims-kept (i + 1) (omega arith)) before

@@ -44,8 +44,11 @@ atom c = c .before
 abbrev sets : tie.After-plan-level → tie.After-keep-aim
 sets c = c .before .before .before .before
 
+abbrev begins : tie.After-keep-aim → tie.Start
+begins c = c .before .before .before .before .before
+
 abbrev place : tie.After-plan-level → tie.Start
-place c = sets c .before .before .before .before .before
+place c = begins (sets c)
 
 descent :
     (c : tie.After-plan-level) →

@@ -11,7 +11,7 @@ use Rattle.atomset.specs.Set.{has, Lowest, LowestLeft}
 use Rattle.dive.specs.Levels.{restIn, aimIn}
 use Rattle.dive.specs.Parts.{Descent}
 use Rattle.dive.proofs.Descents.{Diving, diving-starts, diving-left, closing-told}
-use Rattle.dive.proofs.Descents.{drops, rising, kept-size, falls-by, lists, extends-length, extends}
+use Rattle.dive.proofs.Descents.{Tries, drops, rising, kept-size, falls-by, lists, extends-length, extends}
 use Rattle.dive.proofs.Listings.{listed-length, listed-within, room-in-part}
 use Rattle.dive.proofs.dive.Statement.{statement}
 use Rattle.dive.proofs.dive.Tie as tie
@@ -46,6 +46,9 @@ abbrev found : Place tie.After-lowest → Place tie.After-rest-in
 found c = c .before .before .before
 
 -- from where the test of a closing atom is made
+abbrev kept : Place tie.After-contains → Place tie.After-keep-rest
+kept c = c .before .before .before .before
+
 abbrev others : Place tie.After-contains → Place tie.After-without-lowest
 others c = c .before .before .before .before .before .before
 
@@ -76,7 +79,8 @@ nothing :
     let now = loop (turn (c .before .before)) .loop in
     (u : ℕ) → has (restIn (now .levels) (now .at .len)) u ≡ false
 nothing c u =
-    ap (λ (w : List ℕ). has w u) (sym (c .before .before .rest-in .ensures)) ∙ c .before .is-empty .ensures .none (c .if3 .taken) u
+    ap (λ (w : List ℕ). has w u) (sym (c .before .before .rest-in .ensures)) ∙
+    c .before .is-empty .ensures .none (c .if3 .taken) u
 
 lowest-in :
     (c : Place tie.After-lowest) →
@@ -124,7 +128,10 @@ dropped-requires c κs =
     )
 
 loop-less : tie.Need-loop-less Inv-loop μ-loop
-loop-less c = rw (c .dropped .ensures) (omega (arith, some (search), far (search), diving (search) .low, start (search) .pre .words .few))
+loop-less c =
+    let k = diving (search) in
+    let start : Place tie.Start = search in
+    rw (c .dropped .ensures) (omega (arith, some (search), far (search), k .low, start .pre .words .few))
 
 loop-again : tie.Need-loop-again Inv-loop μ-loop
 loop-again c d =
@@ -148,6 +155,22 @@ aim-in-requires c κs = diving (search) .held .within .most
 contains-requires : tie.Need-contains-requires Inv-loop μ-loop
 contains-requires c κs = let l = lowest-in (search) in (l .low, l .high)
 
+-- ---- the lowest atom is tried
+
+tries :
+    (c : Place tie.After-contains) →
+    let now = loop (here c) in
+    let args = start now .args in
+    Tries (args .most) (args .from) (now .loop .at) (now .loop .levels) (others c .before .lowest .result)
+    (others c .without-lowest .result) (kept c .keep-rest .last .0)
+tries c = record {
+  deep = deep (here c);
+  far = far (here c);
+  lowest = lowest-in (others c .before);
+  left = left-in (others c);
+  kept-is = kept c .keep-rest .ensures;
+}
+
 -- ---- a closing atom
 
 closes :
@@ -155,10 +178,9 @@ closes :
     let now = loop (here c) .loop in
     has (aimIn (now .levels) (now .at .len) .goal) (others c .before .lowest .result) ≡ c .contains .result
 closes c =
-    let kept : Place tie.After-keep-rest = search in
     let aim : Place tie.After-aim-in = search in
     let now = loop (here c) .loop in
-    closing-told (now .levels) (now .at .len) _ (others c .without-lowest .result) (kept .keep-rest .ensures)
+    closing-told (now .levels) (now .at .len) _ (others c .without-lowest .result) (kept c .keep-rest .ensures)
     (aim .aim-in .ensures) (c .contains .ensures)
 
 sub-if5 : tie.Need-sub-if5 Inv-loop μ-loop
@@ -192,31 +214,21 @@ add-used-2 c =
 listed-requires : tie.Need-listed-requires Inv-loop μ-loop
 listed-requires c κs =
     let t : Place tie.After-contains = search in
-    let kept : Place tie.After-keep-rest = search in
-    let k = diving (loop (here t)) in (
-      rising _ k (deep (here t)) (far (here t)) (lowest-in (others t .before)) (left-in (others t))
-          (kept .keep-rest .ensures),
-      omega (arith, k .bounds),
-    )
+    let k = diving (loop (here t)) in
+    (rising _ k (tries t), omega (arith, k .bounds))
 
 loop-less-2 : tie.Need-loop-less-2 Inv-loop μ-loop
 loop-less-2 c =
     let t : Place tie.After-contains = search in
-    let kept : Place tie.After-keep-rest = search in
-    let less =
-    falls-by _ (diving (loop (here t))) (deep (here t)) (far (here t)) (lowest-in (others t .before)) (left-in (others t))
-    (kept .keep-rest .ensures) in
-    rw (c .listed .ensures) (omega (arith, less))
+    rw (c .listed .ensures) (omega (arith, falls-by _ (diving (loop (here t))) (tries t)))
 
 loop-again-2 : tie.Need-loop-again-2 Inv-loop μ-loop
 loop-again-2 c d =
     let t : Place tie.After-contains = search in
-    let kept : Place tie.After-keep-rest = search in
     let then4 : Place tie.Then4 = search in
     let else5 : Place tie.Else5 = search in
     let put : Place tie.After-put-record = search in
-    lists d (loop (here t) .loop .inv d) (deep (here t)) (far (here t)) (lowest-in (others t .before)) (left-in (others t))
-    (kept .keep-rest .ensures)
+    lists d (loop (here t) .loop .inv d) (tries t)
     (closes t ∙ then4 .if4 .taken) (else5 .if5 .left) (put .put-record .ensures) refl (c .listed .ensures)
 
 -- ---- an atom that opens
@@ -230,13 +242,8 @@ element-write-prefix-2 c = omega (arith, diving (search) .held .short)
 extended-requires : tie.Need-extended-requires Inv-loop μ-loop
 extended-requires c κs =
     let t : Place tie.After-contains = search in
-    let kept : Place tie.After-keep-rest = search in
-    let k = diving (loop (here t)) in (
-      rising _ k (deep (here t)) (far (here t)) (lowest-in (others t .before)) (left-in (others t))
-          (kept .keep-rest .ensures),
-      k .held .within .most,
-      omega (arith, k .bounds),
-    )
+    let k = diving (loop (here t)) in
+    (rising _ k (tries t), k .held .within .most, omega (arith, k .bounds))
 
 add-plan-level : tie.Need-add-plan-level Inv-loop μ-loop
 add-plan-level c = omega (arith, diving (search) .held .short)
@@ -244,34 +251,25 @@ add-plan-level c = omega (arith, diving (search) .held .short)
 plan-level-requires : tie.Need-plan-level-requires Inv-loop μ-loop
 plan-level-requires c κs =
     let t : Place tie.After-contains = search in
-    let kept : Place tie.After-keep-rest = search in
     let else4 : Place tie.Else4 = search in
     let k = diving (loop (here t)) in
     let l = lowest-in (others t .before) in
-    let size = kept-size _ k (deep (here t)) (far (here t)) l (left-in (others t)) (kept .keep-rest .ensures) in
-    let short =
-    extends-length _ k (deep (here t)) (far (here t)) l (left-in (others t)) (kept .keep-rest .ensures)
-    (closes t ∙ else4 .if4 .left) in
+    let size = kept-size _ k (tries t) in
+    let short = extends-length _ k (tries t) (closes t ∙ else4 .if4 .left) in
     (start (loop (here t)) .pre .words .symmetric, short, l .low, l .high, size)
 
 loop-less-3 : tie.Need-loop-less-3 Inv-loop μ-loop
 loop-less-3 c =
     let t : Place tie.After-contains = search in
-    let kept : Place tie.After-keep-rest = search in
     let extended : Place tie.After-extended = search in
-    let less =
-    falls-by _ (diving (loop (here t))) (deep (here t)) (far (here t)) (lowest-in (others t .before)) (left-in (others t))
-    (kept .keep-rest .ensures) in
-    rw (extended .extended .ensures) (omega (arith, less))
+    rw (extended .extended .ensures) (omega (arith, falls-by _ (diving (loop (here t))) (tries t)))
 
 loop-again-3 : tie.Need-loop-again-3 Inv-loop μ-loop
 loop-again-3 c d =
     let t : Place tie.After-contains = search in
-    let kept : Place tie.After-keep-rest = search in
     let else4 : Place tie.Else4 = search in
     let extended : Place tie.After-extended = search in
-    extends d (loop (here t) .loop .inv d) (deep (here t)) (far (here t)) (lowest-in (others t .before)) (left-in (others t))
-    (kept .keep-rest .ensures)
+    extends d (loop (here t) .loop .inv d) (tries t)
     (closes t ∙ else4 .if4 .left) (c .plan-level .ensures) (extended .extended .ensures)
 
 -- ---- the ways out
@@ -294,12 +292,8 @@ same-length-3 c = listed-length (diving (search) .listing)
 returns-3 : tie.Need-returns-3 Inv-loop μ-loop
 returns-3 c =
     let t : Place tie.After-contains = search in
-    let kept : Place tie.After-keep-rest = search in
-    let now = loop (here t) in (
-      λ d. diving-left d (now .loop .inv d),
-      kept-size _ (diving now) (deep (here t)) (far (here t)) (lowest-in (others t .before)) (left-in (others t))
-          (kept .keep-rest .ensures),
-    )
+    let now = loop (here t) in
+    (λ d. diving-left d (now .loop .inv d), kept-size _ (diving now) (tries t))
 
 pub dive-spec : {M : Type 1} → statement M
 dive-spec =
