@@ -10,11 +10,11 @@ use lib.Dec.{eqb}
 use borrow.Author.Tests.{ne-eqb}
 use Rattle.enumeration.specs.Words.{Family, isOpen}
 use Rattle.enumeration.specs.Machine.{State, tried, isEmpty, isDone, unwound, placed, act, trial}
-use Rattle.enumeration.specs.Run.{Outcome, limit, atLimit, recordOf, recordIf, lists, afterTrial, onto, run}
+use Rattle.enumeration.specs.Run.{Outcome, limit, atLimit, recordOf, recordIf, lists, afterTrial, run}
 use Rattle.enumeration.specs.Lawful.{Lawful}
 use Rattle.enumeration.specs.Trials.{Valid}
 use Rattle.enumeration.specs.RunFacts.{Bounded}
-use Rattle.enumeration.specs.Makes.{Makes, none, more}
+use Rattle.enumeration.specs.Makes.{Makes, none, more, onto}
 use Rattle.enumeration.proofs.Trial.{trial-trials, trial-tried}
 use Rattle.enumeration.proofs.Running.{run-turn, trial-bounded}
 

@@ -1,5 +1,5 @@
 -- A run (document 01, "The search, trial by trial"): trials up to a budget, records into an output of `room` bytes.
-use Prim.Native.Nat.{ℕ, zero, suc, _+_, _-_}
+use Prim.Native.Nat.{ℕ, zero, suc, _-_}
 use mathlib.Core.Bool.{Bool, true, false, _||_, cond}
 use mathlib.Core.List.{List, [], _∷_, _++_}
 use lib.ListN.{length}
@@ -50,10 +50,6 @@ afterTrial bytes o = record {
   bytes = bytes ++ o .bytes;
   made = suc (o .made);
 }
-
--- an outcome with `made` trials before it, which wrote `bytes`
-abbrev pub onto : List ℕ → ℕ → Outcome → Outcome
-onto bytes made o = record { state = o .state; stop = o .stop; bytes = bytes ++ o .bytes; made = made + o .made }
 
 -- A run ends at the first of these, tried before every trial in this order: done, limit, spent, full
 unfoldable pub run : Family → ℕ → ℕ → State → Outcome

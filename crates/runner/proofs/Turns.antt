@@ -12,9 +12,9 @@ use borrow.Author.Tests.{eqb-false}
 use Rattle.enumeration.specs.declared.Stop.{Stop}
 use Rattle.enumeration.specs.Words.{Family}
 use Rattle.enumeration.specs.Machine.{State, isDone, act, trial}
-use Rattle.enumeration.specs.Run.{Outcome, limit, atLimit, lists, stopped, onto, run}
+use Rattle.enumeration.specs.Run.{Outcome, limit, atLimit, lists, stopped, run}
 use Rattle.enumeration.specs.RunFacts.{Bounded}
-use Rattle.enumeration.specs.Makes.{Makes}
+use Rattle.enumeration.specs.Makes.{Makes, onto}
 use Rattle.enumeration.proofs.Makes.{onto-none, onto-onto, makes-one, makes-run}
 pub use Rattle.enumeration.proofs.Running.{run-done, run-limit, run-spent, run-full}
 use Rattle.search.specs.declared.Search.{Search}
