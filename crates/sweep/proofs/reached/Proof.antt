@@ -10,7 +10,8 @@ use Rattle.atomset.proofs.Members.{has-range, none-of}
 use Rattle.sweep.proofs.Size.{size}
 use Rattle.sweep.proofs.Frontier.{Frontier, frontier-start, frontier-end, decided-all}
 use Rattle.sweep.proofs.Frontier.{Round, round-start, round-step, round-skip, round-end, round-less}
-use Rattle.sweep.proofs.Words.{fromWord, from-first, from-in, from-last, from-next, from-zero, takes-word}
+use Rattle.sweep.proofs.Words.{fromWord, from-first, from-in, from-last, from-next, from-zero}
+use Rattle.sweep.proofs.Words.{takes-word, some-of}
 use Rattle.sweep.proofs.reached.Statement.{statement}
 use Rattle.sweep.proofs.reached.Tie as tie
 
@@ -78,7 +79,7 @@ loop-again c =
 sweep-less : tie.Need-sweep-less Inv-loop μ-loop Inv-sweep μ-sweep
 sweep-less c =
     let loop : Place tie.At-loop = search in
-    round-less (has-range _) (loop .loop .inv) (c .before .is-empty2 .ensures .some (c .if3 .left))
+    round-less (has-range _) (loop .loop .inv) (some-of (search) (c .if3 .left))
 
 sweep-again : tie.Need-sweep-again Inv-loop μ-loop Inv-sweep μ-sweep
 sweep-again c = ended (search)
