@@ -3,11 +3,9 @@
 -- The invariant: neighbours of the frontier reach a target, and an atom that is a target, or
 -- free and seen, is in the frontier or has its neighbours decided and seen.
 use Prim.Native.Nat.{ℕ, _≤_, _<_}
-use mathlib.Core.Path.{_≡_, refl, ap, sym, _∙_}
+use mathlib.Core.Path.{_≡_, ap, sym, _∙_}
 use mathlib.Core.Bool.{Bool, true, false, _&&_, _||_, not}
 use mathlib.Core.Logic.{_⊎_, inl, inr}
-use lib.Dec.{eqb}
-use borrow.Author.Tests.{eqb-true, eq-eqb}
 use Rattle.graph.specs.Chordless.{Adjacency}
 use Rattle.graph.proofs.Below.{clash, either, and-left, and-right, and-both, and-parts, not-of, false-of}
 use Rattle.enumeration.proofs.Basics.{or-either, or-left, or-right}
@@ -89,22 +87,23 @@ module _ {adj : Adjacency} {free target want left unseen pending : ℕ → Bool}
           (λ u w e a p. done w (f .seen-settled w a (p .seen)) u e) walk in
           rest-is v ∙ and-both (want v) (not (left v)) wanted (not-of (left v) (passed .decided))
 
--- ---- one atom of a round
+-- ---- some atoms of a round
 
--- x is taken from the round, and near are the atoms bonded to it
-pub record Taken (adj : Adjacency) (taken rest near : ℕ → Bool) (x : ℕ) : Type 0 where
-  pub was : taken x ≡ true
-  pub rest-is : (a : ℕ) → rest a ≡ (taken a && not (eqb a x))
-  pub near-is : (a : ℕ) → near a ≡ adj x a
+-- all but the rest are taken from the round, and near are the atoms bonded to an atom taken
+pub record Taken (adj : Adjacency) (taken rest near : ℕ → Bool) : Type 0 where
+  pub fewer : (x : ℕ) → rest x ≡ true → taken x ≡ true
+  pub only : (a : ℕ) → near a ≡ true → (x : ℕ) × (taken x ≡ true) × (adj x a ≡ true)
+  pub settles : (x : ℕ) → taken x ≡ true → (rest x ≡ true) ⊎ ((a : ℕ) → adj x a ≡ true → near a ≡ true)
 
--- the wanted atoms near x are decided
-module _ {adj : Adjacency} {free target want left unseen taken rest near left′ : ℕ → Bool} {x : ℕ}
-    (front : ℕ → Bool) (symmetric : Symmetric adj) (t : Taken adj taken rest near x)
+-- the wanted atoms near those taken are decided
+module _ {adj : Adjacency} {free target want left unseen taken rest near left′ : ℕ → Bool}
+    (front : ℕ → Bool) (symmetric : Symmetric adj) (t : Taken adj taken rest near)
     (left-is : (a : ℕ) → left′ a ≡ (left a && not (near a)))
     (f : Frontier adj free target want left unseen (λ w. taken w || front w)) where
   near-reaches : (v : ℕ) → near v ≡ true → Reaches adj free target v
   near-reaches v e =
-      f .sources x (or-left (taken x) (front x) (t .was)) v (symmetric v x ∙ sym (t .near-is v) ∙ e)
+      let (x, was, bond) = t .only v e in
+      f .sources x (or-left (taken x) (front x) was) v (symmetric v x ∙ bond)
 
   sound-next : (v : ℕ) → want v ≡ true → left′ v ≡ false → Reaches adj free target v
   sound-next v wanted gone = split (either (near v))
@@ -120,7 +119,7 @@ module _ {adj : Adjacency} {free target want left unseen taken rest near left′
   pub decided-all : ((a : ℕ) → left′ a ≡ false) → Reached adj free target want want
   decided-all none v = (λ e. (e, sound-next v e (none v)), λ r. r .0)
 
-  -- the free atoms near x that were in no round are in the next one
+  -- the free atoms near those taken that were in no round are in the next one
   module _ {fresh unseen′ front′ : ℕ → Bool} (fresh-is : (a : ℕ) → fresh a ≡ (near a && unseen a))
       (unseen-is : (a : ℕ) → unseen′ a ≡ (unseen a && not (fresh a)))
       (front-is : (a : ℕ) → front′ a ≡ (front a || fresh a)) where
@@ -153,16 +152,13 @@ module _ {adj : Adjacency} {free target want left unseen taken rest near left′
           seen = false-of (unseen′ v) (λ e. clash (unseen v) (was-unseen v e .0) (p .seen));
         }
 
-    near-passed : (v : ℕ) → adj v x ≡ true → Passed left′ unseen′ v
-    near-passed v e =
+    near-passed : (v : ℕ) → near v ≡ true → Passed left′ unseen′ v
+    near-passed v is-near =
         record {
           decided = false-of (left′ v) (λ l. clash (not (near v)) (was-left v l .1) (ap not is-near));
           seen = false-of (unseen′ v) (λ u. twice (was-unseen v u));
         }
       where
-        is-near : near v ≡ true
-        is-near = t .near-is v ∙ symmetric x v ∙ e
-
         twice : (unseen v ≡ true) × (not (fresh v) ≡ true) → ⊥
         twice (u, gone) = clash (not (fresh v)) gone (ap not (fresh-of v is-near u))
 
@@ -177,23 +173,19 @@ module _ {adj : Adjacency} {free target want left unseen taken rest near left′
             (b, is-target, through e (f .unseen-free w was) walk)
 
         split : (rest w ≡ true) ⊎ (front′ w ≡ true) → Reaches adj free target v
-        split (inl k) =
-            let was = and-left (taken w) (not (eqb w x)) (sym (t .rest-is w) ∙ k) in
-            f .sources w (or-left (taken w) (front w) was) v e
+        split (inl k) = f .sources w (or-left (taken w) (front w) (t .fewer w k)) v e
         split (inr k) = join (or-either (front w) (fresh w) (sym (front-is w) ∙ k))
 
     settled : (w : ℕ) → SettledNow w → SettledNext w
     settled w (inr d) = inr (λ v e. still-passed v (d v e))
     settled w (inl p) = split (or-either (taken w) (front w) p)
       where
-        other : taken w ≡ true → (eqb w x ≡ true) ⊎ (eqb w x ≡ false) → SettledNext w
-        other k (inl q) = inr (λ v e. near-passed v (rw (eqb-true w x q) at e))
-        other k (inr q) =
-            inl (or-left (rest w) (front′ w)
-            (t .rest-is w ∙ and-both (taken w) (not (eqb w x)) k (not-of (eqb w x) q)))
+        other : (rest w ≡ true) ⊎ ((a : ℕ) → adj w a ≡ true → near a ≡ true) → SettledNext w
+        other (inl k) = inl (or-left (rest w) (front′ w) k)
+        other (inr near-all) = inr (λ v e. near-passed v (near-all v (symmetric w v ∙ e)))
 
         split : (taken w ≡ true) ⊎ (front w ≡ true) → SettledNext w
-        split (inl k) = other k (either (eqb w x))
+        split (inl k) = other (t .settles w k)
         split (inr k) = inl (in-front w (front-is w ∙ or-left (front w) (fresh w) k))
 
     seen-next : (w : ℕ) → free w ≡ true → unseen′ w ≡ false → SettledNext w
@@ -230,27 +222,29 @@ pub record Round (adj : Adjacency) (want left₀ unseen₀ taken₀ left unseen 
   pub seen : (w : ℕ) → front w ≡ true → unseen w ≡ false
 
 pub round-start :
-    {adj : Adjacency} {want left unseen taken front : ℕ → Bool} → ((a : ℕ) → front a ≡ false) →
-    Round adj want left unseen taken left unseen taken front
-round-start {taken = taken} {front} none =
+    {adj : Adjacency} {want left unseen taken₀ taken front : ℕ → Bool} → ((a : ℕ) → taken₀ a ≡ true → taken a ≡ true) →
+    ((a : ℕ) → taken a ≡ true → taken₀ a ≡ true) → ((a : ℕ) → front a ≡ false) →
+    Round adj want left unseen taken₀ left unseen taken front
+round-start {taken₀ = taken₀} {taken} {front} to from none =
     record {
-      keeps = λ free target f. frontier-same f (λ w. taken w || front w) (λ w. or-left (taken w) (front w)) back;
+      keeps = λ free target f.
+          frontier-same f (λ w. taken w || front w) (λ w k. or-left (taken w) (front w) (to w k)) back;
       fewer = λ w u. u;
       were = λ w k. absurd (clash (front w) k (none w));
       seen = λ w k. absurd (clash (front w) k (none w));
     }
   where
-    split : (w : ℕ) → (taken w ≡ true) ⊎ (front w ≡ true) → taken w ≡ true
-    split w (inl k) = k
+    split : (w : ℕ) → (taken w ≡ true) ⊎ (front w ≡ true) → taken₀ w ≡ true
+    split w (inl k) = from w k
     split w (inr k) = absurd (clash (front w) k (none w))
 
-    back : (w : ℕ) → (taken w || front w) ≡ true → taken w ≡ true
+    back : (w : ℕ) → (taken w || front w) ≡ true → taken₀ w ≡ true
     back w p = split w (or-either (taken w) (front w) p)
 
 module _ {adj : Adjacency} {want left₀ unseen₀ taken₀ left unseen taken front : ℕ → Bool}
     (r : Round adj want left₀ unseen₀ taken₀ left unseen taken front) where
   pub round-step :
-      {rest near left′ fresh unseen′ front′ : ℕ → Bool} {x : ℕ} → Symmetric adj → Taken adj taken rest near x →
+      {rest near left′ fresh unseen′ front′ : ℕ → Bool} → Symmetric adj → Taken adj taken rest near →
       ((a : ℕ) → left′ a ≡ (left a && not (near a))) → ((a : ℕ) → fresh a ≡ (near a && unseen a)) →
       ((a : ℕ) → unseen′ a ≡ (unseen a && not (fresh a))) → ((a : ℕ) → front′ a ≡ (front a || fresh a)) →
       Round adj want left₀ unseen₀ taken₀ left′ unseen′ rest front′
@@ -276,6 +270,27 @@ module _ {adj : Adjacency} {want left₀ unseen₀ taken₀ left unseen taken fr
           false-of (unseen′ w)
           (λ u. clash (not (fresh w)) (and-right (unseen w) (not (fresh w)) (sym (unseen-is w) ∙ u)) (ap not k))
 
+  -- no atom is taken
+  pub round-skip :
+      {rest : ℕ → Bool} → ((w : ℕ) → taken w ≡ true → rest w ≡ true) → ((w : ℕ) → rest w ≡ true → taken w ≡ true) →
+      Round adj want left₀ unseen₀ taken₀ left unseen rest front
+  round-skip {rest} to from =
+      record {
+        keeps = λ free target f.
+            frontier-same (r .keeps free target f) (λ w. rest w || front w)
+            (λ w p. either-of to (or-either (taken w) (front w) p))
+            (λ w p. either-of from (or-either (rest w) (front w) p));
+        fewer = r .fewer;
+        were = r .were;
+        seen = r .seen;
+      }
+    where
+      either-of :
+          {s t : ℕ → Bool} {w : ℕ} → ((v : ℕ) → s v ≡ true → t v ≡ true) → (s w ≡ true) ⊎ (front w ≡ true) →
+          (t w || front w) ≡ true
+      either-of {t = t} {w} into (inl k) = or-left (t w) (front w) (into w k)
+      either-of {t = t} {w} into (inr k) = or-right (t w) (front w) k
+
   -- at its end the frontier is the next round
   pub round-end :
       {free target : ℕ → Bool} → ((a : ℕ) → taken a ≡ false) → Frontier adj free target want left₀ unseen₀ taken₀ →
@@ -288,7 +303,7 @@ module _ {adj : Adjacency} {want left₀ unseen₀ taken₀ left unseen taken fr
       split w (inl k) = absurd (clash (taken w) k (none w))
       split w (inr k) = k
 
--- The measures: a round that leaves an atom for the next one has seen it, and a turn of a round takes an atom
+-- The measure: a round that leaves an atom for the next one has seen it
 
 pub round-less :
     {adj : Adjacency} {want left₀ unseen₀ taken₀ left unseen taken front : ℕ → Bool} →
@@ -296,17 +311,3 @@ pub round-less :
     Round adj want left₀ unseen₀ taken₀ left unseen taken front → (x : ℕ) × (front x ≡ true) →
     size unseen 128 < size unseen₀ 128
 round-less inside r (x, k) = smaller inside (r .fewer) (r .were x k) (r .seen x k)
-
-pub turn-less :
-    {adj : Adjacency} {taken rest near : ℕ → Bool} {x : ℕ} → ((a : ℕ) → taken a ≡ true → (1 ≤ a) × (a ≤ 128)) →
-    Taken adj taken rest near x → size rest 128 < size taken 128
-turn-less {taken = taken} {rest} {x = x} inside t = smaller inside stays (t .was) gone
-  where
-    stays : (a : ℕ) → rest a ≡ true → taken a ≡ true
-    stays a e = and-left (taken a) (not (eqb a x)) (sym (t .rest-is a) ∙ e)
-
-    gone : rest x ≡ false
-    gone =
-        false-of (rest x)
-        (λ e. clash (not (eqb x x)) (and-right (taken x) (not (eqb x x)) (sym (t .rest-is x) ∙ e))
-        (ap not (eq-eqb x x refl)))

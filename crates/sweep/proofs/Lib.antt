@@ -1,3 +1,4 @@
 pub mod Frontier
 pub mod Size
 pub mod Walks
+pub mod Words

@@ -1,10 +1,13 @@
 -- What one backward sweep finds: of the atoms wanted, those from which a target is reached through free atoms.
-use Prim.Native.Nat.{ℕ}
+use Prim.Native.Nat.{ℕ, _+_, _*_, _<_}
 use mathlib.Core.Path.{_≡_}
 use mathlib.Core.Bool.{Bool, true}
+use mathlib.Core.List.{List}
 use mathlib.Core.Logic.{_↔_}
 use Rattle.graph.specs.Chordless.{Adjacency}
+use Rattle.molecule.specs.Record.{bit}
 use Rattle.chordless.specs.Reach.{Reaches}
+use Rattle.atomset.specs.Set.{has}
 
 abbrev pub Symmetric : Adjacency → Type 0
 Symmetric adj = (a b : ℕ) → adj a b ≡ adj b a
@@ -12,3 +15,8 @@ Symmetric adj = (a b : ℕ) → adj a b ≡ adj b a
 -- S holds exactly for those atoms
 abbrev pub Reached : Adjacency → (ℕ → Bool) → (ℕ → Bool) → (ℕ → Bool) → (ℕ → Bool) → Type 0
 Reached adj free target want S = (v : ℕ) → (S v ≡ true) ↔ ((want v ≡ true) × Reaches adj free target v)
+
+-- The atoms bonded to an atom of a word: bit j of word k stands for atom 64 × k + j + 1
+pub record NearWord (adj : Adjacency) (word k : ℕ) (near : List ℕ) : Type 0 where
+  pub only : (a : ℕ) → has near a ≡ true → (j : ℕ) × (j < 64) × (bit word j ≡ true) × (adj (64 * k + j + 1) a ≡ true)
+  pub every : (j a : ℕ) → bit word j ≡ true → adj (64 * k + j + 1) a ≡ true → has near a ≡ true

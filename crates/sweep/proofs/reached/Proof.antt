@@ -1,23 +1,28 @@
 -- `sweep::reached` meets its contract. The invariant of the rounds is `Frontier`, that of a round `Round`;
--- the measures are the free atoms not yet seen, and the atoms of the round still to do.
-use Prim.Native.Nat.{ℕ}
-use mathlib.Core.Path.{_≡_, sym, _∙_}
+-- the measures are the free atoms not yet seen, and the words of the round still to do.
+use Prim.Native.Nat.{ℕ, _-_}
+use native.Mathlib.Omega.{arith}
+use mathlib.Core.Path.{_≡_}
 use mathlib.Core.Bool.{false}
-use Rattle.atomset.specs.Set.{has, holdsNone, linkedBy}
+use mathlib.Core.Logic.{inl, inr}
+use Rattle.atomset.specs.Set.{has, linkedBy}
 use Rattle.atomset.proofs.Members.{has-range, none-of}
 use Rattle.sweep.proofs.Size.{size}
-use Rattle.sweep.proofs.Frontier.{Frontier, frontier-start, frontier-end, Taken, decided-all}
-use Rattle.sweep.proofs.Frontier.{Round, round-start, round-step, round-end, round-less, turn-less}
+use Rattle.sweep.proofs.Frontier.{Frontier, frontier-start, frontier-end, decided-all}
+use Rattle.sweep.proofs.Frontier.{Round, round-start, round-step, round-skip, round-end, round-less}
+use Rattle.sweep.proofs.Words.{fromWord, from-first, from-in, from-last, from-next, from-zero}
+use Rattle.sweep.proofs.Words.{takes-word, some-of}
 use Rattle.sweep.proofs.reached.Statement.{statement}
 use Rattle.sweep.proofs.reached.Tie as tie
 
+-- the words of `taken` below k are done
 abbrev Inv-loop : tie.InvT-loop
-Inv-loop table want left₀ unseen₀ front₀ taken₀ left unseen front taken =
-    Round (linkedBy table) (has want) (has left₀) (has unseen₀) (has taken₀) (has left) (has unseen) (has taken)
+Inv-loop table want left₀ unseen₀ front₀ taken k₀ left unseen front k =
+    Round (linkedBy table) (has want) (has left₀) (has unseen₀) (has taken) (has left) (has unseen) (fromWord taken k)
     (has front)
 
 abbrev μ-loop : tie.MeasureT-loop
-μ-loop table want left₀ unseen₀ front₀ taken₀ left unseen front taken = size (has taken) 128
+μ-loop table want left₀ unseen₀ front₀ taken k₀ left unseen front k = 2 - k
 
 -- at first `unseen` are the free atoms, and `front` the targets
 abbrev Inv-sweep : tie.InvT-sweep
@@ -33,44 +38,20 @@ abbrev Place :
     (tie.InvT-loop → tie.MeasureT-loop → tie.InvT-sweep → tie.MeasureT-sweep → Type 0) → Type 0
 Place place = place Inv-loop μ-loop Inv-sweep μ-sweep
 
-abbrev left-out : Place tie.After-row → Place tie.After-without-lowest
-left-out c = c .before
-
-abbrev turn : Place tie.After-without-lowest → Place tie.At-loop
-turn c = c .before .before .before .before
-
 abbrev start : Place tie.At-loop → Place tie.Start
 start c = c .before .before .before
 
 -- ---- what is known there
 
--- the round has an atom
-some : (c : Place tie.Else1) → holdsNone (c .before .before .loop .taken) ≡ false
-some c = sym (c .before .is-empty .ensures .test) ∙ c .if1 .left
-
--- the lowest atom x is taken, and its row has the atoms near it
-takes :
-    (c : Place tie.After-row) → let loop = turn (left-out c) in
-    Taken (linkedBy (start loop .args .table .now)) (has (loop .loop .taken)) (has (left-out c .without-lowest .result))
-    (has (c .row .result)) (left-out c .before .lowest .result)
-takes c =
-    let low : Place tie.After-lowest = search in
-    record {
-      was = low .lowest .ensures .member;
-      rest-is = left-out c .without-lowest .ensures .others _ (low .lowest .ensures);
-      near-is = c .row .ensures;
-    }
-
 -- at the end of a round the next one is the frontier
 ended :
-    (c : Place tie.Then1) → let loop : Place tie.At-loop = c .before .before in
+    (c : Place tie.After-loop) → let loop : Place tie.At-loop = c .before in
     let given = start loop .args in
     Frontier (linkedBy (given .table .now)) (has (given .free)) (has (given .targets)) (has (given .want))
     (has (loop .loop .left)) (has (loop .loop .unseen)) (has (loop .loop .front))
 ended c =
-    let loop : Place tie.At-loop = search in
     let round : Place tie.At-sweep = search in
-    round-end (loop .loop .inv) (c .before .is-empty .ensures .none (c .if1 .taken)) (round .sweep .inv)
+    round-end (c .before .loop .inv) (from-last _ (c .loop-test .left)) (round .sweep .inv)
 
 -- ---- the needs (`search` finds a place in c by its type)
 
@@ -78,60 +59,54 @@ sweep-holds : tie.Need-sweep-holds Inv-loop μ-loop Inv-sweep μ-sweep
 sweep-holds c = frontier-start
 
 loop-holds : tie.Need-loop-holds Inv-loop μ-loop Inv-sweep μ-sweep
-loop-holds c = round-start (c .empty .ensures)
-
-lowest-requires : tie.Need-lowest-requires Inv-loop μ-loop Inv-sweep μ-sweep
-lowest-requires c κs = some c
-
-without-lowest-requires : tie.Need-without-lowest-requires Inv-loop μ-loop Inv-sweep μ-sweep
-without-lowest-requires c κs = some (c .before)
-
-row-requires : tie.Need-row-requires Inv-loop μ-loop Inv-sweep μ-sweep
-row-requires c κs = let low = c .before .lowest .ensures in (low .low, low .high)
-
-loop-less : tie.Need-loop-less Inv-loop μ-loop Inv-sweep μ-sweep
-loop-less c = let row : Place tie.After-row = search in turn-less (has-range _) (takes row)
+loop-holds c = round-start (from-first _) (from-in _ 0) (c .empty .ensures)
 
 loop-again : tie.Need-loop-again Inv-loop μ-loop Inv-sweep μ-sweep
 loop-again c =
     let begin : Place tie.Start = search in
     let loop : Place tie.At-loop = search in
-    let row : Place tie.After-row = search in
-    let decides : Place tie.After-minus = search in
-    let fresh : Place tie.After-intersection = search in
-    round-step (loop .loop .inv) (begin .pre) (takes row) (decides .minus .ensures) (fresh .intersection .ensures)
-    (c .before .minus2 .ensures) (c .union .ensures)
+    let inside = c .before .loop-test .taken in
+    elim (c .if1 .came) [
+      | inl (some, near, undecided, empty, if2, fresh, not-fresh, more, left, unseen, front) ↦
+          rw (left, unseen, front)
+          (round-step (loop .loop .inv) (begin .pre) (takes-word _ inside (near .ensures)) (undecided .ensures)
+          (fresh .ensures) (not-fresh .ensures) (more .ensures))
+      | inr (none, left, unseen, front) ↦
+          rw (left, unseen, front)
+          (round-skip (loop .loop .inv) (from-zero _ inside (none .left)) (from-next _ inside))
+    ]
+
+sweep-less : tie.Need-sweep-less Inv-loop μ-loop Inv-sweep μ-sweep
+sweep-less c =
+    let loop : Place tie.At-loop = search in
+    round-less (has-range _) (loop .loop .inv) (some-of (search) (c .if3 .left))
+
+sweep-again : tie.Need-sweep-again Inv-loop μ-loop Inv-sweep μ-sweep
+sweep-again c = ended (search)
 
 returns : tie.Need-returns Inv-loop μ-loop Inv-sweep μ-sweep
 returns c =
     let begin : Place tie.Start = search in
     let round : Place tie.At-sweep = search in
     let loop : Place tie.At-loop = search in
-    let row : Place tie.After-row = search in
+    let turn : Place tie.In-loop = search in
+    let near : Place tie.After-near-word = search in
     let decides : Place tie.After-minus = search in
     let decided : (a : ℕ) → has (decides .minus .result) a ≡ false = search (none-of) in
-    decided-all _ (begin .pre) (takes row) (decides .minus .ensures)
-    (loop .loop .inv .keeps _ _ (round .sweep .inv)) decided
-
-sweep-less : tie.Need-sweep-less Inv-loop μ-loop Inv-sweep μ-sweep
-sweep-less c =
-    let loop : Place tie.At-loop = search in
-    round-less (has-range _) (loop .loop .inv) (c .before .is-empty3 .ensures .some (c .if3 .left))
-
-sweep-again : tie.Need-sweep-again Inv-loop μ-loop Inv-sweep μ-sweep
-sweep-again c = ended (search)
+    decided-all _ (begin .pre) (takes-word _ (turn .loop-test .taken) (near .near-word .ensures))
+    (decides .minus .ensures) (loop .loop .inv .keeps _ _ (round .sweep .inv)) decided
 
 returns-2 : tie.Need-returns-2 Inv-loop μ-loop Inv-sweep μ-sweep
 returns-2 c =
     let loop : Place tie.At-loop = search in
-    let last : Place tie.Then1 = search in
     let none : (a : ℕ) → has (loop .loop .front) a ≡ false = search (none-of) in
-    frontier-end (ended last) none (c .minus3 .ensures)
+    frontier-end (ended (search)) none (c .minus3 .ensures)
 
 pub reached-spec : {M : Type 1} → statement M
 reached-spec =
     tie.close
     (tie.spec
-    Inv-loop μ-loop Inv-sweep μ-sweep sweep-holds (λ c κs. tt) loop-holds (λ c κs. tt) lowest-requires
-    without-lowest-requires row-requires (λ c κs. tt) (λ c κs. tt) (λ c κs. tt) (λ c κs. tt) (λ c κs. tt) loop-less
-    loop-again (λ c κs. tt) (λ c κs. tt) sweep-less sweep-again returns returns-2)
+    Inv-loop μ-loop Inv-sweep μ-sweep sweep-holds (λ c κs. tt) loop-holds (λ c. omega arith) (λ c. omega arith)
+    (λ c. omega arith) (λ c. omega arith) (λ c κs. omega arith) (λ c κs. tt) (λ c κs. tt) (λ c κs. tt) (λ c κs. tt)
+    (λ c κs. tt) (λ c. omega arith) (λ c. omega arith) loop-again (λ c κs. tt) (λ c κs. tt) sweep-less sweep-again
+    returns returns-2)
