@@ -239,7 +239,7 @@ loop-holds c =
 skipped-requires : tie.Need-skipped-requires Inv-loop μ-loop
 skipped-requires c κs =
     let t = c .before .loop .inv .turning in
-    (omega (arith, next-most t, t .few), t .bounded .trials-most, c .idle-trials .ensures .small)
+    (omega (arith, next-most {T = task (c .before)} t, t .few), t .bounded .trials-most, c .idle-trials .ensures .small)
 
 add-made : tie.Need-add-made Inv-loop μ-loop
 add-made c =
