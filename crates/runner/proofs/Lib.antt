@@ -1,4 +1,5 @@
 pub mod Turns
+pub mod Firsts
 pub mod Trials
 pub mod Skips
 pub mod Dives

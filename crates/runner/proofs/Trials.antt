@@ -31,7 +31,8 @@ use Rattle.trial.specs.declared.Spot.{Spot}
 use Rattle.trial.specs.Parts.{stackOf, stateAt, spotOf, Held, HeldWithRoom, Counting, Acted, Stale}
 use Rattle.trial.proofs.Arrays.{stack-length, stack-back, stack-more, placeOf, act-same, search-held, tried-word}
 use Rattle.trial.proofs.Bytes.{part-length, part-back, record-length}
-use Rattle.runner.specs.Parts.{stoppedAt, Ready, Yields}
+use Rattle.runner.specs.declared.FirstPlan.{FirstPlan}
+use Rattle.runner.specs.Parts.{stoppedAt, Ready, Yields, FirstTells}
 use Rattle.runner.proofs.Turns.{Going, going-starts, going-length, going-used, going-turn, going-answers}
 use Rattle.runner.proofs.Turns.{Below, below-limit, act-bounded, run-done, run-limit, run-spent, run-full}
 
@@ -76,6 +77,13 @@ pub record Turning (T : Task) (out prefix : List ℕ) (at : Spot) (found : Plan)
     -- a plan that is not stale tells of every atom
     pub told : stale ≡ false → (v : ℕ) → Tells (T .family) (take (at .len) prefix) found v
     pub going : Going (T .family) (T .budget) (T .output) (T .from) out (stateAt prefix at) used made
+
+-- with the plan of a beginning of one atom, and the array of the fast loop
+pub record Looping (T : Task) (out prefix : List ℕ) (at : Spot) (found : Plan) (stale : Bool) (first : FirstPlan)
+    (kept : List ℕ) (used made : ℕ) : Type 0 where
+  pub turning : Turning T out prefix at found stale used made
+  pub tells : FirstTells (T .family) first
+  pub sized : length kept ≡ 774
 
 -- no test has stopped it: a trial follows
 pub record Trying (T : Task) (out prefix : List ℕ) (at : Spot) (found : Plan) (stale : Bool) (used made : ℕ) : Type 0

@@ -3,11 +3,13 @@
 ghost use mathlib.Core.Path.{_≡_};
 ghost use mathlib.Core.Bool.{true};
 ghost use Prim.Native.Nat.{_≤_};
+ghost use lib.ListN.{length, take};
 ghost use Rattle.atomset.specs.Set.{has};
 ghost use Rattle.molecule.specs.Record.{wellFormed};
 ghost use Rattle.search.specs.Place.{restorable};
 ghost use Rattle.search.specs.Entries.{runSearch, runOutput};
-ghost use Rattle.runner.specs.Parts.{stoppedAt, Ready, outcomeBy, Yields};
+ghost use Rattle.openness.specs.Plan.{familyBy, Planned};
+ghost use Rattle.runner.specs.Parts.{stoppedAt, Ready, outcomeBy, Yields, Planning, FirstAfter};
 use enumeration::Stop;
 use molecule::Molecule;
 use openness::Plan;
@@ -16,12 +18,29 @@ use search::Ran;
 use search::Search;
 use trial::Spot;
 
+// The plan of a beginning of one atom, and that atom; 0 where there is none yet.
+struct FirstPlan {
+    plan: Plan,
+    atom: u8,
+}
+
 // No atom makes a member or opens a beginning.
 fn no_plan() -> Plan {
     let none = atomset::empty();
     Plan {
         members: none,
         opens: none,
+    }
+}
+
+// No plan of a beginning of one atom.
+fn no_first() -> FirstPlan
+    ensures { λ r. ⌜ r .atom ≡ 0 ⌝ }
+{
+    let plan = no_plan();
+    FirstPlan {
+        plan: plan,
+        atom: 0,
     }
 }
 
@@ -41,6 +60,43 @@ fn opens_at(found: Plan, c: usize) -> bool
 {
     let opens = found.opens;
     atomset::contains(opens, c)
+}
+
+// The plan of the present beginning: the first one where the beginning is its one atom, otherwise a new one.
+fn plan_of(
+    table: &[u64; 256],
+    n: usize,
+    q: Search,
+    prefix: &[u8; 128],
+    at: Spot,
+    first: FirstPlan,
+) -> Plan
+    requires { ⌜ Planning n (now table) q (now prefix) at first ⌝ }
+    ensures { λ r. ⌜
+        Planned (familyBy n (now (table .entry)) (q .kind) (q .s) (q .t))
+        (take (at .len) (now (prefix .entry))) (at .next) r ⌝ }
+{
+    if at.len == 1 {
+        if prefix[0] == first.atom {
+            let plan = first.plan;
+            return plan;
+        }
+    }
+    openness::plan_at(table, n, q.kind, q.s, q.t, prefix, at.len, at.next)
+}
+
+// The first plan after the present beginning was planned: the plan found, where the beginning has one atom.
+fn first_after(first: FirstPlan, found: Plan, prefix: &[u8; 128], len: usize) -> FirstPlan
+    requires { ⌜ length (now prefix) ≡ 128 ⌝ }
+    ensures { λ r. ⌜ FirstAfter first found (take len (now (prefix .entry))) r ⌝ }
+{
+    if len == 1 {
+        return FirstPlan {
+            plan: found,
+            atom: prefix[0],
+        };
+    }
+    first
 }
 
 // The answer of a run of q that has stopped at a place.
@@ -77,6 +133,7 @@ fn run_trials(table: &[u64; 256], n: usize, q: Search, budget: u64, out: &mut [u
     let mut at = trial::spot_of(q);
     let mut found = no_plan();
     let mut stale = true;
+    let mut first = no_first();
     let mut kept = [0u64; 774];
     let mut used: usize = 0;
     let mut made: u64 = 0;
@@ -96,7 +153,8 @@ fn run_trials(table: &[u64; 256], n: usize, q: Search, budget: u64, out: &mut [u
             break Stop::Spent;
         }
         if stale {
-            found = openness::plan_at(table, n, q.kind, q.s, q.t, &prefix, len, c);
+            found = plan_of(table, n, q, &prefix, at, first);
+            first = first_after(first, found, &prefix, len);
         }
         let lists = lists_at(found, c);
         if lists {

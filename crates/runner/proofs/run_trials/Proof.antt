@@ -1,16 +1,18 @@
--- `runner::run_trials` meets its contract. The invariant is `Turning`, the rest of the work; the measure is the budget
+-- `runner::run_trials` meets its contract. The invariant is `Looping`, the rest of the work; the measure is the budget
 -- that is left. What the tests, the plan and the record tell is said once at each place.
 use Prim.Native.Nat.{ℕ, _+_, _-_}
 use native.Mathlib.Omega.{arith}
 use mathlib.Core.Path.{_≡_, sym, _∙_}
 use mathlib.Core.Logic.{inl, inr}
-use lib.ListN.{length, take, length-replicate}
+use lib.ListN.{take, length-replicate}
 use Rattle.enumeration.specs.Machine.{State, isDone, tried}
 use Rattle.enumeration.specs.Run.{atLimit}
 use Rattle.openness.specs.declared.Plan.{Plan}
 use Rattle.openness.specs.Plan.{Planned}
 use Rattle.trial.specs.Parts.{stateAt}
-use Rattle.runner.proofs.Trials.{Task, taskOf, Turning, Trying, Written, StopsBy}
+use Rattle.runner.specs.Parts.{FirstTells, Planning}
+use Rattle.runner.proofs.Firsts.{none-tells}
+use Rattle.runner.proofs.Trials.{Task, taskOf, Turning, Looping, Trying, Written, StopsBy}
 use Rattle.runner.proofs.Trials.{starts, used-within, room-in-part, length-kept, next-most, done-test}
 use Rattle.runner.proofs.Trials.{next-range, next-in-set, counting, planned-old, member-told}
 use Rattle.runner.proofs.Trials.{written-none, written-record, not-first, turn}
@@ -21,11 +23,13 @@ use Rattle.runner.proofs.run_trials.Statement.{statement}
 use Rattle.runner.proofs.run_trials.Tie as tie
 
 abbrev Inv-loop : tie.InvT-loop
-Inv-loop table n q budget out₀ prefix₀ at₀ found₀ stale₀ kept₀ used₀ made₀ out prefix at found stale kept used made =
-    Turning (taskOf n table q budget out₀) out prefix at found stale used made × (length kept ≡ 774)
+Inv-loop table n q budget out₀ prefix₀ at₀ found₀ stale₀ first₀ kept₀ used₀ made₀
+    out prefix at found stale first kept used made =
+    Looping (taskOf n table q budget out₀) out prefix at found stale first kept used made
 
 abbrev μ-loop : tie.MeasureT-loop
-μ-loop table n q budget out₀ prefix₀ at₀ found₀ stale₀ kept₀ used₀ made₀ out prefix at found stale kept used made =
+μ-loop table n q budget out₀ prefix₀ at₀ found₀ stale₀ first₀ kept₀ used₀ made₀
+    out prefix at found stale first kept used made =
     budget - made
 
 -- ---- the places of a turn: each name goes back from a later place to an earlier one
@@ -36,7 +40,7 @@ Place place = place Inv-loop μ-loop
 
 -- from the head of the loop
 abbrev start : Place tie.At-loop → Place tie.Start
-start c = c .before .before .before .before .before
+start c = c .before .before .before .before .before .before
 
 -- from the first test
 abbrev skipped : Place tie.After-is-done → Place tie.After-skipped
@@ -69,7 +73,9 @@ turning :
     let loop = c .before .before .loop in
     Turning (task (c .before .before)) (loop .out) (loop .prefix) (c .skipped .result) (loop .found) (loop .stale)
     (loop .used) (loop .made + c .before .idle-trials .result)
-turning c = rw (c .skipped .ensures) (skips _ _ (c .before .before .loop .inv .0) (c .before .idle-trials .ensures))
+turning c =
+    rw (c .skipped .ensures)
+    (skips _ _ (c .before .before .loop .inv .turning) (c .before .idle-trials .ensures))
 
 -- as if the loop stood there
 abbrev head : Place tie.After-skipped → Place tie.At-loop
@@ -83,10 +89,11 @@ head c =
         at = c .skipped .result;
         found = loop .found;
         stale = loop .stale;
+        first = loop .first;
         kept = loop .kept;
         used = loop .used;
         made = loop .made + c .before .idle-trials .result;
-        inv = (turning c, loop .inv .1);
+        inv = record { turning = turning c; tells = loop .inv .tells; sized = loop .inv .sized };
       };
     }
 
@@ -118,14 +125,39 @@ trying c =
 
 -- ---- the plan
 
+planning :
+    (c : Place tie.Else3) →
+    let loop = here c .loop in
+    let args = start (here c) .args in
+    Planning (args .n) (args .table .now) (args .q) (loop .prefix) (loop .at) (loop .first)
+planning c =
+    let t = trying c in
+    let start : Place tie.Start = search in
+    record {
+      begun = begun (start .pre) (t .turning);
+      low = next-range t .0;
+      high = next-range t .1;
+      tells = here c .loop .inv .tells;
+    }
+
 abbrev PlannedAt : Place tie.At-loop → Plan → Type 0
 PlannedAt c plan = Planned (task c .family) (take (c .loop .at .len) (c .loop .prefix)) (c .loop .at .next) plan
 
 planned : (c : Place tie.Joined4) → PlannedAt (here (c .before)) (c .if4 .found)
 planned c = elim (c .if4 .came) [
-  | inl (stale, prefix, plan-at, found) ↦ rw found (plan-at .ensures)
-  | inr (fresh, found) ↦ rw found (planned-old (trying (search)) (fresh .left))
+  | inl (stale, prefix, plan-of, prefix2, first-after, found, first) ↦ rw found (plan-of .ensures)
+  | inr (fresh, found, first) ↦ rw found (planned-old (trying (search)) (fresh .left))
 ]
+
+-- the first plan after it
+first-tells : (c : Place tie.Joined4) → FirstTells (task (here (c .before)) .family) (c .if4 .first)
+first-tells c =
+    let tells = here (c .before) .loop .inv .tells in
+    elim (c .if4 .came) [
+      | inl (stale, prefix, plan-of, prefix2, first-after, found, first) ↦
+          rw first (first-after .ensures _ _ tells (plan-of .ensures))
+      | inr (fresh, found, first) ↦ rw first tells
+    ]
 
 member-is :
     (c : Place tie.After-lists-at) →
@@ -197,26 +229,31 @@ stops c =
 loop-holds : tie.Need-loop-holds Inv-loop μ-loop
 loop-holds c =
     let start : Place tie.Start = search in
-    (rw (c .before .spot-of .ensures) (starts _ _ _ (start .pre)), length-replicate {A = ℕ} 774 0)
+    let spot : Place tie.After-spot-of = search in
+    record {
+      turning = rw (spot .spot-of .ensures) (starts _ _ _ (start .pre));
+      tells = none-tells (c .no-first .ensures);
+      sized = length-replicate {A = ℕ} 774 0;
+    }
 
 skipped-requires : tie.Need-skipped-requires Inv-loop μ-loop
 skipped-requires c κs =
-    let t = c .before .loop .inv .0 in
-    (omega (arith, next-most t, t .few), t .bounded .trials-most, c .idle-trials .ensures .small)
+    let t = c .before .loop .inv .turning in
+    (omega (arith, next-most {T = task (c .before)} t, t .few), t .bounded .trials-most, c .idle-trials .ensures .small)
 
 add-made : tie.Need-add-made Inv-loop μ-loop
 add-made c =
     let loop : Place tie.At-loop = search in
-    omega (arith, c .before .idle-trials .ensures, loop .loop .inv .0 .going .in-budget, start loop .fits .budget)
+    omega (arith, c .before .idle-trials .ensures, loop .loop .inv .turning .going .in-budget, start loop .fits .budget)
 
 is-done-requires : tie.Need-is-done-requires Inv-loop μ-loop
 is-done-requires c κs = turning (search) .few
 
-plan-at-requires : tie.Need-plan-at-requires Inv-loop μ-loop
-plan-at-requires c κs =
-    let t = trying (search) in
-    let start : Place tie.Start = search in
-    (begun (start .pre) (t .turning), next-range t .0, next-range t .1)
+plan-of-requires : tie.Need-plan-of-requires Inv-loop μ-loop
+plan-of-requires c κs = planning (search)
+
+first-after-requires : tie.Need-first-after-requires Inv-loop μ-loop
+first-after-requires c κs = trying (search) .turning .standing .within .size
 
 lists-at-requires : tie.Need-lists-at-requires Inv-loop μ-loop
 lists-at-requires c κs = next-in-set (trying (search))
@@ -257,7 +294,9 @@ act-requires : tie.Need-act-requires Inv-loop μ-loop
 act-requires c κs = let t = trying (search) in (t .turning .standing, counting t)
 
 add-made-2 : tie.Need-add-made-2 Inv-loop μ-loop
-add-made-2 c = let start : Place tie.Start = search in omega (arith, trying (search) .paid, start .fits .budget)
+add-made-2 c =
+    let tests : Place tie.Else3 = search in
+    omega (arith, trying tests .paid, start (here tests) .fits .budget)
 
 sub-left : tie.Need-sub-left Inv-loop μ-loop
 sub-left c = turned c .going .in-budget
@@ -265,7 +304,7 @@ sub-left c = turned c .going .in-budget
 descend-requires : tie.Need-descend-requires Inv-loop μ-loop
 descend-requires c κs =
     let after : Place tie.After-is-stale = search in
-    entering (start (stood after) .pre) (turned after) (stood after .loop .inv .1)
+    entering (start (stood after) .pre) (turned after) (stood after .loop .inv .sized)
 
 sub-made : tie.Need-sub-made Inv-loop μ-loop
 sub-made c = let dived : Place tie.After-descend = search in omega (arith, dived .descend .ensures .0 .more)
@@ -282,11 +321,13 @@ loop-less c = omega (arith, turned (search) .going .in-budget)
 loop-again : tie.Need-loop-again Inv-loop μ-loop
 loop-again c =
     let after : Place tie.After-is-stale = search in
-    let dived : Place tie.After-descend = search in (
-      dives (turned after) (dived .descend .ensures .0)
-          (not-first (trying (search)) (after .before .act .ensures) (after .is-stale .ensures)),
-      dived .descend .ensures .1,
-    )
+    let dived : Place tie.After-descend = search in
+    let raised = not-first (trying (search)) (after .before .act .ensures) (after .is-stale .ensures) in
+    record {
+      turning = dives (turned after) (dived .descend .ensures .0) raised;
+      tells = first-tells (search);
+      sized = dived .descend .ensures .1;
+    }
 
 same-length : tie.Need-same-length Inv-loop μ-loop
 same-length c = length-kept (turning (search))
@@ -300,8 +341,8 @@ pub run-trials-spec : {M : Type 1} → statement M
 run-trials-spec =
     tie.close
     (tie.spec
-    Inv-loop μ-loop (λ c κs. tt) (λ c κs. tt) loop-holds (λ c. omega arith) (λ c κs. omega arith) skipped-requires
-    add-made is-done-requires (λ c κs. tt) plan-at-requires lists-at-requires sub-if6 add-if6 sub-put-record
-    part-put-record-start (λ c. omega arith) put-record-requires add-used add-used-2 opens-at-requires act-requires
-    add-made-2 (λ c κs. tt) sub-left descend-requires sub-made add-made-3 loop-less loop-again (λ c κs. tt)
-    same-length returns)
+    Inv-loop μ-loop (λ c κs. tt) (λ c κs. tt) (λ c κs. tt) loop-holds (λ c. omega arith) (λ c κs. omega arith)
+    skipped-requires add-made is-done-requires (λ c κs. tt) plan-of-requires first-after-requires lists-at-requires
+    sub-if6 add-if6 sub-put-record part-put-record-start (λ c. omega arith) put-record-requires add-used add-used-2
+    opens-at-requires act-requires add-made-2 (λ c κs. tt) sub-left descend-requires sub-made add-made-3 loop-less
+    loop-again (λ c κs. tt) same-length returns)
