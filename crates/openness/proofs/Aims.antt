@@ -6,8 +6,8 @@ use native.Mathlib.Numerals.{add-one}
 use mathlib.Core.Path.{_≡_, sym, ap, _∙_}
 use mathlib.Core.Bool.{Bool, true, false, _&&_, not, cond}
 use mathlib.Core.List.{List, [], _∷_, _++_}
-use lib.ListN.{length, take, drop, getD, take-append-drop}
-use lib.Seq.{take-suc, take-append-le}
+use lib.ListN.{length, take, getD}
+use lib.Seq.{take-suc}
 use lib.Dec.{leb, ltb, eqb}
 use borrow.Author.Tests.{eq-eqb, ne-eqb}
 use Rattle.graph.specs.Chordless.{Adjacency, atomAt}
@@ -24,7 +24,7 @@ use Rattle.openness.specs.Parts.{TwoAtoms, TwoEnds}
 use Rattle.openness.proofs.Steps.{Row}
 use Rattle.openness.proofs.Arrays.{taken-length, open-atoms}
 use Rattle.openness.proofs.Plans.{family-rings, family-paths, family-by-lawful, family-by-atoms}
-use Rattle.openness.proofs.Opens.{open-take}
+use Rattle.openness.proofs.Opens.{open-shorter, OpenTo}
 
 -- ---- the first sets
 
@@ -87,20 +87,13 @@ module _ {n : ℕ} {table : List ℕ} {kind s t : ℕ} {prefix : List ℕ} {len 
   -- a shorter one
   pub shorter : {i : ℕ} → i ≤ len → Beginning n table kind s t prefix i
   shorter {i} h =
-      let L = family-by-lawful n table kind s t in
       record {
         words = b .words;
         kinds = b .kinds;
         size = b .size;
         short = omega (arith, b .short);
-        isOpened = rw same at (open-take (familyBy n table kind s t) L i (take len prefix) (b .isOpened));
+        isOpened = open-shorter (familyBy n table kind s t) (family-by-lawful n table kind s t) prefix h (b .isOpened);
       }
-    where
-      same : take i (take len prefix) ≡ take i prefix
-      same =
-          let long = taken-length prefix len (b .size) (omega (arith, b .short)) in
-          sym (take-append-le i (take len prefix) (drop len prefix) (omega arith)) ∙
-          ap (take i) (take-append-drop len prefix)
 
   -- the sets steer it
   abbrev pub SteeredHere : Aim → Type 0
@@ -199,26 +192,30 @@ module _ {n : ℕ} {table : List ℕ} {kind s t : ℕ} {prefix : List ℕ} {len 
   pub aimed-some : 1 ≤ i
   aimed-some = omega (arith, first-some kind, k .some)
 
-  -- one atom more
+  -- they are open
+  pub aimed-open : OpenTo n table kind s t prefix len i
+  aimed-open = record { within = k .within; opened = k .steered .isOpened }
+
+  -- one atom more, where these are open too
   pub aimed-more :
-      {x : ℕ} {next : Aim} → Beginning n table kind s t prefix len → i < len → x ≡ atomAt prefix (i - 1) →
+      {x : ℕ} {next : Aim} → Beginning n table kind s t prefix (i + 1) → i < len → x ≡ atomAt prefix (i - 1) →
       HandedOn (linkedBy table) x aim next → AimedTo n table kind s t prefix len next (i + 1)
   aimed-more {x} {next} b h at handed =
       record {
         some = omega (arith, k .some);
         within = omega arith;
-        steered = rw (add-one i) (steered-here (shorter b {i = suc i} (omega arith)) (omega arith) steers);
+        steered = steered-here b (omega arith) steers;
       }
     where
       on : HandedOn (linkedBy table) (getD prefix (i - 1) 0) aim next
       on = rw at at handed
 
       steers :
-          Steers (familyBy n table kind s t) (linkedBy table) (take (suc i) prefix) (getD prefix (suc i - 1) 0)
+          Steers (familyBy n table kind s t) (linkedBy table) (take (i + 1) prefix) (getD prefix (i + 1 - 1) 0)
           (has (next .goal)) (has (next .free))
       steers =
-          let place : suc i - 1 ≡ i = omega arith in
-          rw (place, take-suc prefix i 0 (omega (arith, b .size, b .short)))
+          let place : i + 1 - 1 ≡ i = omega arith in
+          rw (place, add-one i, take-suc prefix i 0 (omega (arith, b .size, b .short)))
           (steers-same (λ u. sym (on .goal-left u)) (λ u. sym (on .free-left u))
           (steers-more (k .steered .steers) (getD prefix i 0)))
 

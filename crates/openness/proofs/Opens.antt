@@ -8,7 +8,7 @@ use mathlib.Core.Path.{_≡_, refl, sym, ap, _∙_}
 use mathlib.Core.Bool.{Bool, true, false, not}
 use mathlib.Core.List.{List, [], _∷_, _++_, append-assoc, append-nil}
 use lib.ListN.{length, take, drop, take-append-drop}
-use lib.Seq.{take-suc, take-append-le}
+use lib.Seq.{take-suc, take-take}
 use borrow.Author.Tests.{not-true, not-false}
 use Rattle.graph.specs.Chordless.{atomAt}
 use Rattle.graph.proofs.Below.{clash, false-of}
@@ -17,11 +17,12 @@ use Rattle.enumeration.specs.Lawful.{Lawful}
 use Rattle.chordless.proofs.Members.{Bounded, open-has, open-of}
 use Rattle.molecule.specs.Record.{isAtom}
 use Rattle.atomset.specs.Set.{has}
+use Rattle.atomset.proofs.Members.{has-range}
 use Rattle.search.specs.Place.{kindKept}
 use Rattle.search.proofs.Readings.{atom-of}
 use Rattle.openness.specs.declared.Plan.{Plan}
-use Rattle.openness.specs.Plan.{familyBy, Words, Planned, Beginning}
-use Rattle.openness.proofs.Arrays.{taken-length, open-atoms}
+use Rattle.openness.specs.Plan.{familyBy, Words, Tells, Beginning, firstLength}
+use Rattle.openness.proofs.Arrays.{open-atoms}
 use Rattle.openness.proofs.Plans.{family-by-lawful, family-by-atoms}
 
 module _ (F : Family) (L : Lawful F) where
@@ -44,18 +45,21 @@ module _ (F : Family) (L : Lawful F) where
   open-take (suc k) [] e = open-empty
   open-take (suc k) (x ∷ p) e = open-append x (take k p) (drop k p) (rw (take-append-drop k p) e)
 
-  open-cut :
-      (prefix : List ℕ) (i len : ℕ) → length prefix ≡ 128 → i < len → len ≤ 127 →
-      isOpen F (take (suc i) prefix) ≡ false → isOpen F (take len prefix) ≡ false
-  open-cut prefix i len size h short e =
-      false-of (isOpen F (take len prefix))
-      (λ o. clash (isOpen F (take (suc i) prefix)) (rw same at (open-take (suc i) (take len prefix) o)) e)
-    where
-      same : take (suc i) (take len prefix) ≡ take (suc i) prefix
-      same =
-          let long = taken-length prefix len size (omega arith) in
-          sym (take-append-le (suc i) (take len prefix) (drop len prefix) (omega arith)) ∙
-          ap (take (suc i)) (take-append-drop len prefix)
+  -- in its array
+  pub open-shorter :
+      (prefix : List ℕ) {i len : ℕ} → i ≤ len → isOpen F (take len prefix) ≡ true → isOpen F (take i prefix) ≡ true
+  open-shorter prefix {i} {len} h e = rw (take-take i len prefix h) at (open-take i (take len prefix) e)
+
+  pub open-cut :
+      (prefix : List ℕ) {i len : ℕ} → i ≤ len → isOpen F (take i prefix) ≡ false → isOpen F (take len prefix) ≡ false
+  open-cut prefix {i} {len} h e =
+      false-of (isOpen F (take len prefix)) (λ o. clash (isOpen F (take i prefix)) (open-shorter prefix h o) e)
+
+-- a number that is no atom is in no set
+pub in-no-set : (set : List ℕ) (v : ℕ) → isAtom 128 v ≡ false → has set v ≡ false
+in-no-set set v a =
+    false-of (has set v)
+    (λ h. let (low, high) = has-range set v h in clash (isAtom 128 v) (atom-of 128 v low high) a)
 
 -- ---- one atom after an open beginning
 
@@ -79,9 +83,9 @@ module _ {n : ℕ} {table : List ℕ} {kind s t : ℕ} {prefix : List ℕ} {i v 
           open-atoms prefix (suc i) L (family-by-atoms n table kind s t) (b .size) short o i (omega arith)
 
   pub opens-in :
-      {plan : Plan} → Planned (familyBy n table kind s t) (take i prefix) v plan →
+      {plan : Plan} → Tells (familyBy n table kind s t) (take i prefix) plan v →
       has (plan .opens) v ≡ isOpen (familyBy n table kind s t) (take (suc i) prefix)
-  opens-in k = k .next .opens ∙ ap (isOpen (familyBy n table kind s t)) (sym place-at)
+  opens-in k = k .opens ∙ ap (isOpen (familyBy n table kind s t)) (sym place-at)
 
 -- ---- the loop over the places
 
@@ -113,11 +117,11 @@ module _ {n : ℕ} {table : List ℕ} {kind s t : ℕ} {prefix : List ℕ} {len 
       }
 
   pub open-stops :
-      {opens : Bool} → length prefix ≡ 128 → len ≤ 127 → i < len →
-      opens ≡ isOpen (familyBy n table kind s t) (take (suc i) prefix) → not opens ≡ true →
-      isOpen (familyBy n table kind s t) (take len prefix) ≡ false
-  open-stops {opens} size short h e fails =
-      open-cut (familyBy n table kind s t) (family-by-lawful n table kind s t) prefix i len size h short
+      {opens : Bool} → i < len → opens ≡ isOpen (familyBy n table kind s t) (take (suc i) prefix) →
+      not opens ≡ true → isOpen (familyBy n table kind s t) (take len prefix) ≡ false
+  open-stops {opens} h e fails =
+      let more : suc i ≤ len = omega arith in
+      open-cut (familyBy n table kind s t) (family-by-lawful n table kind s t) prefix more
       (sym e ∙ not-true opens fails)
 
   pub open-more :
@@ -128,3 +132,13 @@ module _ {n : ℕ} {table : List ℕ} {kind s t : ℕ} {prefix : List ℕ} {len 
 
   pub open-all : len ≤ i → isOpen (familyBy n table kind s t) (take len prefix) ≡ true
   open-all h = let all : i ≡ len = omega (arith, k .within) in rw all at (k .opened)
+
+-- ---- the first atoms that two sets steer, tested by themselves
+
+pub first-opened :
+    {n : ℕ} {table : List ℕ} {kind s t : ℕ} {prefix : List ℕ} {len first : ℕ} {opens : Bool} →
+    Words n table × (kindKept n kind s t ≡ true) × (length prefix ≡ 128) × (len ≤ 127) → first ≡ firstLength kind →
+    first ≤ len → opens ≡ isOpen (familyBy n table kind s t) (take first prefix) → not opens ≡ false →
+    Beginning n table kind s t prefix (firstLength kind)
+first-opened {opens = opens} known e h told passes =
+    rw e at (open-beginning (record { within = h; opened = sym told ∙ not-false opens passes }) known)

@@ -325,6 +325,17 @@ pub fn plan_at(
     }
 }
 
+// Whether the number v opens, by the plan; one that is no atom opens nothing.
+fn opens_by(found: Plan, v: usize) -> bool
+    ensures { λ r. ⌜ r ≡ has (found .opens) v ⌝ }
+{
+    if !molecule::is_atom(128, v) {
+        return false;
+    }
+    let opens = found.opens;
+    atomset::contains(opens, v)
+}
+
 // Whether the atom at place i opens the beginning before it.
 fn opens_at(
     table: &[u64; 256],
@@ -342,13 +353,11 @@ fn opens_at(
     if !molecule::is_atom(n, v) {
         return false;
     }
-    let found = plan_at(table, n, kind, s, t, prefix, i, v);
-    let opens = found.opens;
-    atomset::contains(opens, v)
+    opens_by(plan_at(table, n, kind, s, t, prefix, i, v), v)
 }
 
-// Whether the first `len` atoms are an open beginning.
-pub fn is_open(
+// Whether the first `len` atoms are an open beginning, with a plan made anew for each: for those too short for two sets.
+fn starts_open(
     table: &[u64; 256],
     n: usize,
     kind: usize,
@@ -369,4 +378,57 @@ pub fn is_open(
         i += 1;
     }
     true
+}
+
+// Whether the first `len` atoms are an open beginning, where the first ones that two sets steer are: the sets are handed
+// on past each further atom.
+fn goes_on_open(
+    table: &[u64; 256],
+    n: usize,
+    kind: usize,
+    s: usize,
+    t: usize,
+    prefix: &[u8; 128],
+    len: usize,
+) -> bool
+    requires { ⌜
+        Beginning n (now table) kind s t (now prefix) (firstLength kind) × (firstLength kind ≤ len) × (len ≤ 127) ⌝ }
+    ensures { λ r. ⌜ r ≡ isOpen (familyBy n (now (table .entry)) kind s t) (take len (now (prefix .entry))) ⌝ }
+{
+    let mut aim = first_aim(table, n, kind, s, t, prefix);
+    let mut i = first_length(kind);
+    while i < len {
+        let x = u8_usize(prefix[i - 1]);
+        let next = aim_after(table, aim, x);
+        if !opens_by(plan_by(table, aim, next, x), u8_usize(prefix[i])) {
+            return false;
+        }
+        aim = next;
+        i += 1;
+    }
+    true
+}
+
+// Whether the first `len` atoms are an open beginning.
+pub fn is_open(
+    table: &[u64; 256],
+    n: usize,
+    kind: usize,
+    s: usize,
+    t: usize,
+    prefix: &[u8; 128],
+    len: usize,
+) -> bool
+    requires { ⌜
+        Words n (now table) × (kindKept n kind s t ≡ true) × (length (now prefix) ≡ 128) × (len ≤ 127) ⌝ }
+    ensures { λ r. ⌜ r ≡ isOpen (familyBy n (now (table .entry)) kind s t) (take len (now (prefix .entry))) ⌝ }
+{
+    let first = first_length(kind);
+    if len <= first {
+        return starts_open(table, n, kind, s, t, prefix, len);
+    }
+    if !starts_open(table, n, kind, s, t, prefix, first) {
+        return false;
+    }
+    goes_on_open(table, n, kind, s, t, prefix, len)
 }

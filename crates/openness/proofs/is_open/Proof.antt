@@ -1,47 +1,47 @@
--- `openness::is_open` meets its contract. The invariant: the places passed are an open beginning.
--- The first atom that does not open it decides, since a beginning of an open one is open.
-use Prim.Native.Nat.{_-_}
+-- `openness::is_open` meets its contract: a short beginning is tested by itself; of a longer one first its first atoms,
+-- which are open where the whole is, then the further ones.
+use Prim.Native.Nat.{_≤_}
 use native.Mathlib.Omega.{arith}
-use mathlib.Core.Path.{sym}
-use Rattle.openness.proofs.Opens.{OpenTo, open-start, open-beginning, open-stops, open-more, open-all}
+use mathlib.Core.Path.{sym, _∙_}
+use borrow.Author.Tests.{not-true}
+use borrow.Author.Needs.{needs}
+use Rattle.openness.proofs.Plans.{family-by-lawful}
+use Rattle.openness.proofs.Opens.{open-cut, first-opened}
 use Rattle.openness.proofs.is_open.Statement.{statement}
 use Rattle.openness.proofs.is_open.Tie as tie
 
-abbrev Inv-loop : tie.InvT-loop
-Inv-loop table n kind s t prefix len i₀ i = OpenTo n table kind s t prefix len i
+-- the beginning is longer than the first atoms
+longer : (c : tie.Else1) → c .before .first-length .result ≤ c .before .before .args .len
+longer c = omega (arith, c .if1 .left)
 
-abbrev μ-loop : tie.MeasureT-loop
-μ-loop table n kind s t prefix len i₀ i = len - i
+-- ---- the needs (`search` finds a place in c by its type)
 
--- ---- the needs (the argument `(search)` is a place: it is found in c by its type)
-
-abbrev Place : (tie.InvT-loop → tie.MeasureT-loop → Type 0) → Type 0
-Place place = place Inv-loop μ-loop
-
-loop-holds : tie.Need-loop-holds Inv-loop μ-loop
-loop-holds c = open-start
-
-opens-at-requires : tie.Need-opens-at-requires Inv-loop μ-loop
-opens-at-requires c κs = open-beginning (c .before .loop .inv) (c .before .before .pre)
-
-returns : tie.Need-returns Inv-loop μ-loop
-returns c =
-    let start : Place tie.Start = search in
-    let turn : Place tie.In-loop = search in
+starts-open-requires-2 : tie.Need-starts-open-requires-2
+starts-open-requires-2 c κs =
+    let start : tie.Start = search in
     let (words, kinds, size, short) = start .pre in
-    sym (open-stops (turn .before .loop .inv) size short (turn .loop-test .taken) (c .before .opens-at .ensures)
-    (c .if1 .taken))
+    (words, kinds, size, omega arith)
 
-loop-again : tie.Need-loop-again Inv-loop μ-loop
-loop-again c =
-    let turn : Place tie.In-loop = search in
-    open-more (turn .before .loop .inv) (turn .loop-test .taken) (c .before .opens-at .ensures) (c .if1 .left)
+returns-2 : tie.Need-returns-2
+returns-2 c =
+    let start : tie.Start = search in
+    let args = start .args in
+    let L = family-by-lawful (args .n) (args .table .now) (args .kind) (args .s) (args .t) in
+    let shut = sym (c .before .starts-open2 .ensures) ∙ not-true _ (c .if2 .taken) in
+    sym (open-cut _ L (args .prefix .now) (longer (search)) shut)
 
-returns-2 : tie.Need-returns-2 Inv-loop μ-loop
-returns-2 c = sym (open-all (c .before .loop .inv) (c .loop-test .left))
+goes-on-open-requires : tie.Need-goes-on-open-requires
+goes-on-open-requires c κs =
+    let start : tie.Start = search in
+    let first : tie.After-first-length = search in
+    let is-first = first .first-length .ensures in
+    let (words, kinds, size, short) = start .pre in
+    let opened = first-opened (start .pre) is-first (longer (search)) (c .before .starts-open2 .ensures) (c .if2 .left) in
+    (opened, omega (arith, is-first, longer (search)), short)
 
 pub is-open-spec : {M : Type 1} → statement M
 is-open-spec =
     tie.close
     (tie.spec
-    Inv-loop μ-loop loop-holds opens-at-requires returns (λ c. omega arith) (λ c. omega arith) loop-again returns-2)
+    (λ c κs. tt) (λ c κs. search needs) (λ c. search needs) starts-open-requires-2 returns-2 goes-on-open-requires
+    (λ c. search needs))
