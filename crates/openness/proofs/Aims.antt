@@ -24,7 +24,7 @@ use Rattle.openness.specs.Parts.{TwoAtoms, TwoEnds}
 use Rattle.openness.proofs.Steps.{Row}
 use Rattle.openness.proofs.Arrays.{taken-length, open-atoms}
 use Rattle.openness.proofs.Plans.{family-rings, family-paths, family-by-lawful, family-by-atoms}
-use Rattle.openness.proofs.Opens.{open-shorter, OpenTo}
+use Rattle.openness.proofs.Opens.{open-shorter, OpenTo, open-beside}
 
 -- ---- the first sets
 
@@ -86,14 +86,9 @@ module _ {n : ℕ} {table : List ℕ} {kind s t : ℕ} {prefix : List ℕ} {len 
 
   -- a shorter one
   pub shorter : {i : ℕ} → i ≤ len → Beginning n table kind s t prefix i
-  shorter {i} h =
-      record {
-        words = b .words;
-        kinds = b .kinds;
-        size = b .size;
-        short = omega (arith, b .short);
-        isOpened = open-shorter (familyBy n table kind s t) (family-by-lawful n table kind s t) prefix h (b .isOpened);
-      }
+  shorter h =
+      let opened = open-shorter (familyBy n table kind s t) (family-by-lawful n table kind s t) prefix h (b .isOpened) in
+      open-beside (record { within = h; opened = opened }) b (b .short)
 
   -- the sets steer it
   abbrev pub SteeredHere : Aim → Type 0

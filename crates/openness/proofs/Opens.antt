@@ -116,6 +116,10 @@ module _ {n : ℕ} {table : List ℕ} {kind s t : ℕ} {prefix : List ℕ} {len 
         isOpened = k .opened;
       }
 
+  -- by another beginning in the array
+  pub open-beside : {j : ℕ} → Beginning n table kind s t prefix j → len ≤ 127 → Beginning n table kind s t prefix i
+  open-beside b short = open-beginning (b .words, b .kinds, b .size, short)
+
   pub open-stops :
       {opens : Bool} → i < len → opens ≡ isOpen (familyBy n table kind s t) (take (suc i) prefix) →
       not opens ≡ true → isOpen (familyBy n table kind s t) (take len prefix) ≡ false

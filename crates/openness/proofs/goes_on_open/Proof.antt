@@ -6,7 +6,7 @@ use mathlib.Core.Path.{_≡_, sym, _∙_}
 use lib.ListN.{take}
 use Rattle.enumeration.specs.Words.{isOpen}
 use Rattle.openness.specs.Plan.{Beginning, familyBy}
-use Rattle.openness.proofs.Opens.{open-beginning, opens-in, open-stops, open-more, open-all}
+use Rattle.openness.proofs.Opens.{open-beside, opens-in, open-stops, open-more, open-all}
 use Rattle.openness.proofs.Aims.{AimedTo, place-atom, steered-last}
 use Rattle.openness.proofs.Aims.{aimed-start, aimed-some, aimed-open, aimed-more}
 use Rattle.openness.proofs.goes_on_open.Statement.{statement}
@@ -38,7 +38,7 @@ begun :
     Beginning (args .n) (args .table .now) (args .kind) (args .s) (args .t) (args .prefix .now) (c .before .loop .i)
 begun c =
     let (first, long, short) = start c .pre in
-    open-beginning (aimed-open (c .before .loop .inv)) (first .words, first .kinds, first .size, short)
+    open-beside (aimed-open (c .before .loop .inv)) first short
 
 -- its last atom
 last : (c : Place tie.After-u8-usize) → (1 ≤ c .u8-usize .result) × (c .u8-usize .result ≤ 128)
@@ -96,8 +96,8 @@ loop-again c =
     let inv = turn .before .loop .inv in
     let (first, long, short) = start turn .pre in
     let opened = open-more (aimed-open inv) (turn .loop-test .taken) (told tested) (c .if1 .left) in
-    aimed-more inv (open-beginning opened (first .words, first .kinds, first .size, short)) (turn .loop-test .taken)
-    (read .u8-usize .ensures .same) (handed .aim-after .ensures)
+    aimed-more inv (open-beside opened first short) (turn .loop-test .taken) (read .u8-usize .ensures .same)
+    (handed .aim-after .ensures)
 
 returns-2 : tie.Need-returns-2 Inv-loop μ-loop
 returns-2 c = sym (open-all (aimed-open (c .before .loop .inv)) (c .loop-test .left))
