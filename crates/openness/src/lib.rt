@@ -1,5 +1,5 @@
-// Members and open beginnings by sets of atoms (lemma 2 of document 003). Two sets steer a search below a beginning, and
-// are handed on to each longer one; a kind of search supplies the first two.
+// Members and open beginnings by sets of atoms (lemma 2 of document 003). Two sets steer a search below a beginning,
+// and are handed on to each longer one; a kind of search supplies the first two.
 use widen::u8_usize;
 ghost use Prim.Native.Nat.{ℕ, suc, _≤_, _-_};
 ghost use mathlib.Core.Path.{_≡_};
@@ -21,8 +21,8 @@ pub struct Plan {
     pub opens: [u64; 2],
 }
 
-// The two sets that steer a search below a beginning, but for what is bonded to its last atom: the atoms that may close a
-// member, and those that may stand between.
+// The two sets that steer a search below a beginning, but for what is bonded to its last atom: the atoms that may close
+// a member, and those that may stand between.
 pub struct Aim {
     pub goal: [u64; 2],
     pub free: [u64; 2],
@@ -356,7 +356,8 @@ fn opens_at(
     opens_by(plan_at(table, n, kind, s, t, prefix, i, v), v)
 }
 
-// Whether the first `len` atoms are an open beginning, with a plan made anew for each: for those too short for two sets.
+// Whether the first `len` atoms are an open beginning, with a plan made anew for each: for those too short for two
+// sets.
 fn starts_open(
     table: &[u64; 256],
     n: usize,
@@ -380,8 +381,8 @@ fn starts_open(
     true
 }
 
-// Whether the first `len` atoms are an open beginning, where the first ones that two sets steer are: the sets are handed
-// on past each further atom.
+// Whether the first `len` atoms are an open beginning, where the first ones that two sets steer are: the sets are
+// handed on past each further atom.
 fn goes_on_open(
     table: &[u64; 256],
     n: usize,
