@@ -9,7 +9,6 @@ use mathlib.Core.List.{List, [], _∷_, _++_}
 use lib.ListN.{length, take, getD}
 use lib.Seq.{take-suc}
 use lib.Dec.{leb, ltb, eqb}
-use borrow.Author.Tests.{eq-eqb, ne-eqb}
 use Rattle.graph.specs.Chordless.{Adjacency, atomAt}
 use Rattle.enumeration.specs.Words.{Family, isOpen}
 use Rattle.chordless.specs.Families.{rings, paths}
@@ -22,8 +21,8 @@ use Rattle.openness.specs.declared.Aim.{Aim}
 use Rattle.openness.specs.Plan.{familyBy, Beginning, firstLength, Steered, HandedOn}
 use Rattle.openness.specs.Parts.{TwoAtoms, TwoEnds}
 use Rattle.openness.proofs.Steps.{Row}
-use Rattle.openness.proofs.Arrays.{taken-length, open-atoms}
-use Rattle.openness.proofs.Plans.{family-rings, family-paths, family-by-lawful, family-by-atoms}
+use Rattle.openness.proofs.Arrays.{taken-length, one-taken, two-taken, open-atoms}
+use Rattle.openness.proofs.Plans.{family-rings, family-paths, family-by-lawful, family-by-atoms, first-of-rings, first-of-paths}
 use Rattle.openness.proofs.Opens.{open-shorter, OpenTo, open-beside}
 
 -- ---- the first sets
@@ -51,13 +50,7 @@ path-aimed {n} {table} {s} {t} b goal-is all-is free-is =
 
 -- ---- a beginning in its array
 
--- the first length of each kind
-pub first-of-rings : (kind : ℕ) → kind ≡ 0 → firstLength kind ≡ 2
-first-of-rings kind e = rw (eq-eqb kind 0 e)
-
-pub first-of-paths : (kind : ℕ) → (kind ≡ 0 → ⊥) → firstLength kind ≡ 1
-first-of-paths kind d = rw (ne-eqb kind 0 d)
-
+-- the first length of either kind
 pub first-some : (kind : ℕ) → 1 ≤ firstLength kind
 first-some kind = go (eqb kind 0)
   where
@@ -87,7 +80,8 @@ module _ {n : ℕ} {table : List ℕ} {kind s t : ℕ} {prefix : List ℕ} {len 
   -- a shorter one
   pub shorter : {i : ℕ} → i ≤ len → Beginning n table kind s t prefix i
   shorter h =
-      let opened = open-shorter (familyBy n table kind s t) (family-by-lawful n table kind s t) prefix h (b .isOpened) in
+      let L = family-by-lawful n table kind s t in
+      let opened = open-shorter (familyBy n table kind s t) L prefix h (b .isOpened) in
       open-beside (record { within = h; opened = opened }) b (b .short)
 
   -- the sets steer it
@@ -126,10 +120,8 @@ module _ {n : ℕ} {table : List ℕ} {kind s t : ℕ} {prefix : List ℕ} {len 
           second-high = other .1;
         }
 
-    two-taken : take len prefix ≡ x ∷ y ∷ []
-    two-taken =
-        rw (two, at-first, at-second, take-suc prefix 1 0 (omega (arith, b .size)))
-        (ap (λ (p : List ℕ). p ++ atomAt prefix 1 ∷ []) (take-suc prefix 0 0 (omega (arith, b .size))))
+    two-read : take len prefix ≡ x ∷ y ∷ []
+    two-read = rw (two, at-first, at-second) (two-taken prefix (b .size))
 
     two-last : getD prefix (len - 1) 0 ≡ y
     two-last = rw (two, at-second)
@@ -140,7 +132,7 @@ module _ {n : ℕ} {table : List ℕ} {kind s t : ℕ} {prefix : List ℕ} {len 
         SteeredHere aim
     first-ring k =
         let long = two in
-        steered-here (omega arith) (rw (family-rings n table kind s t ring, two-taken, two-last) k)
+        steered-here (omega arith) (rw (family-rings n table kind s t ring, two-read, two-last) k)
 
   -- a first beginning of a path: one atom, s
   module _ (first : len ≡ firstLength kind) (path : kind ≡ 0 → ⊥) where
@@ -148,7 +140,7 @@ module _ {n : ℕ} {table : List ℕ} {kind s t : ℕ} {prefix : List ℕ} {len 
     one = first ∙ first-of-paths kind path
 
     one-read : take len prefix ≡ atomAt prefix 0 ∷ []
-    one-read = rw one (take-suc prefix 0 0 (omega (arith, b .size)))
+    one-read = rw one (one-taken prefix (b .size))
 
     one-is : atomAt prefix 0 ≡ s
     one-is =

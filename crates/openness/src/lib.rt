@@ -356,29 +356,31 @@ fn opens_at(
     opens_by(plan_at(table, n, kind, s, t, prefix, i, v), v)
 }
 
-// Whether the first `len` atoms are an open beginning, with a plan made anew for each: for those too short for two
-// sets.
-fn starts_open(
+// Whether the shortest beginning that two sets steer is open: of a ring the first two atoms, of a path the first one.
+fn first_opens(
     table: &[u64; 256],
     n: usize,
     kind: usize,
     s: usize,
     t: usize,
     prefix: &[u8; 128],
-    len: usize,
 ) -> bool
-    requires { ⌜
-        Words n (now table) × (kindKept n kind s t ≡ true) × (length (now prefix) ≡ 128) × (len ≤ 127) ⌝ }
-    ensures { λ r. ⌜ r ≡ isOpen (familyBy n (now (table .entry)) kind s t) (take len (now (prefix .entry))) ⌝ }
+    requires { ⌜ Words n (now table) × (kindKept n kind s t ≡ true) × (length (now prefix) ≡ 128) ⌝ }
+    ensures { λ r. ⌜
+        r ≡ isOpen (familyBy n (now (table .entry)) kind s t) (take (firstLength kind) (now (prefix .entry))) ⌝ }
 {
-    let mut i: usize = 0;
-    while i < len {
-        if !opens_at(table, n, kind, s, t, prefix, i) {
-            return false;
-        }
-        i += 1;
+    let a = u8_usize(prefix[0]);
+    if kind != 0 {
+        return path_starts(table, n, s, t, a);
     }
-    true
+    if !molecule::is_atom(n, a) {
+        return false;
+    }
+    let b = u8_usize(prefix[1]);
+    if !molecule::is_atom(n, b) {
+        return false;
+    }
+    pair_opens(table, n, a, b)
 }
 
 // Whether the first `len` atoms are an open beginning, where the first ones that two sets steer are: the sets are
@@ -424,11 +426,13 @@ pub fn is_open(
         Words n (now table) × (kindKept n kind s t ≡ true) × (length (now prefix) ≡ 128) × (len ≤ 127) ⌝ }
     ensures { λ r. ⌜ r ≡ isOpen (familyBy n (now (table .entry)) kind s t) (take len (now (prefix .entry))) ⌝ }
 {
-    let first = first_length(kind);
-    if len <= first {
-        return starts_open(table, n, kind, s, t, prefix, len);
+    if len == 0 {
+        return true;
     }
-    if !starts_open(table, n, kind, s, t, prefix, first) {
+    if len < first_length(kind) {
+        return opens_at(table, n, kind, s, t, prefix, 0);
+    }
+    if !first_opens(table, n, kind, s, t, prefix) {
         return false;
     }
     goes_on_open(table, n, kind, s, t, prefix, len)
