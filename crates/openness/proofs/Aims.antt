@@ -6,10 +6,9 @@ use native.Mathlib.Numerals.{add-one}
 use mathlib.Core.Path.{_≡_, sym, ap, _∙_}
 use mathlib.Core.Bool.{Bool, true, false, _&&_, not, cond}
 use mathlib.Core.List.{List, [], _∷_, _++_}
-use lib.ListN.{length, take, drop, getD, take-append-drop}
-use lib.Seq.{take-suc, take-append-le}
+use lib.ListN.{length, take, getD}
+use lib.Seq.{take-suc}
 use lib.Dec.{leb, ltb, eqb}
-use borrow.Author.Tests.{eq-eqb, ne-eqb}
 use Rattle.graph.specs.Chordless.{Adjacency, atomAt}
 use Rattle.enumeration.specs.Words.{Family, isOpen}
 use Rattle.chordless.specs.Families.{rings, paths}
@@ -22,9 +21,9 @@ use Rattle.openness.specs.declared.Aim.{Aim}
 use Rattle.openness.specs.Plan.{familyBy, Beginning, firstLength, Steered, HandedOn}
 use Rattle.openness.specs.Parts.{TwoAtoms, TwoEnds}
 use Rattle.openness.proofs.Steps.{Row}
-use Rattle.openness.proofs.Arrays.{taken-length, open-atoms}
-use Rattle.openness.proofs.Plans.{family-rings, family-paths, family-by-lawful, family-by-atoms}
-use Rattle.openness.proofs.Opens.{open-take}
+use Rattle.openness.proofs.Arrays.{taken-length, one-taken, two-taken, open-atoms}
+use Rattle.openness.proofs.Plans.{family-rings, family-paths, family-by-lawful, family-by-atoms, first-of-rings, first-of-paths}
+use Rattle.openness.proofs.Opens.{open-shorter, OpenTo, open-beside}
 
 -- ---- the first sets
 
@@ -51,13 +50,7 @@ path-aimed {n} {table} {s} {t} b goal-is all-is free-is =
 
 -- ---- a beginning in its array
 
--- the first length of each kind
-pub first-of-rings : (kind : ℕ) → kind ≡ 0 → firstLength kind ≡ 2
-first-of-rings kind e = rw (eq-eqb kind 0 e)
-
-pub first-of-paths : (kind : ℕ) → (kind ≡ 0 → ⊥) → firstLength kind ≡ 1
-first-of-paths kind d = rw (ne-eqb kind 0 d)
-
+-- the first length of either kind
 pub first-some : (kind : ℕ) → 1 ≤ firstLength kind
 first-some kind = go (eqb kind 0)
   where
@@ -86,21 +79,10 @@ module _ {n : ℕ} {table : List ℕ} {kind s t : ℕ} {prefix : List ℕ} {len 
 
   -- a shorter one
   pub shorter : {i : ℕ} → i ≤ len → Beginning n table kind s t prefix i
-  shorter {i} h =
+  shorter h =
       let L = family-by-lawful n table kind s t in
-      record {
-        words = b .words;
-        kinds = b .kinds;
-        size = b .size;
-        short = omega (arith, b .short);
-        isOpened = rw same at (open-take (familyBy n table kind s t) L i (take len prefix) (b .isOpened));
-      }
-    where
-      same : take i (take len prefix) ≡ take i prefix
-      same =
-          let long = taken-length prefix len (b .size) (omega (arith, b .short)) in
-          sym (take-append-le i (take len prefix) (drop len prefix) (omega arith)) ∙
-          ap (take i) (take-append-drop len prefix)
+      let opened = open-shorter (familyBy n table kind s t) L prefix h (b .isOpened) in
+      open-beside (record { within = h; opened = opened }) b (b .short)
 
   -- the sets steer it
   abbrev pub SteeredHere : Aim → Type 0
@@ -138,10 +120,8 @@ module _ {n : ℕ} {table : List ℕ} {kind s t : ℕ} {prefix : List ℕ} {len 
           second-high = other .1;
         }
 
-    two-taken : take len prefix ≡ x ∷ y ∷ []
-    two-taken =
-        rw (two, at-first, at-second, take-suc prefix 1 0 (omega (arith, b .size)))
-        (ap (λ (p : List ℕ). p ++ atomAt prefix 1 ∷ []) (take-suc prefix 0 0 (omega (arith, b .size))))
+    two-read : take len prefix ≡ x ∷ y ∷ []
+    two-read = rw (two, at-first, at-second) (two-taken prefix (b .size))
 
     two-last : getD prefix (len - 1) 0 ≡ y
     two-last = rw (two, at-second)
@@ -152,7 +132,7 @@ module _ {n : ℕ} {table : List ℕ} {kind s t : ℕ} {prefix : List ℕ} {len 
         SteeredHere aim
     first-ring k =
         let long = two in
-        steered-here (omega arith) (rw (family-rings n table kind s t ring, two-taken, two-last) k)
+        steered-here (omega arith) (rw (family-rings n table kind s t ring, two-read, two-last) k)
 
   -- a first beginning of a path: one atom, s
   module _ (first : len ≡ firstLength kind) (path : kind ≡ 0 → ⊥) where
@@ -160,7 +140,7 @@ module _ {n : ℕ} {table : List ℕ} {kind s t : ℕ} {prefix : List ℕ} {len 
     one = first ∙ first-of-paths kind path
 
     one-read : take len prefix ≡ atomAt prefix 0 ∷ []
-    one-read = rw one (take-suc prefix 0 0 (omega (arith, b .size)))
+    one-read = rw one (one-taken prefix (b .size))
 
     one-is : atomAt prefix 0 ≡ s
     one-is =
@@ -199,26 +179,30 @@ module _ {n : ℕ} {table : List ℕ} {kind s t : ℕ} {prefix : List ℕ} {len 
   pub aimed-some : 1 ≤ i
   aimed-some = omega (arith, first-some kind, k .some)
 
-  -- one atom more
+  -- they are open
+  pub aimed-open : OpenTo n table kind s t prefix len i
+  aimed-open = record { within = k .within; opened = k .steered .isOpened }
+
+  -- one atom more, where these are open too
   pub aimed-more :
-      {x : ℕ} {next : Aim} → Beginning n table kind s t prefix len → i < len → x ≡ atomAt prefix (i - 1) →
+      {x : ℕ} {next : Aim} → Beginning n table kind s t prefix (i + 1) → i < len → x ≡ atomAt prefix (i - 1) →
       HandedOn (linkedBy table) x aim next → AimedTo n table kind s t prefix len next (i + 1)
   aimed-more {x} {next} b h at handed =
       record {
         some = omega (arith, k .some);
         within = omega arith;
-        steered = rw (add-one i) (steered-here (shorter b {i = suc i} (omega arith)) (omega arith) steers);
+        steered = steered-here b (omega arith) steers;
       }
     where
       on : HandedOn (linkedBy table) (getD prefix (i - 1) 0) aim next
       on = rw at at handed
 
       steers :
-          Steers (familyBy n table kind s t) (linkedBy table) (take (suc i) prefix) (getD prefix (suc i - 1) 0)
+          Steers (familyBy n table kind s t) (linkedBy table) (take (i + 1) prefix) (getD prefix (i + 1 - 1) 0)
           (has (next .goal)) (has (next .free))
       steers =
-          let place : suc i - 1 ≡ i = omega arith in
-          rw (place, take-suc prefix i 0 (omega (arith, b .size, b .short)))
+          let place : i + 1 - 1 ≡ i = omega arith in
+          rw (place, add-one i, take-suc prefix i 0 (omega (arith, b .size, b .short)))
           (steers-same (λ u. sym (on .goal-left u)) (λ u. sym (on .free-left u))
           (steers-more (k .steered .steers) (getD prefix i 0)))
 

@@ -2,11 +2,11 @@
 -- The atoms of an open beginning are from 1 to n, since every family here is lawful.
 use Prim.Native.Nat.{ℕ, _≤_, _<_}
 use native.Mathlib.Omega.{arith}
-use mathlib.Core.Path.{_≡_}
+use mathlib.Core.Path.{_≡_, ap}
 use mathlib.Core.Bool.{true}
-use mathlib.Core.List.{List}
+use mathlib.Core.List.{List, [], _∷_, _++_}
 use lib.ListN.{length, take}
-use lib.Seq.{getD-take, length-take-le}
+use lib.Seq.{getD-take, length-take-le, take-suc}
 use Rattle.graph.specs.Chordless.{atomAt}
 use Rattle.enumeration.specs.Words.{Family, isOpen}
 use Rattle.enumeration.specs.Lawful.{Lawful}
@@ -14,6 +14,14 @@ use Rattle.search.proofs.Readings.{open-range}
 
 pub taken-length : (prefix : List ℕ) (len : ℕ) → length prefix ≡ 128 → len ≤ 128 → length (take len prefix) ≡ len
 taken-length prefix len size short = length-take-le len prefix (omega arith)
+
+-- one atom, and two
+pub one-taken : (prefix : List ℕ) → length prefix ≡ 128 → take 1 prefix ≡ atomAt prefix 0 ∷ []
+one-taken prefix size = take-suc prefix 0 0 (omega arith)
+
+pub two-taken : (prefix : List ℕ) → length prefix ≡ 128 → take 2 prefix ≡ atomAt prefix 0 ∷ atomAt prefix 1 ∷ []
+two-taken prefix size =
+    rw (take-suc prefix 1 0 (omega arith)) (ap (λ (p : List ℕ). p ++ atomAt prefix 1 ∷ []) (one-taken prefix size))
 
 -- the atoms of an open beginning
 pub open-atoms :

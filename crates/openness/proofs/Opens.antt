@@ -8,21 +8,23 @@ use mathlib.Core.Path.{_≡_, refl, sym, ap, _∙_}
 use mathlib.Core.Bool.{Bool, true, false, not}
 use mathlib.Core.List.{List, [], _∷_, _++_, append-assoc, append-nil}
 use lib.ListN.{length, take, drop, take-append-drop}
-use lib.Seq.{take-suc, take-append-le}
+use lib.Seq.{take-suc, take-take}
 use borrow.Author.Tests.{not-true, not-false}
 use Rattle.graph.specs.Chordless.{atomAt}
 use Rattle.graph.proofs.Below.{clash, false-of}
 use Rattle.enumeration.specs.Words.{Family, isOpen}
 use Rattle.enumeration.specs.Lawful.{Lawful}
+use Rattle.chordless.specs.Families.{rings, paths}
 use Rattle.chordless.proofs.Members.{Bounded, open-has, open-of}
 use Rattle.molecule.specs.Record.{isAtom}
-use Rattle.atomset.specs.Set.{has}
+use Rattle.atomset.specs.Set.{has, linkedBy}
+use Rattle.atomset.proofs.Members.{has-range}
 use Rattle.search.specs.Place.{kindKept}
 use Rattle.search.proofs.Readings.{atom-of}
 use Rattle.openness.specs.declared.Plan.{Plan}
-use Rattle.openness.specs.Plan.{familyBy, Words, Planned, Beginning}
-use Rattle.openness.proofs.Arrays.{taken-length, open-atoms}
-use Rattle.openness.proofs.Plans.{family-by-lawful, family-by-atoms}
+use Rattle.openness.specs.Plan.{familyBy, Words, Tells, Beginning, firstLength}
+use Rattle.openness.proofs.Arrays.{one-taken, two-taken, open-atoms}
+use Rattle.openness.proofs.Plans.{family-rings, family-paths, family-by-lawful, family-by-atoms, first-of-rings, first-of-paths}
 
 module _ (F : Family) (L : Lawful F) where
   bounded : Bounded F
@@ -44,18 +46,36 @@ module _ (F : Family) (L : Lawful F) where
   open-take (suc k) [] e = open-empty
   open-take (suc k) (x ∷ p) e = open-append x (take k p) (drop k p) (rw (take-append-drop k p) e)
 
-  open-cut :
-      (prefix : List ℕ) (i len : ℕ) → length prefix ≡ 128 → i < len → len ≤ 127 →
-      isOpen F (take (suc i) prefix) ≡ false → isOpen F (take len prefix) ≡ false
-  open-cut prefix i len size h short e =
-      false-of (isOpen F (take len prefix))
-      (λ o. clash (isOpen F (take (suc i) prefix)) (rw same at (open-take (suc i) (take len prefix) o)) e)
-    where
-      same : take (suc i) (take len prefix) ≡ take (suc i) prefix
-      same =
-          let long = taken-length prefix len size (omega arith) in
-          sym (take-append-le (suc i) (take len prefix) (drop len prefix) (omega arith)) ∙
-          ap (take (suc i)) (take-append-drop len prefix)
+  -- in its array
+  pub open-shorter :
+      (prefix : List ℕ) {i len : ℕ} → i ≤ len → isOpen F (take len prefix) ≡ true → isOpen F (take i prefix) ≡ true
+  open-shorter prefix {i} {len} h e = rw (take-take i len prefix h) at (open-take i (take len prefix) e)
+
+  pub open-cut :
+      (prefix : List ℕ) {i len : ℕ} → i ≤ len → isOpen F (take i prefix) ≡ false → isOpen F (take len prefix) ≡ false
+  open-cut prefix {i} {len} h e =
+      false-of (isOpen F (take len prefix)) (λ o. clash (isOpen F (take i prefix)) (open-shorter prefix h o) e)
+
+-- a number that is no atom is in no set
+pub in-no-set : (set : List ℕ) (v : ℕ) → isAtom 128 v ≡ false → has set v ≡ false
+in-no-set set v a =
+    false-of (has set v)
+    (λ h. let (low, high) = has-range set v h in clash (isAtom 128 v) (atom-of 128 v low high) a)
+
+-- ---- a place without an atom
+
+pub no-atom :
+    (n : ℕ) (table : List ℕ) (kind s t : ℕ) (prefix : List ℕ) {len i v : ℕ} → length prefix ≡ 128 → len ≤ 128 →
+    i < len → v ≡ atomAt prefix i → isAtom n v ≡ false → isOpen (familyBy n table kind s t) (take len prefix) ≡ false
+no-atom n table kind s t prefix {len} {i} {v} size short h e a =
+    false-of (isOpen (familyBy n table kind s t) (take len prefix))
+    (λ o. let range = at-place o in clash (isAtom n v) (atom-of n v (omega arith) (omega arith)) a)
+  where
+    at-place :
+        isOpen (familyBy n table kind s t) (take len prefix) ≡ true → (1 ≤ atomAt prefix i) × (atomAt prefix i ≤ n)
+    at-place o =
+        let L = family-by-lawful n table kind s t in
+        open-atoms prefix len L (family-by-atoms n table kind s t) size short o i h
 
 -- ---- one atom after an open beginning
 
@@ -66,22 +86,14 @@ module _ {n : ℕ} {table : List ℕ} {kind s t : ℕ} {prefix : List ℕ} {i v 
 
   -- no atom stands at the place
   pub opens-out : isAtom n v ≡ false → isOpen (familyBy n table kind s t) (take (suc i) prefix) ≡ false
-  opens-out a =
-      false-of (isOpen (familyBy n table kind s t) (take (suc i) prefix))
-      (λ o. let range = at-place o in clash (isAtom n v) (atom-of n v (omega arith) (omega arith)) a)
-    where
-      at-place :
-          isOpen (familyBy n table kind s t) (take (suc i) prefix) ≡ true →
-          (1 ≤ atomAt prefix i) × (atomAt prefix i ≤ n)
-      at-place o =
-          let L = family-by-lawful n table kind s t in
-          let short : suc i ≤ 128 = omega (arith, b .short) in
-          open-atoms prefix (suc i) L (family-by-atoms n table kind s t) (b .size) short o i (omega arith)
+  opens-out =
+      let short : suc i ≤ 128 = omega (arith, b .short) in
+      no-atom n table kind s t prefix (b .size) short (omega arith) e
 
   pub opens-in :
-      {plan : Plan} → Planned (familyBy n table kind s t) (take i prefix) v plan →
+      {plan : Plan} → Tells (familyBy n table kind s t) (take i prefix) plan v →
       has (plan .opens) v ≡ isOpen (familyBy n table kind s t) (take (suc i) prefix)
-  opens-in k = k .next .opens ∙ ap (isOpen (familyBy n table kind s t)) (sym place-at)
+  opens-in k = k .opens ∙ ap (isOpen (familyBy n table kind s t)) (sym place-at)
 
 -- ---- the loop over the places
 
@@ -89,14 +101,6 @@ module _ {n : ℕ} {table : List ℕ} {kind s t : ℕ} {prefix : List ℕ} {i v 
 pub record OpenTo (n : ℕ) (table : List ℕ) (kind s t : ℕ) (prefix : List ℕ) (len i : ℕ) : Type 0 where
   pub within : i ≤ len
   pub opened : isOpen (familyBy n table kind s t) (take i prefix) ≡ true
-
-pub open-start :
-    {n : ℕ} {table : List ℕ} {kind s t : ℕ} {prefix : List ℕ} {len : ℕ} → OpenTo n table kind s t prefix len 0
-open-start {n} {table} {kind} {s} {t} =
-    record {
-      within = omega arith;
-      opened = open-empty (familyBy n table kind s t) (family-by-lawful n table kind s t);
-    }
 
 module _ {n : ℕ} {table : List ℕ} {kind s t : ℕ} {prefix : List ℕ} {len i : ℕ}
     (k : OpenTo n table kind s t prefix len i) where
@@ -112,12 +116,16 @@ module _ {n : ℕ} {table : List ℕ} {kind s t : ℕ} {prefix : List ℕ} {len 
         isOpened = k .opened;
       }
 
+  -- by another beginning in the array
+  pub open-beside : {j : ℕ} → Beginning n table kind s t prefix j → len ≤ 127 → Beginning n table kind s t prefix i
+  open-beside b short = open-beginning (b .words, b .kinds, b .size, short)
+
   pub open-stops :
-      {opens : Bool} → length prefix ≡ 128 → len ≤ 127 → i < len →
-      opens ≡ isOpen (familyBy n table kind s t) (take (suc i) prefix) → not opens ≡ true →
-      isOpen (familyBy n table kind s t) (take len prefix) ≡ false
-  open-stops {opens} size short h e fails =
-      open-cut (familyBy n table kind s t) (family-by-lawful n table kind s t) prefix i len size h short
+      {opens : Bool} → i < len → opens ≡ isOpen (familyBy n table kind s t) (take (suc i) prefix) →
+      not opens ≡ true → isOpen (familyBy n table kind s t) (take len prefix) ≡ false
+  open-stops {opens} h e fails =
+      let more : suc i ≤ len = omega arith in
+      open-cut (familyBy n table kind s t) (family-by-lawful n table kind s t) prefix more
       (sym e ∙ not-true opens fails)
 
   pub open-more :
@@ -128,3 +136,52 @@ module _ {n : ℕ} {table : List ℕ} {kind s t : ℕ} {prefix : List ℕ} {len 
 
   pub open-all : len ≤ i → isOpen (familyBy n table kind s t) (take len prefix) ≡ true
   open-all h = let all : i ≡ len = omega (arith, k .within) in rw all at (k .opened)
+
+-- the empty beginning
+pub open-none :
+    {n : ℕ} {table : List ℕ} {kind s t : ℕ} {prefix : List ℕ} {len : ℕ} →
+    Words n table × (kindKept n kind s t ≡ true) × (length prefix ≡ 128) × (len ≤ 127) →
+    Beginning n table kind s t prefix 0
+open-none {n} {table} {kind} {s} {t} known =
+    let opened = open-empty (familyBy n table kind s t) (family-by-lawful n table kind s t) in
+    open-beginning (record { within = omega arith; opened = opened }) known
+
+-- ---- the shortest beginning that two sets steer, tested by itself
+
+module _ (n : ℕ) (table : List ℕ) (kind s t : ℕ) (prefix : List ℕ) where
+  abbrev FirstOpens : Bool → Type 0
+  FirstOpens opens = opens ≡ isOpen (familyBy n table kind s t) (take (firstLength kind) prefix)
+
+  module _ (size : length prefix ≡ 128) where
+    pub first-path-opens :
+        {a : ℕ} {opens : Bool} → (kind ≡ 0 → ⊥) → a ≡ atomAt prefix 0 →
+        opens ≡ isOpen (paths n (linkedBy table) s t) (a ∷ []) → FirstOpens opens
+    first-path-opens d at told =
+        told ∙ rw (family-paths n table kind s t d, first-of-paths kind d, one-taken prefix size, at)
+
+    pub first-ring-opens :
+        {a b : ℕ} {opens : Bool} → kind ≡ 0 → a ≡ atomAt prefix 0 → b ≡ atomAt prefix 1 →
+        opens ≡ isOpen (rings n (linkedBy table)) (a ∷ b ∷ []) → FirstOpens opens
+    first-ring-opens ring at at-next told =
+        told ∙ rw (family-rings n table kind s t ring, first-of-rings kind ring, two-taken prefix size, at, at-next)
+
+    -- no atom stands at one of its places
+    pub first-no-atom :
+        {i v : ℕ} → kind ≡ 0 → i < 2 → v ≡ atomAt prefix i → isAtom n v ≡ false → FirstOpens false
+    first-no-atom ring h at none =
+        let two = first-of-rings kind ring in
+        let short : firstLength kind ≤ 128 = omega arith in
+        sym (no-atom n table kind s t prefix size short (omega arith) at none)
+
+  -- a beginning that goes on from it
+  module _ {len : ℕ} {opens : Bool} (h : firstLength kind ≤ len) (told : FirstOpens opens) where
+    pub first-stops : not opens ≡ true → isOpen (familyBy n table kind s t) (take len prefix) ≡ false
+    first-stops fails =
+        open-cut (familyBy n table kind s t) (family-by-lawful n table kind s t) prefix h
+        (sym told ∙ not-true opens fails)
+
+    pub first-goes-on :
+        Words n table × (kindKept n kind s t ≡ true) × (length prefix ≡ 128) × (len ≤ 127) → not opens ≡ false →
+        Beginning n table kind s t prefix (firstLength kind)
+    first-goes-on known passes =
+        open-beginning (record { within = h; opened = sym told ∙ not-false opens passes }) known

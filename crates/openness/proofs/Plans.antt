@@ -7,7 +7,6 @@ use mathlib.Core.Bool.{Bool, true, false, cond, and-true, and-false}
 use mathlib.Core.List.{List, [], _∷_}
 use mathlib.Core.Logic.{inl, inr}
 use lib.ListN.{take}
-use lib.Seq.{take-suc}
 use lib.Dec.{eqb}
 use borrow.Author.Tests.{eq-eqb, ne-eqb}
 use Rattle.graph.specs.Chordless.{atomAt}
@@ -23,7 +22,7 @@ use Rattle.search.proofs.Readings.{kind-facts, KindFacts, ends-facts, ends-of}
 use Rattle.openness.specs.declared.Plan.{Plan}
 use Rattle.openness.specs.Plan.{familyBy, firstLength, Planned, Everywhere, Beginning}
 use Rattle.openness.specs.Parts.{OneAtom, TwoEnds, Alone}
-use Rattle.openness.proofs.Arrays.{open-atoms}
+use Rattle.openness.proofs.Arrays.{one-taken, open-atoms}
 
 -- ---- the family of a kind
 
@@ -52,12 +51,26 @@ module _ (n : ℕ) (table : List ℕ) (kind s t : ℕ) where
       go true = refl
       go false = refl
 
-  kind-ends : (kind ≡ 0 → ⊥) → kindKept n kind s t ≡ true → endsKept n s t ≡ true
+  pub kind-ends : (kind ≡ 0 → ⊥) → kindKept n kind s t ≡ true → endsKept n s t ≡ true
   kind-ends d e = go (kind-facts n kind s t e)
     where
       go : KindFacts n kind s t → endsKept n s t ≡ true
       go (inl f) = absurd (d (f .0))
       go (inr f) = ends-of n s t (f .1)
+
+-- the first length of each kind
+pub first-of-rings : (kind : ℕ) → kind ≡ 0 → firstLength kind ≡ 2
+first-of-rings kind e = rw (eq-eqb kind 0 e)
+
+pub first-of-paths : (kind : ℕ) → (kind ≡ 0 → ⊥) → firstLength kind ≡ 1
+first-of-paths kind d = rw (ne-eqb kind 0 d)
+
+pub first-few : (kind : ℕ) → firstLength kind ≤ 2
+first-few kind = go (eqb kind 0)
+  where
+    go : (b : Bool) → cond b 2 1 ≤ 2
+    go true = omega arith
+    go false = omega arith
 
 -- ---- the answers
 
@@ -93,9 +106,6 @@ module _ {n : ℕ} {table : List ℕ} {kind s t : ℕ} {prefix : List ℕ} {len 
   none-taken : len ≡ 0 → take len prefix ≡ []
   none-taken e = rw e
 
-  one-taken : {a : ℕ} → len ≡ 1 → a ≡ atomAt prefix 0 → take len prefix ≡ a ∷ []
-  one-taken e f = rw (e, f) (take-suc prefix 0 0 (omega (arith, b .size)))
-
   -- a ring search
   module _ (e : kind ≡ 0) where
     pub planned-ring-start :
@@ -108,7 +118,7 @@ module _ {n : ℕ} {table : List ℕ} {kind s t : ℕ} {prefix : List ℕ} {len 
     -- at a beginning of one atom
     module _ (before : len < firstLength kind) (d : len ≡ 0 → ⊥) {a : ℕ} (f : a ≡ atomAt prefix 0) where
       one : len ≡ 1
-      one = let few : len < 2 = rw (eq-eqb kind 0 e) at before in omega arith
+      one = omega (arith, first-few kind)
 
       pub first-atom : OneAtom n table a
       first-atom =
@@ -124,7 +134,7 @@ module _ {n : ℕ} {table : List ℕ} {kind s t : ℕ} {prefix : List ℕ} {len 
           ((v : ℕ) → has opens v ≡ isOpen (rings n (linkedBy table)) (a ∷ v ∷ [])) →
           PlannedHere c (record { members = none; opens = opens })
       planned-seconds none-is opens-is =
-          rw (family-rings n table kind s t e, one-taken one f)
+          rw (family-rings n table kind s t e, one, one-taken prefix (b .size), sym f)
           (planned-every
           (λ v. record {
             members = none-is v ∙ sym (ring-not-short n (linkedBy table) (a ∷ []) v (omega arith));
@@ -140,7 +150,6 @@ module _ {n : ℕ} {table : List ℕ} {kind s t : ℕ} {prefix : List ℕ} {len 
         {c : ℕ} {opening : Bool} {plan : Plan} → len < firstLength kind →
         opening ≡ isOpen (paths n (linkedBy table) s t) (c ∷ []) → Alone opening c plan → PlannedHere c plan
     planned-path-start {c} before o k =
-        let few : len < 1 = rw (ne-eqb kind 0 d) at before in
-        let none : len ≡ 0 = omega arith in
+        let none : len ≡ 0 = omega (arith, first-of-paths kind d) in
         let short = path-not-one n (linkedBy table) s t c (ends-facts n s t (path-ends .ends) .differ) in
         rw (family-paths n table kind s t d, none-taken none) (planned-alone short o k)

@@ -21,8 +21,8 @@ pub struct Plan {
     pub opens: [u64; 2],
 }
 
-// The two sets that steer a search below a beginning, but for what is bonded to its last atom: the atoms that may
-// close a member, and those that may stand between.
+// The two sets that steer a search below a beginning, but for what is bonded to its last atom: the atoms that may close
+// a member, and those that may stand between.
 pub struct Aim {
     pub goal: [u64; 2],
     pub free: [u64; 2],
@@ -325,6 +325,17 @@ pub fn plan_at(
     }
 }
 
+// Whether the number v opens, by the plan; one that is no atom opens nothing.
+fn opens_by(found: Plan, v: usize) -> bool
+    ensures { λ r. ⌜ r ≡ has (found .opens) v ⌝ }
+{
+    if !molecule::is_atom(128, v) {
+        return false;
+    }
+    let opens = found.opens;
+    atomset::contains(opens, v)
+}
+
 // Whether the atom at place i opens the beginning before it.
 fn opens_at(
     table: &[u64; 256],
@@ -342,9 +353,63 @@ fn opens_at(
     if !molecule::is_atom(n, v) {
         return false;
     }
-    let found = plan_at(table, n, kind, s, t, prefix, i, v);
-    let opens = found.opens;
-    atomset::contains(opens, v)
+    opens_by(plan_at(table, n, kind, s, t, prefix, i, v), v)
+}
+
+// Whether the shortest beginning that two sets steer is open: of a ring the first two atoms, of a path the first one.
+fn first_opens(
+    table: &[u64; 256],
+    n: usize,
+    kind: usize,
+    s: usize,
+    t: usize,
+    prefix: &[u8; 128],
+) -> bool
+    requires { ⌜ Words n (now table) × (kindKept n kind s t ≡ true) × (length (now prefix) ≡ 128) ⌝ }
+    ensures { λ r. ⌜
+        r ≡ isOpen (familyBy n (now (table .entry)) kind s t) (take (firstLength kind) (now (prefix .entry))) ⌝ }
+{
+    let a = u8_usize(prefix[0]);
+    if kind != 0 {
+        return path_starts(table, n, s, t, a);
+    }
+    if !molecule::is_atom(n, a) {
+        return false;
+    }
+    let b = u8_usize(prefix[1]);
+    if !molecule::is_atom(n, b) {
+        return false;
+    }
+    pair_opens(table, n, a, b)
+}
+
+// Whether the first `len` atoms are an open beginning, where the first ones that two sets steer are: the sets are
+// handed on past each further atom.
+fn goes_on_open(
+    table: &[u64; 256],
+    n: usize,
+    kind: usize,
+    s: usize,
+    t: usize,
+    prefix: &[u8; 128],
+    len: usize,
+) -> bool
+    requires { ⌜
+        Beginning n (now table) kind s t (now prefix) (firstLength kind) × (firstLength kind ≤ len) × (len ≤ 127) ⌝ }
+    ensures { λ r. ⌜ r ≡ isOpen (familyBy n (now (table .entry)) kind s t) (take len (now (prefix .entry))) ⌝ }
+{
+    let mut aim = first_aim(table, n, kind, s, t, prefix);
+    let mut i = first_length(kind);
+    while i < len {
+        let x = u8_usize(prefix[i - 1]);
+        let next = aim_after(table, aim, x);
+        if !opens_by(plan_by(table, aim, next, x), u8_usize(prefix[i])) {
+            return false;
+        }
+        aim = next;
+        i += 1;
+    }
+    true
 }
 
 // Whether the first `len` atoms are an open beginning.
@@ -361,12 +426,14 @@ pub fn is_open(
         Words n (now table) × (kindKept n kind s t ≡ true) × (length (now prefix) ≡ 128) × (len ≤ 127) ⌝ }
     ensures { λ r. ⌜ r ≡ isOpen (familyBy n (now (table .entry)) kind s t) (take len (now (prefix .entry))) ⌝ }
 {
-    let mut i: usize = 0;
-    while i < len {
-        if !opens_at(table, n, kind, s, t, prefix, i) {
-            return false;
-        }
-        i += 1;
+    if len == 0 {
+        return true;
     }
-    true
+    if len < first_length(kind) {
+        return opens_at(table, n, kind, s, t, prefix, 0);
+    }
+    if !first_opens(table, n, kind, s, t, prefix) {
+        return false;
+    }
+    goes_on_open(table, n, kind, s, t, prefix, len)
 }

@@ -45,7 +45,8 @@ loop-again c =
     let start : Place tie.Start = search in
     let turn : Place tie.In-loop = search in
     let read : Place tie.After-u8-usize = search in
-    aimed-more (turn .before .loop .inv) (start .pre .0) (turn .loop-test .taken) (read .u8-usize .ensures .same)
+    let goes-on = turn .loop-test .taken in
+    aimed-more (turn .before .loop .inv) (shorter (start .pre .0) (omega arith)) goes-on (read .u8-usize .ensures .same)
     (c .aim-after .ensures)
 
 returns : tie.Need-returns Inv-loop μ-loop

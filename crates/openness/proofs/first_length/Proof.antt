@@ -1,7 +1,7 @@
 -- `openness::first_length` meets its contract: 2 for rings, 1 for paths.
 -- By the two answers of the test of the kind.
 use mathlib.Core.Path.{sym}
-use Rattle.openness.proofs.Aims.{first-of-rings, first-of-paths}
+use Rattle.openness.proofs.Plans.{first-of-rings, first-of-paths}
 use Rattle.openness.proofs.first_length.Statement.{statement}
 use Rattle.openness.proofs.first_length.Tie as tie
 

@@ -1,47 +1,53 @@
--- `openness::is_open` meets its contract. The invariant: the places passed are an open beginning.
--- The first atom that does not open it decides, since a beginning of an open one is open.
-use Prim.Native.Nat.{_-_}
+-- `openness::is_open` meets its contract: a beginning too short for two sets is tested by itself; of a longer one first
+-- its first atoms, which are open where the whole is, then the further ones.
+use Prim.Native.Nat.{_≤_}
 use native.Mathlib.Omega.{arith}
-use mathlib.Core.Path.{sym}
-use Rattle.openness.proofs.Opens.{OpenTo, open-start, open-beginning, open-stops, open-more, open-all}
+use mathlib.Core.Path.{_≡_, sym}
+use borrow.Author.Needs.{needs}
+use Rattle.openness.specs.Plan.{Beginning, firstLength}
+use Rattle.openness.proofs.Plans.{first-few}
+use Rattle.openness.proofs.Opens.{open-none, first-stops, first-goes-on}
 use Rattle.openness.proofs.is_open.Statement.{statement}
 use Rattle.openness.proofs.is_open.Tie as tie
 
-abbrev Inv-loop : tie.InvT-loop
-Inv-loop table n kind s t prefix len i₀ i = OpenTo n table kind s t prefix len i
+-- the empty beginning
+none :
+    (c : tie.Start) → let args = c .args in
+    Beginning (args .n) (args .table .now) (args .kind) (args .s) (args .t) (args .prefix .now) 0
+none c = open-none (c .pre)
 
-abbrev μ-loop : tie.MeasureT-loop
-μ-loop table n kind s t prefix len i₀ i = len - i
+-- a beginning that is long enough for two sets
+long : (c : tie.Else2) → let args = c .before .before .before .args in firstLength (args .kind) ≤ args .len
+long c = omega (arith, c .if2 .left, c .before .first-length .ensures)
 
--- ---- the needs (the argument `(search)` is a place: it is found in c by its type)
+-- ---- the needs (`search` finds a place in c by its type)
 
-abbrev Place : (tie.InvT-loop → tie.MeasureT-loop → Type 0) → Type 0
-Place place = place Inv-loop μ-loop
+returns : tie.Need-returns
+returns c = sym (rw (c .if1 .taken) (none (c .before) .isOpened))
 
-loop-holds : tie.Need-loop-holds Inv-loop μ-loop
-loop-holds c = open-start
+returns-2 : tie.Need-returns-2
+returns-2 c =
+    let start : tie.Start = search in
+    let some : tie.Else1 = search in
+    let first : tie.After-first-length = search in
+    let few = first-few (start .args .kind) in
+    let one : start .args .len ≡ 1 =
+    omega (arith, some .if1 .left, c .before .if2 .taken, first .first-length .ensures) in
+    rw one (c .opens-at .ensures)
 
-opens-at-requires : tie.Need-opens-at-requires Inv-loop μ-loop
-opens-at-requires c κs = open-beginning (c .before .loop .inv) (c .before .before .pre)
+returns-3 : tie.Need-returns-3
+returns-3 c = sym (first-stops _ _ _ _ _ _ (long (search)) (c .before .first-opens .ensures) (c .if3 .taken))
 
-returns : tie.Need-returns Inv-loop μ-loop
-returns c =
-    let start : Place tie.Start = search in
-    let turn : Place tie.In-loop = search in
+goes-on-open-requires : tie.Need-goes-on-open-requires
+goes-on-open-requires c κs =
+    let start : tie.Start = search in
     let (words, kinds, size, short) = start .pre in
-    sym (open-stops (turn .before .loop .inv) size short (turn .loop-test .taken) (c .before .opens-at .ensures)
-    (c .if1 .taken))
-
-loop-again : tie.Need-loop-again Inv-loop μ-loop
-loop-again c =
-    let turn : Place tie.In-loop = search in
-    open-more (turn .before .loop .inv) (turn .loop-test .taken) (c .before .opens-at .ensures) (c .if1 .left)
-
-returns-2 : tie.Need-returns-2 Inv-loop μ-loop
-returns-2 c = sym (open-all (c .before .loop .inv) (c .loop-test .left))
+    let h = long (search) in
+    (first-goes-on _ _ _ _ _ _ h (c .before .first-opens .ensures) (start .pre) (c .if3 .left), h, short)
 
 pub is-open-spec : {M : Type 1} → statement M
 is-open-spec =
     tie.close
     (tie.spec
-    Inv-loop μ-loop loop-holds opens-at-requires returns (λ c. omega arith) (λ c. omega arith) loop-again returns-2)
+    returns (λ c κs. tt) (λ c κs. none (search)) returns-2 (λ c κs. search needs) returns-3 goes-on-open-requires
+    (λ c. search needs))

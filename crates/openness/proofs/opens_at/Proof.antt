@@ -36,21 +36,15 @@ returns c =
 plan-at-requires : tie.Need-plan-at-requires
 plan-at-requires c κs = (start (read c) .pre, atom c .0, atom c .1)
 
-contains-requires : tie.Need-contains-requires
-contains-requires c κs =
-    let start : tie.Start = search in
-    let (low, high) = atom (search) in
-    (low, omega (arith, start .pre .words .few))
-
 returns-2 : tie.Need-returns-2
 returns-2 c =
     let read : tie.After-u8-usize = search in
-    let plan : tie.After-plan-at = search in
-    c .contains .ensures ∙ opens-in (start read .pre) (read .u8-usize .ensures .same) (plan .plan-at .ensures)
+    c .opens-by .ensures ∙
+    opens-in (start read .pre) (read .u8-usize .ensures .same) (c .before .plan-at .ensures .next)
 
 pub opens-at-spec : {M : Type 1} → statement M
 opens-at-spec =
     tie.close
     (tie.spec
-    (λ c. search needs) (λ c κs. search needs) (λ c κs. search needs) returns plan-at-requires contains-requires
+    (λ c. search needs) (λ c κs. search needs) (λ c κs. search needs) returns plan-at-requires (λ c κs. tt)
     returns-2)

@@ -1,0 +1,75 @@
+-- `openness::first_opens` meets its contract, by the kind: a path's first atom, or a ring's first two.
+-- A number that is no atom stands in no open beginning.
+use native.Mathlib.Omega.{arith}
+use mathlib.Core.Path.{sym, _∙_}
+use borrow.Author.Tests.{not-true, not-false}
+use borrow.Author.Needs.{needs}
+use Rattle.molecule.proofs.Bonds.{atom-bounds}
+use Rattle.openness.specs.Parts.{TwoAtoms}
+use Rattle.openness.proofs.Plans.{kind-ends}
+use Rattle.openness.proofs.Opens.{first-path-opens, first-ring-opens, first-no-atom}
+use Rattle.openness.proofs.first_opens.Statement.{statement}
+use Rattle.openness.proofs.first_opens.Tie as tie
+
+-- ---- the needs (`search` finds a place in c by its type)
+
+path-starts-requires : tie.Need-path-starts-requires
+path-starts-requires c κs =
+    let start : tie.Start = search in
+    let (words, kinds, size) = start .pre in
+    record { words = words; ends = kind-ends _ (start .args .table .now) _ _ _ (c .if1 .taken) kinds }
+
+returns : tie.Need-returns
+returns c =
+    let start : tie.Start = search in
+    let read : tie.After-u8-usize = search in
+    first-path-opens _ _ _ _ _ _ (start .pre .2) (c .before .if1 .taken) (read .u8-usize .ensures .same)
+    (c .path-starts .ensures)
+
+-- of a ring, no atom stands at its first place, or at its second
+returns-2 : tie.Need-returns-2
+returns-2 c =
+    let start : tie.Start = search in
+    let read : tie.After-u8-usize = search in
+    let ring : tie.Else1 = search in
+    let none = sym (c .before .is-atom .ensures) ∙ not-true _ (c .if2 .taken) in
+    first-no-atom _ _ _ _ _ _ (start .pre .2) (ring .if1 .left) (omega arith) (read .u8-usize .ensures .same) none
+
+returns-3 : tie.Need-returns-3
+returns-3 c =
+    let start : tie.Start = search in
+    let read : tie.After-u8-usize2 = search in
+    let ring : tie.Else1 = search in
+    let none = sym (c .before .is-atom2 .ensures) ∙ not-true _ (c .if3 .taken) in
+    first-no-atom _ _ _ _ _ _ (start .pre .2) (ring .if1 .left) (omega arith) (read .u8-usize2 .ensures .same) none
+
+-- two atoms
+pair-opens-requires : tie.Need-pair-opens-requires
+pair-opens-requires c κs =
+    let start : tie.Start = search in
+    let first : tie.Else2 = search in
+    let one = atom-bounds _ _ (sym (first .before .is-atom .ensures) ∙ not-false _ (first .if2 .left)) in
+    let other = atom-bounds _ _ (sym (c .before .is-atom2 .ensures) ∙ not-false _ (c .if3 .left)) in
+    record {
+      words = start .pre .0;
+      first-low = one .0;
+      first-high = one .1;
+      second-low = other .0;
+      second-high = other .1;
+    }
+
+returns-4 : tie.Need-returns-4
+returns-4 c =
+    let start : tie.Start = search in
+    let read : tie.After-u8-usize = search in
+    let read-next : tie.After-u8-usize2 = search in
+    let ring : tie.Else1 = search in
+    first-ring-opens _ _ _ _ _ _ (start .pre .2) (ring .if1 .left) (read .u8-usize .ensures .same)
+    (read-next .u8-usize2 .ensures .same) (c .pair-opens .ensures)
+
+pub first-opens-spec : {M : Type 1} → statement M
+first-opens-spec =
+    tie.close
+    (tie.spec
+    (λ c. search needs) (λ c κs. search needs) path-starts-requires returns (λ c κs. search needs) returns-2
+    (λ c. search needs) (λ c κs. search needs) (λ c κs. search needs) returns-3 pair-opens-requires returns-4)
