@@ -1,12 +1,12 @@
 -- The two sets of an open beginning in its array: the first ones of each kind, and those handed on from place to place.
 -- From `rings-steer`, `paths-steer` and `steers-more`; a shorter beginning of an open one is open.
-use Prim.Native.Nat.{ℕ, suc, _+_, _-_, _≤_, _<_}
+use Prim.Native.Nat.{ℕ, _+_, _-_, _≤_, _<_}
 use native.Mathlib.Omega.{arith}
 use native.Mathlib.Numerals.{add-one}
-use mathlib.Core.Path.{_≡_, sym, ap, _∙_}
+use mathlib.Core.Path.{_≡_, sym, _∙_}
 use mathlib.Core.Bool.{Bool, true, false, _&&_, not, cond}
-use mathlib.Core.List.{List, [], _∷_, _++_}
-use lib.ListN.{length, take, getD}
+use mathlib.Core.List.{List, [], _∷_}
+use lib.ListN.{take, getD}
 use lib.Seq.{take-suc}
 use lib.Dec.{leb, ltb, eqb}
 use Rattle.graph.specs.Chordless.{Adjacency, atomAt}

@@ -5,7 +5,6 @@ use mathlib.Core.Path.{sym, _∙_}
 use borrow.Author.Tests.{not-true, not-false}
 use borrow.Author.Needs.{needs}
 use Rattle.molecule.proofs.Bonds.{atom-bounds}
-use Rattle.openness.specs.Parts.{TwoAtoms}
 use Rattle.openness.proofs.Plans.{kind-ends}
 use Rattle.openness.proofs.Opens.{first-path-opens, first-ring-opens, first-no-atom}
 use Rattle.openness.proofs.first_opens.Statement.{statement}

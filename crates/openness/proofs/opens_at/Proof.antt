@@ -1,7 +1,6 @@
 -- `openness::opens_at` meets its contract: a number that is no atom opens nothing, and for an atom the plan tells.
 -- By `opens-out` and `opens-in`.
 use Prim.Native.Nat.{_≤_}
-use native.Mathlib.Omega.{arith}
 use mathlib.Core.Path.{sym, _∙_}
 use borrow.Author.Tests.{not-true, not-false}
 use borrow.Author.Needs.{needs}
