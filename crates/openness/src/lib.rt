@@ -174,6 +174,28 @@ pub fn plan_by(table: &[u64; 256], aim: Aim, next: Aim, x: usize) -> Plan
     }
 }
 
+// The same plan by one sweep, whatever the candidates: for the places where single beginnings are planned. The fast
+// loop alone calls `plan_by`, so that it is compiled into the loop.
+fn swept_plan(table: &[u64; 256], aim: Aim, next: Aim, x: usize) -> Plan
+    requires { ⌜
+        Symmetric (linkedBy (now table)) × HandedOn (linkedBy (now table)) x aim next × (1 ≤ x) × (x ≤ 128) ⌝ }
+    ensures { λ r. ⌜
+        ((F : Family) (p : List ℕ) → Steered F (linkedBy (now (table .entry))) p x aim → Everywhere F p r) ⌝ }
+{
+    let row = atomset::row(table, x);
+    let goal = aim.goal;
+    let free = aim.free;
+    let members = atomset::intersection(goal, row);
+    let want = atomset::intersection(free, row);
+    let targets = next.goal;
+    let through = next.free;
+    let opens = sweep::reached(table, through, targets, want);
+    Plan {
+        members: members,
+        opens: opens,
+    }
+}
+
 // The plan of an open beginning that is long enough for its two sets.
 fn steered_plan(
     table: &[u64; 256],
@@ -190,7 +212,7 @@ fn steered_plan(
     let aim = aim_at(table, n, kind, s, t, prefix, len);
     let x = u8_usize(prefix[len - 1]);
     let next = aim_after(table, aim, x);
-    plan_by(table, aim, next, x)
+    swept_plan(table, aim, next, x)
 }
 
 // Whether the ring beginning s, v is open.
@@ -403,7 +425,7 @@ fn goes_on_open(
     while i < len {
         let x = u8_usize(prefix[i - 1]);
         let next = aim_after(table, aim, x);
-        if !opens_by(plan_by(table, aim, next, x), u8_usize(prefix[i])) {
+        if !opens_by(swept_plan(table, aim, next, x), u8_usize(prefix[i])) {
             return false;
         }
         aim = next;

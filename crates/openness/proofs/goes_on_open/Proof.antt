@@ -54,11 +54,11 @@ told :
     (take (suc (turn c .before .loop .i)) (args .prefix .now))
 told c =
     let read : Place tie.After-u8-usize = search in
-    let plan : Place tie.After-plan-by = search in
+    let plan : Place tie.After-swept-plan = search in
     let next : Place tie.After-u8-usize2 = search in
     let steered = steered-last (read .u8-usize .ensures .same) (turn c .before .loop .inv .steered) in
     c .opens-by .ensures ∙
-    opens-in (begun (turn c)) (next .u8-usize2 .ensures .same) (plan .plan-by .ensures _ _ steered _)
+    opens-in (begun (turn c)) (next .u8-usize2 .ensures .same) (plan .swept-plan .ensures _ _ steered _)
 
 -- ---- the needs
 
@@ -73,8 +73,8 @@ sub-u8-usize c = aimed-some (c .before .loop .inv)
 element-copy-out-u8-usize : tie.Need-element-copy-out-u8-usize Inv-loop μ-loop
 element-copy-out-u8-usize c = omega (arith, begun c .short)
 
-plan-by-requires : tie.Need-plan-by-requires Inv-loop μ-loop
-plan-by-requires c κs =
+swept-plan-requires : tie.Need-swept-plan-requires Inv-loop μ-loop
+swept-plan-requires c κs =
     let (low, high) = last (search) in
     (begun (search) .words .symmetric, c .aim-after .ensures, low, high)
 
@@ -107,5 +107,5 @@ goes-on-open-spec =
     tie.close
     (tie.spec
     Inv-loop μ-loop (λ c κs. c .pre .0) (λ c κs. tt) loop-holds sub-u8-usize element-copy-out-u8-usize (λ c κs. tt)
-    (λ c κs. last c) plan-by-requires element-copy-out-u8-usize-2 (λ c κs. tt) (λ c κs. tt) returns
+    (λ c κs. last c) swept-plan-requires element-copy-out-u8-usize-2 (λ c κs. tt) (λ c κs. tt) returns
     (λ c. omega arith) (λ c. omega arith) loop-again returns-2)

@@ -17,8 +17,8 @@ aim-after-requires c κs =
     let some = first-some (start .args .kind) in
     place-atom (start .pre .0) _ (omega arith) (c .u8-usize .ensures .same)
 
-plan-by-requires : tie.Need-plan-by-requires
-plan-by-requires c κs =
+swept-plan-requires : tie.Need-swept-plan-requires
+swept-plan-requires c κs =
     let start : tie.Start = search in
     let read : tie.After-u8-usize = search in
     let some = first-some (start .args .kind) in
@@ -29,11 +29,11 @@ returns : tie.Need-returns
 returns c =
     let aimed : tie.After-aim-at = search in
     let read : tie.After-u8-usize = search in
-    c .plan-by .ensures _ _ (steered-last (read .u8-usize .ensures .same) (aimed .aim-at .ensures))
+    c .swept-plan .ensures _ _ (steered-last (read .u8-usize .ensures .same) (aimed .aim-at .ensures))
 
 pub steered-plan-spec : {M : Type 1} → statement M
 steered-plan-spec =
     tie.close
     (tie.spec
-    (λ c κs. search needs) sub-u8-usize (λ c. search needs) (λ c κs. search needs) aim-after-requires plan-by-requires
-    returns)
+    (λ c κs. search needs) sub-u8-usize (λ c. search needs) (λ c κs. search needs) aim-after-requires
+    swept-plan-requires returns)

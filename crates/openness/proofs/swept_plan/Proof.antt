@@ -1,0 +1,22 @@
+-- `openness::swept_plan` meets its contract: the members, and the atoms that open, of every beginning that the sets
+-- steer. By `plan-told` and `sweep-opens`, from what each call ensures.
+use borrow.Author.Needs.{needs}
+use Rattle.openness.proofs.Steps.{plan-told, sweep-opens}
+use Rattle.openness.proofs.swept_plan.Statement.{statement}
+use Rattle.openness.proofs.swept_plan.Tie as tie
+
+returns : tie.Need-returns
+returns c =
+    let start : tie.Start = search in
+    let row : tie.After-row = search in
+    let members : tie.After-intersection = search in
+    let want : tie.After-intersection2 = search in
+    let (symmetric, handed, low, high) = start .pre in
+    plan-told handed (row .row .ensures) (members .intersection .ensures) (want .intersection2 .ensures)
+    (λ F p y before k. sweep-opens k (c .reached .ensures))
+
+pub swept-plan-spec : {M : Type 1} → statement M
+swept-plan-spec =
+    tie.close
+    (tie.spec
+    (λ c κs. search needs) (λ c κs. search needs) (λ c κs. search needs) (λ c κs. search needs) returns)
