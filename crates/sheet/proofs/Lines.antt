@@ -7,7 +7,7 @@ use mathlib.Core.Path.{_≡_, refl, ap, ap₂, sym, _∙_}
 use mathlib.Core.Bool.{true, false, true≢false}
 use mathlib.Core.List.{List}
 use mathlib.Core.Logic.{⊎-elim}
-use lib.ListN.{length, getD, set, take, drop, replicate, length-set, length-take}
+use lib.ListN.{length, getD, set, take, drop, length-set, length-take}
 use lib.Seq.{getD-set-same, getD-set-other}
 use borrow.Author.Tests.{eq-eqb, ne-eqb}
 use Rattle.graph.specs.Every.{allBelow}
@@ -115,18 +115,18 @@ pub record Decoding (s : List ℕ) (lines : ℕ) (values : List ℕ) (i : ℕ) :
   pub size : length values ≡ 2052
   pub decodes : Decodes values (lineOf s) i
 
-pub decoding-none : {s : List ℕ} {lines : ℕ} → Decoding s lines (replicate 2052 0) 0
-decoding-none =
-    record { most = omega arith; kept = refl; size = refl; decodes = record { at = λ i h. absurd (omega arith) } }
+pub decoding-none : {s : List ℕ} {lines : ℕ} {values : List ℕ} → length values ≡ 2052 → Decoding s lines values 0
+decoding-none size =
+    record { most = omega arith; kept = refl; size = size; decodes = record { at = λ i h. absurd (omega arith) } }
 
 module _ {s : List ℕ} {lines : ℕ} {values : List ℕ} {i : ℕ} (now : Decoding s lines values i) where
   module _ {l : Entry} (more : i < lines) (reads : ReadsLine s i l) where
     -- a line that is not kept
-    pub decoding-bad : l .ok ≡ false → ReadsLines s lines (record { ok = false; values = values })
+    pub decoding-bad : l .ok ≡ false → ReadsLines s lines false values
     decoding-bad bad =
         record {
           ok = sym (all-fails lines (lineKept s) i more (sym (reads .ok) ∙ bad));
-          values = λ e. absurd (true≢false (sym e));
+          values-are = λ e. absurd (true≢false (sym e));
         }
 
     -- one line more
@@ -144,7 +144,7 @@ module _ {s : List ℕ} {lines : ℕ} {values : List ℕ} {i : ℕ} (now : Decod
         }
 
   -- all of them
-  pub decoding-all : lines ≤ i → ReadsLines s lines (record { ok = true; values = values })
+  pub decoding-all : lines ≤ i → ReadsLines s lines true values
   decoding-all last =
       let same : i ≡ lines = omega (arith, now .most) in
-      record { ok = sym (rw same at (now .kept)); values = λ e. rw same at (now .decodes) }
+      record { ok = sym (rw same at (now .kept)); values-are = λ e. rw same at (now .decodes) }

@@ -1,12 +1,11 @@
 -- What the parts of the reader hold. Nothing to believe: the reader's contract is `readSheet`.
 use Prim.Native.Nat.{ℕ, suc, _+_, _*_, _≤_, _<_}
 use mathlib.Core.Path.{_≡_}
-use mathlib.Core.Bool.{true}
+use mathlib.Core.Bool.{Bool, true}
 use mathlib.Core.List.{List}
 use lib.ListN.{length, getD}
 use Rattle.graph.specs.Every.{allBelow}
 use Rattle.sheet.specs.declared.Entry.{Entry}
-use Rattle.sheet.specs.declared.Decoded.{Decoded}
 use Rattle.sheet.specs.Bonds.{Bond, atomsKept, noneToItself}
 use Rattle.sheet.specs.Read.{lineKept, lineOf}
 
@@ -27,10 +26,15 @@ pub record ReadsLine (s : List ℕ) (i : ℕ) (r : Entry) : Type 0 where
   pub ok : r .ok ≡ lineKept s i
   pub values : r .ok ≡ true → (r .left, r .right) ≡ lineOf s i
 
--- every line that was read
-pub record ReadsLines (s : List ℕ) (lines : ℕ) (r : Decoded) : Type 0 where
-  pub ok : r .ok ≡ allBelow lines (lineKept s)
-  pub values : r .ok ≡ true → Decodes (r .values) (lineOf s) lines
+-- so many lines are in the bytes, and the list of values has room for all that is stored
+pub record Decodable (s : List ℕ) (lines : ℕ) (values : List ℕ) : Type 0 where
+  pub inside : 9 * lines ≤ length s
+  pub size : length values ≡ 2052
+
+-- every line that was read: whether all are right, and the list of values
+pub record ReadsLines (s : List ℕ) (lines : ℕ) (right : Bool) (values : List ℕ) : Type 0 where
+  pub ok : right ≡ allBelow lines (lineKept s)
+  pub values-are : right ≡ true → Decodes values (lineOf s) lines
 
 -- so many atoms and bonds fit a molecule record
 pub record FitsRecord (n m : ℕ) : Type 0 where

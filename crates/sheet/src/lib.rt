@@ -4,7 +4,7 @@ ghost use Prim.Native.Nat.{min, _+_, _*_, _≤_};
 ghost use lib.ListN.{length};
 ghost use Rattle.sheet.specs.Bonds.{atomsKept, noneToItself, withCell};
 ghost use Rattle.sheet.specs.Read.{refusedSheet, readBonds, readSheet};
-ghost use Rattle.sheet.specs.Parts.{storedBond, ReadsLine, ReadsLines, FitsRecord, Fillable, CellIn};
+ghost use Rattle.sheet.specs.Parts.{storedBond, ReadsLine, Decodable, ReadsLines, FitsRecord, Fillable, CellIn};
 use fields::Number;
 use molecule::Molecule;
 use refusal::Answer;
@@ -21,12 +21,6 @@ struct Entry {
     pub ok: bool,
     pub left: u16,
     pub right: u16,
-}
-
-// Every line: whether all are right, and the numbers of the first 1,025.
-struct Decoded {
-    pub ok: bool,
-    pub values: [u16; 2052],
 }
 
 // One line of 9 bytes.
@@ -75,30 +69,23 @@ fn slot(i: usize) -> usize
     1025
 }
 
-// Every line of a sheet.
-fn decode(s: &[u8], lines: usize) -> Decoded
-    requires { ⌜ 9 * lines ≤ length (now s) ⌝ }
-    ensures { λ r. ⌜ ReadsLines (now (s .entry)) lines r ⌝ }
+// Every line of a sheet: whether all are right, with the numbers of the first 1,025 put into values.
+fn decode(s: &[u8], lines: usize, values: &mut [u16; 2052]) -> bool
+    requires { ⌜ Decodable (now s) lines (now values) ⌝ }
+    ensures { λ r. ⌜ ReadsLines (now (s .entry)) lines r (now (values .exit)) ⌝ }
 {
-    let mut values = [0u16; 2052];
     let mut i: usize = 0;
     while i < lines {
         let l = line(s, i);
         if !l.ok {
-            return Decoded {
-                ok: false,
-                values: values,
-            };
+            return false;
         }
         let k = slot(i);
         values[2 * k] = l.left;
         values[2 * k + 1] = l.right;
         i += 1;
     }
-    Decoded {
-        ok: true,
-        values: values,
-    }
+    true
 }
 
 // Rule 6: whether every bond's atoms are from 1 to n.
@@ -211,11 +198,10 @@ pub fn read_sheet(s: &[u8]) -> SheetAnswer
     if s.len() % 9 != 0 {
         return refused(Refusal::SheetLength);
     }
-    let decoded = decode(s, s.len() / 9);
-    if !decoded.ok {
+    let mut values = [0u16; 2052];
+    if !decode(s, s.len() / 9, &mut values) {
         return refused(Refusal::SheetBytes);
     }
-    let values = decoded.values;
     let n = u16_usize(values[0]);
     let m = u16_usize(values[1]);
     if 128 < n {

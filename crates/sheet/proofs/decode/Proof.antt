@@ -17,7 +17,9 @@ abbrev Place : (tie.InvT-loop → tie.MeasureT-loop → Type 0) → Type 0
 Place place = place Inv-loop μ-loop
 
 loop-holds : tie.Need-loop-holds Inv-loop μ-loop
-loop-holds c = decoding-none
+loop-holds c =
+    let start : Place tie.Start = search in
+    decoding-none (start .pre .size)
 
 returns : tie.Need-returns Inv-loop μ-loop
 returns c =

@@ -13,11 +13,11 @@ use Rattle.sheet.proofs.read_sheet.Tie as tie
 
 -- from where the lines are decoded
 abbrev start : tie.After-decode → tie.Start
-start c = c .before .before .before .before
+start c = c .before .before .before .before .before
 
 -- from where n is read, and then m
 abbrev decoded : tie.After-u16-usize → tie.After-decode
-decoded c = c .before .before .before .before
+decoded c = c .before .before
 
 abbrev first : tie.After-u16-usize2 → tie.After-u16-usize
 first c = c .before
@@ -27,7 +27,7 @@ first c = c .before
 known :
     (c : tie.After-u16-usize2) →
     let decoded = decoded (first c) in
-    StoredSheet (start decoded .args .s .now) (decoded .decode .result .values) (first c .u16-usize .result)
+    StoredSheet (start decoded .args .s .now) (decoded .decode .last .1 .1 .0) (first c .u16-usize .result)
     (c .u16-usize2 .result)
 known c =
     let else1 : tie.Else1 = search in
@@ -39,7 +39,7 @@ known c =
       long = else1 .if1 .left;
       whole = else2 .if2 .left;
       lines = sym (lines .ok) ∙ ok;
-      decodes = lines .values ok;
+      decodes = lines .values-are ok;
       first = first c .u16-usize .ensures .same;
       second = c .u16-usize2 .ensures .same;
     }
