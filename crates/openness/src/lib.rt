@@ -369,24 +369,16 @@ fn opens_by(found: Plan, v: usize) -> bool
     atomset::contains(opens, v)
 }
 
-// Whether the atom at place i opens the beginning before it.
-fn opens_at(
-    table: &[u64; 256],
-    n: usize,
-    kind: usize,
-    s: usize,
-    t: usize,
-    prefix: &[u8; 128],
-    i: usize,
-) -> bool
-    requires { ⌜ Beginning n (now table) kind s t (now prefix) i ⌝ }
-    ensures { λ r. ⌜ r ≡ isOpen (familyBy n (now (table .entry)) kind s t) (take (suc i) (now (prefix .entry))) ⌝ }
+// Whether some ring begins with the first atom of the array.
+fn one_opens(table: &[u64; 256], n: usize, prefix: &[u8; 128]) -> bool
+    requires { ⌜ Words n (now table) × (length (now prefix) ≡ 128) ⌝ }
+    ensures { λ r. ⌜ r ≡ isOpen (rings n (linkedBy (now (table .entry)))) (take 1 (now (prefix .entry))) ⌝ }
 {
-    let v = u8_usize(prefix[i]);
-    if !molecule::is_atom(n, v) {
+    let a = u8_usize(prefix[0]);
+    if !molecule::is_atom(n, a) {
         return false;
     }
-    opens_by(plan_at(table, n, kind, s, t, prefix, i, v), v)
+    ring_starts(table, n, a)
 }
 
 // Whether the shortest beginning that two sets steer is open: of a ring the first two atoms, of a path the first one.
@@ -463,7 +455,7 @@ pub fn is_open(
         return true;
     }
     if len < first_length(kind) {
-        return opens_at(table, n, kind, s, t, prefix, 0);
+        return one_opens(table, n, prefix);
     }
     if !first_opens(table, n, kind, s, t, prefix) {
         return false;
