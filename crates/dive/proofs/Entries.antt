@@ -198,5 +198,5 @@ none-made {at = at} {start = start} {prefix = prefix} {out = out} F left e =
         fits = omega (arith, e .in-room);
         output = sym (take-append-drop start out);
       };
-      same = λ other. refl;
+      same = λ other. (refl, refl);
     }

@@ -130,5 +130,5 @@ pub record Descended (F : Family) (prefix₀ : List ℕ) (at : Spot) (left : ℕ
   pub affordable : r .at .trials - at .trials ≤ left
   pub makes : Makes F (stateAt prefix (r .at)) (stateAt prefix₀ at) (r .at .trials - at .trials) bytes
   pub listing : Listed out₀ start bytes out (r .used)
-  -- trials are made only where the next atom is 1: elsewhere the beginning is as it was
-  pub same : (at .next ≡ 1 → ⊥) → take (r .at .len) prefix ≡ take (at .len) prefix₀
+  -- trials are made only where the next atom is 1: elsewhere the beginning and the next atom are as they were
+  pub same : (at .next ≡ 1 → ⊥) → (take (r .at .len) prefix ≡ take (at .len) prefix₀) × (r .at .next ≡ at .next)

@@ -110,7 +110,7 @@ module _ (F : Family) (L : Lawful F) where
     pub stream : ahead F before ≡ tried before ∷ ahead F after
 
   -- a member that is tried is not open
-  shut : (p : List ℕ) (c : ℕ) → member (reverse (c ∷ p)) ≡ true → isOpen F (reverse (c ∷ p)) ≡ false
+  pub shut : (p : List ℕ) (c : ℕ) → member (reverse (c ∷ p)) ≡ true → isOpen F (reverse (c ∷ p)) ≡ false
   shut p c e = sym (tried-open F p c) ∙ member-shut F L (reverse (c ∷ p)) e
 
   -- the trial of a word that is not open: the next atom

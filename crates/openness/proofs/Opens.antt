@@ -2,6 +2,7 @@
 -- the first atom that does not open what stands before it decides.
 -- A member that goes on the longer beginning goes on the shorter one.
 use Prim.Native.Nat.{ℕ, zero, suc, _+_, _≤_, _<_}
+use native.Mathlib.Decide.{ℕ-discrete}
 use native.Mathlib.Omega.{arith}
 use native.Mathlib.Numerals.{add-one}
 use mathlib.Core.Path.{_≡_, refl, sym, ap, _∙_}
@@ -24,7 +25,7 @@ use Rattle.search.proofs.Readings.{atom-of}
 use Rattle.openness.specs.declared.Plan.{Plan}
 use Rattle.openness.specs.Plan.{familyBy, Words, Tells, Beginning, firstLength}
 use Rattle.openness.proofs.Arrays.{one-taken, two-taken, open-atoms}
-use Rattle.openness.proofs.Plans.{family-rings, family-paths, family-by-lawful, family-by-atoms, first-of-rings, first-of-paths}
+use Rattle.openness.proofs.Plans.{family-rings, family-paths, family-by-lawful, family-by-atoms, first-of-rings, first-of-paths, first-few}
 
 module _ (F : Family) (L : Lawful F) where
   bounded : Bounded F
@@ -84,12 +85,6 @@ module _ {n : ℕ} {table : List ℕ} {kind s t : ℕ} {prefix : List ℕ} {i v 
   place-at : take (suc i) prefix ≡ take i prefix ++ v ∷ []
   place-at = rw e (take-suc prefix i 0 (omega (arith, b .size, b .short)))
 
-  -- no atom stands at the place
-  pub opens-out : isAtom n v ≡ false → isOpen (familyBy n table kind s t) (take (suc i) prefix) ≡ false
-  opens-out =
-      let short : suc i ≤ 128 = omega (arith, b .short) in
-      no-atom n table kind s t prefix (b .size) short (omega arith) e
-
   pub opens-in :
       {plan : Plan} → Tells (familyBy n table kind s t) (take i prefix) plan v →
       has (plan .opens) v ≡ isOpen (familyBy n table kind s t) (take (suc i) prefix)
@@ -145,6 +140,37 @@ pub open-none :
 open-none {n} {table} {kind} {s} {t} known =
     let opened = open-empty (familyBy n table kind s t) (family-by-lawful n table kind s t) in
     open-beginning (record { within = omega arith; opened = opened }) known
+
+-- ---- a ring beginning of one atom, tested by itself
+
+module _ (n : ℕ) (table : List ℕ) (prefix : List ℕ) (size : length prefix ≡ 128) where
+  pub one-told :
+      {a : ℕ} {opens : Bool} → a ≡ atomAt prefix 0 → opens ≡ isOpen (rings n (linkedBy table)) (a ∷ []) →
+      opens ≡ isOpen (rings n (linkedBy table)) (take 1 prefix)
+  one-told at told = told ∙ rw (one-taken prefix size, at)
+
+  pub one-no-atom :
+      {a : ℕ} → a ≡ atomAt prefix 0 → isAtom n a ≡ false →
+      isOpen (rings n (linkedBy table)) (take 1 prefix) ≡ false
+  one-no-atom at none =
+      rw (family-rings n table 0 0 0 refl) at
+      (no-atom n table 0 0 0 prefix {len = 1} {i = 0} size (omega arith) (omega arith) at none)
+
+  -- of a ring search
+  pub one-of-rings :
+      {len : ℕ} {opens : Bool} (kind s t : ℕ) → 1 ≤ len → len < firstLength kind →
+      opens ≡ isOpen (rings n (linkedBy table)) (take 1 prefix) →
+      opens ≡ isOpen (familyBy n table kind s t) (take len prefix)
+  one-of-rings {len} kind s t some short told = told ∙ sym (go (ℕ-discrete kind 0))
+    where
+      one : len ≡ 1
+      one = omega (arith, first-few kind)
+
+      go :
+          Dec (kind ≡ 0) →
+          isOpen (familyBy n table kind s t) (take len prefix) ≡ isOpen (rings n (linkedBy table)) (take 1 prefix)
+      go (yes ring) = rw (family-rings n table kind s t ring, one)
+      go (no path) = absurd (omega (arith, first-of-paths kind path))
 
 -- ---- the shortest beginning that two sets steer, tested by itself
 

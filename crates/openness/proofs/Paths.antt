@@ -31,12 +31,14 @@ module _ {n : ℕ} {table : List ℕ} {s t : ℕ} (b : TwoEnds n table s t) wher
   start-other {c} d =
       false-of (isOpen (paths n (linkedBy table) s t) (c ∷ [])) (λ o. d (start-opens c .0 o .0))
 
-  pub start-told :
-      {c : ℕ} {goal all want swept : ℕ → Bool} → c ≡ s → ((v : ℕ) → goal v ≡ eqb v t) →
+  -- the sweep of which s is the sole candidate
+  pub firsts-told :
+      {goal all want swept : ℕ → Bool} → ((v : ℕ) → goal v ≡ eqb v t) →
       ((v : ℕ) → all v ≡ (leb 1 v && leb v n)) → ((v : ℕ) → want v ≡ eqb v s) →
-      Reached (linkedBy table) all goal want swept → swept s ≡ isOpen (paths n (linkedBy table) s t) (c ∷ [])
-  start-told {c} {goal} {all} {want} {swept} is-s goal-is all-is want-is found =
-      same-test (swept s) (isOpen (paths n (linkedBy table) s t) (c ∷ [])) to back
+      Reached (linkedBy table) all goal want swept →
+      (v : ℕ) → swept v ≡ isOpen (paths n (linkedBy table) s t) (v ∷ [])
+  firsts-told {goal} {all} {want} {swept} goal-is all-is want-is found v =
+      same-test (swept v) (isOpen (paths n (linkedBy table) s t) (v ∷ [])) to back
     where
       all-free : (u : ℕ) → all u ≡ free n (linkedBy table) 0 [] u
       all-free u = all-is u ∙ sym (and-true (leb 1 u && leb u n)) ∙ (unfold free clear in refl)
@@ -44,11 +46,14 @@ module _ {n : ℕ} {table : List ℕ} {s t : ℕ} (b : TwoEnds n table s t) wher
       sweeps : Reached (linkedBy table) (free n (linkedBy table) 0 []) (λ u. eqb u t) want swept
       sweeps = reached-same (λ a b. refl) all-free goal-is found
 
-      to : swept s ≡ true → isOpen (paths n (linkedBy table) s t) (c ∷ []) ≡ true
+      to : swept v ≡ true → isOpen (paths n (linkedBy table) s t) (v ∷ []) ≡ true
       to e =
-          let (wanted, reaches) = sweeps s .0 e in
+          let (wanted, reaches) = sweeps v .0 e in
           let (last, is-t, walk) = reaches in
-          start-opens c .1 (is-s, rw (eqb-true last t is-t) at walk)
+          let is-s = eqb-true v s (sym (want-is v) ∙ wanted) in
+          start-opens v .1 (is-s, rw (eqb-true last t is-t, is-s) at walk)
 
-      back : isOpen (paths n (linkedBy table) s t) (c ∷ []) ≡ true → swept s ≡ true
-      back o = sweeps s .1 (want-is s ∙ eq-eqb s s refl, (t, eq-eqb t t refl, start-opens c .0 o .1))
+      back : isOpen (paths n (linkedBy table) s t) (v ∷ []) ≡ true → swept v ≡ true
+      back o =
+          let (is-s, walk) = start-opens v .0 o in
+          sweeps v .1 (want-is v ∙ eq-eqb v s is-s, (t, eq-eqb t t refl, rw is-s walk))

@@ -1,9 +1,9 @@
 -- The plan of a beginning, from what is found at each kind and length.
--- The empty beginning has its next atom alone; a longer one has every atom.
+-- The empty beginning of a ring search has the atoms up to the first that opens; every other beginning has every atom.
 use Prim.Native.Nat.{ℕ, _≤_, _<_}
 use native.Mathlib.Omega.{arith}
 use mathlib.Core.Path.{_≡_, refl, sym, _∙_}
-use mathlib.Core.Bool.{Bool, true, false, cond, and-true, and-false}
+use mathlib.Core.Bool.{Bool, true, false, cond}
 use mathlib.Core.List.{List, [], _∷_}
 use mathlib.Core.Logic.{inl, inr}
 use lib.ListN.{take}
@@ -20,8 +20,8 @@ use Rattle.atomset.specs.Set.{has, linkedBy}
 use Rattle.search.specs.Place.{kindKept, endsKept}
 use Rattle.search.proofs.Readings.{kind-facts, KindFacts, ends-facts, ends-of}
 use Rattle.openness.specs.declared.Plan.{Plan}
-use Rattle.openness.specs.Plan.{familyBy, firstLength, Planned, Everywhere, Beginning}
-use Rattle.openness.specs.Parts.{OneAtom, TwoEnds, Alone}
+use Rattle.openness.specs.Plan.{familyBy, firstLength, Planned, Ahead, Everywhere, Beginning}
+use Rattle.openness.specs.Parts.{OneAtom, TwoEnds, FirstAhead, PathFirsts}
 use Rattle.openness.proofs.Arrays.{one-taken, open-atoms}
 
 -- ---- the family of a kind
@@ -74,27 +74,17 @@ first-few kind = go (eqb kind 0)
 
 -- ---- the answers
 
-pub alone-yes :
-    {opening : Bool} {c : ℕ} {none one : List ℕ} → opening ≡ true → ((v : ℕ) → has none v ≡ false) →
-    ((v : ℕ) → has one v ≡ eqb v c) → Alone opening c (record { members = none; opens = one })
-alone-yes {c = c} e f g = record { no-member = f; one-opens = λ v. g v ∙ sym (rw e (and-true (eqb v c))) }
+pub planned-every : {F : Family} {p : List ℕ} {c : ℕ} {plan : Plan} → Everywhere F p plan → Planned F p c plan
+planned-every {c = c} f = record { next = f c; ahead = λ v l none. f v; every = λ h v. f v }
 
-pub alone-no :
-    {opening : Bool} {c : ℕ} {none : List ℕ} → opening ≡ false → ((v : ℕ) → has none v ≡ false) →
-    Alone opening c (record { members = none; opens = none })
-alone-no {c = c} e f = record { no-member = f; one-opens = λ v. f v ∙ sym (rw e (and-false (eqb v c))) }
-
-planned-alone :
-    {F : Family} {c : ℕ} {opening : Bool} {plan : Plan} → F .member (c ∷ []) ≡ false → opening ≡ isOpen F (c ∷ []) →
-    Alone opening c plan → Planned F [] c plan
-planned-alone {c = c} m o k =
+-- at the empty beginning, from c on
+planned-ahead : {F : Family} {c : ℕ} {plan : Plan} → Ahead F [] c plan → Planned F [] c plan
+planned-ahead {c = c} f =
     record {
-      next = record { members = k .no-member c ∙ sym m; opens = k .one-opens c ∙ rw (eq-eqb c c refl) o };
+      next = f c (omega arith) (λ u l h. absurd (omega arith));
+      ahead = f;
       every = λ g. absurd (omega arith);
     }
-
-pub planned-every : {F : Family} {p : List ℕ} {c : ℕ} {plan : Plan} → Everywhere F p plan → Planned F p c plan
-planned-every {c = c} f = record { next = f c; every = λ h v. f v }
 
 -- ---- at an open beginning
 
@@ -109,11 +99,15 @@ module _ {n : ℕ} {table : List ℕ} {kind s t : ℕ} {prefix : List ℕ} {len 
   -- a ring search
   module _ (e : kind ≡ 0) where
     pub planned-ring-start :
-        {c : ℕ} {opening : Bool} {plan : Plan} → len ≡ 0 → opening ≡ isOpen (rings n (linkedBy table)) (c ∷ []) →
-        Alone opening c plan → PlannedHere c plan
-    planned-ring-start {c} z o k =
-        let short = ring-not-short n (linkedBy table) [] c (omega arith) in
-        rw (family-rings n table kind s t e, none-taken z) (planned-alone short o k)
+        {c : ℕ} {none opens : List ℕ} → len ≡ 0 → ((v : ℕ) → has none v ≡ false) → FirstAhead n table c opens →
+        PlannedHere c (record { members = none; opens = opens })
+    planned-ring-start z none-is opens-is =
+        rw (family-rings n table kind s t e, none-taken z)
+        (planned-ahead
+        (λ v l shut. record {
+          members = none-is v ∙ sym (ring-not-short n (linkedBy table) [] v (omega arith));
+          opens = opens-is v l shut;
+        }))
 
     -- at a beginning of one atom
     module _ (before : len < firstLength kind) (d : len ≡ 0 → ⊥) {a : ℕ} (f : a ≡ atomAt prefix 0) where
@@ -147,9 +141,14 @@ module _ {n : ℕ} {table : List ℕ} {kind s t : ℕ} {prefix : List ℕ} {len 
     path-ends = record { words = b .words; ends = kind-ends n table kind s t d (b .kinds) }
 
     pub planned-path-start :
-        {c : ℕ} {opening : Bool} {plan : Plan} → len < firstLength kind →
-        opening ≡ isOpen (paths n (linkedBy table) s t) (c ∷ []) → Alone opening c plan → PlannedHere c plan
-    planned-path-start {c} before o k =
-        let none : len ≡ 0 = omega (arith, first-of-paths kind d) in
-        let short = path-not-one n (linkedBy table) s t c (ends-facts n s t (path-ends .ends) .differ) in
-        rw (family-paths n table kind s t d, none-taken none) (planned-alone short o k)
+        {c : ℕ} {none opens : List ℕ} → len < firstLength kind → ((v : ℕ) → has none v ≡ false) →
+        PathFirsts n table s t opens → PlannedHere c (record { members = none; opens = opens })
+    planned-path-start before none-is opens-is =
+        let empty : len ≡ 0 = omega (arith, first-of-paths kind d) in
+        let differ = ends-facts n s t (path-ends .ends) .differ in
+        rw (family-paths n table kind s t d, none-taken empty)
+        (planned-every
+        (λ v. record {
+          members = none-is v ∙ sym (path-not-one n (linkedBy table) s t v differ);
+          opens = opens-is v;
+        }))

@@ -1,22 +1,26 @@
 -- Openness of a beginning of one atom or two of a ring, from what a sweep and the tests of a second atom tell.
--- By `ring-opens-one` and `ring-opens-none`; a loop over the second atoms takes the lowest one each time.
-use Prim.Native.Nat.{ℕ, _≤_, _<_}
+-- By `ring-opens-one` and `ring-opens-none`; a loop over the second atoms takes the lowest one each time, and one over
+-- the first atoms stops at the first that begins a ring.
+use Prim.Native.Nat.{ℕ, _+_, _≤_, _<_}
+use native.Mathlib.Decide.{decLt}
 use native.Mathlib.Omega.{arith}
 use mathlib.Core.Path.{_≡_, refl, sym, ap, _∙_}
 use mathlib.Core.Bool.{Bool, true, false, _&&_, _||_, not, Bool·beq}
 use mathlib.Core.List.{List, [], _∷_}
 use lib.Dec.{leb, ltb, eqb}
-use borrow.Author.Tests.{lt-ltb, ltb-true, le-leb, leb-true, eq-eqb, eqb-true}
+use borrow.Author.Tests.{lt-ltb, ltb-true, le-leb, leb-true, eq-eqb, ne-eqb, eqb-true}
 use Rattle.graph.proofs.Below.{clash, false-of, and-parts, same-test}
 use Rattle.enumeration.specs.Words.{isOpen}
 use Rattle.chordless.specs.Families.{rings}
 use Rattle.chordless.specs.Reach.{RingOpens, clear, free, closing, touchesOnlyFirst}
 use Rattle.chordless.proofs.Touch.{touches-facts, touches-of}
+use Rattle.chordless.proofs.Lawful.{rings-lawful}
 use Rattle.chordless.proofs.Rings.{ring-opens-one, ring-opens-none}
 use Rattle.atomset.specs.Set.{has, linkedBy, Lowest}
 use Rattle.sweep.specs.Swept.{Reached}
 use Rattle.sweep.proofs.Walks.{reached-same}
-use Rattle.openness.specs.Parts.{OneAtom, TwoAtoms, Seconds}
+use Rattle.search.proofs.Readings.{open-range}
+use Rattle.openness.specs.Parts.{OneAtom, TwoAtoms, Seconds, FirstAhead}
 use Rattle.openness.proofs.Counts.{TakesLowest, taken-off, taken-within}
 
 -- ---- two atoms
@@ -212,3 +216,45 @@ module _ {n : ℕ} {table : List ℕ} {s : ℕ} {left found : List ℕ} (k : Sif
   pub sifted-end :
       ((v : ℕ) → has left v ≡ false) → (v : ℕ) → has found v ≡ isOpen (rings n (linkedBy table)) (s ∷ v ∷ [])
   sifted-end none v = k .found-is v ∙ rw (none v)
+
+-- ---- the first atom ahead
+
+-- no atom from c on and below a begins a ring
+pub record NoneBefore (n : ℕ) (table : List ℕ) (c a : ℕ) : Type 0 where
+  pub from : c ≤ a
+  pub shut : (v : ℕ) → c ≤ v → v < a → isOpen (rings n (linkedBy table)) (v ∷ []) ≡ false
+
+pub none-before : {n : ℕ} {table : List ℕ} (c : ℕ) → NoneBefore n table c c
+none-before c = record { from = omega arith; shut = λ v l h. absurd (omega arith) }
+
+module _ {n : ℕ} {table : List ℕ} {c a : ℕ} (k : NoneBefore n table c a) where
+  pub none-more : isOpen (rings n (linkedBy table)) (a ∷ []) ≡ false → NoneBefore n table c (a + 1)
+  none-more e = record { from = omega (arith, k .from); shut = λ v l h. go v l h (decLt v a) }
+    where
+      go : (v : ℕ) → c ≤ v → v < a + 1 → Dec (v < a) → isOpen (rings n (linkedBy table)) (v ∷ []) ≡ false
+      go v l h (yes below) = k .shut v l below
+      go v l h (no other) = let same : v ≡ a = omega arith in rw same e
+
+  -- the atom a begins one
+  pub ahead-first :
+      (one : List ℕ) → isOpen (rings n (linkedBy table)) (a ∷ []) ≡ true → ((v : ℕ) → has one v ≡ eqb v a) →
+      FirstAhead n table c one
+  ahead-first one e is v l none = is v ∙ go (decLt v a) (decLt a v)
+    where
+      go : Dec (v < a) → Dec (a < v) → eqb v a ≡ isOpen (rings n (linkedBy table)) (v ∷ [])
+      go (yes below) d = ne-eqb v a (λ q. omega arith) ∙ sym (k .shut v l below)
+      go (no other) (yes above) =
+          let in-one : has one a ≡ true = is a ∙ eq-eqb a a refl in
+          absurd (clash (has one a) in-one (none a (k .from) above))
+      go (no other) (no past) = let same : v ≡ a = omega arith in rw same (eq-eqb a a refl ∙ sym e)
+
+  -- a is past the last atom: none begins one
+  pub ahead-none : (set : List ℕ) → n < a → ((v : ℕ) → has set v ≡ false) → FirstAhead n table c set
+  ahead-none set end is v l none = is v ∙ sym (go (decLt v a))
+    where
+      go : Dec (v < a) → isOpen (rings n (linkedBy table)) (v ∷ []) ≡ false
+      go (yes below) = k .shut v l below
+      go (no other) =
+          false-of (isOpen (rings n (linkedBy table)) (v ∷ []))
+          (λ o. let range = open-range (rings n (linkedBy table)) (rings-lawful n (linkedBy table)) (v ∷ []) o 0
+          (omega arith) in omega (arith, range))

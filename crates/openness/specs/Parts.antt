@@ -1,15 +1,15 @@
 -- What the inner functions ask and return. Nothing to believe:
 -- the laws of proofs/ relate them to members and open beginnings.
-use Prim.Native.Nat.{ℕ, _≤_}
+use Prim.Native.Nat.{ℕ, _≤_, _<_}
 use mathlib.Core.Path.{_≡_}
-use mathlib.Core.Bool.{Bool, true, false, _&&_}
-use mathlib.Core.List.{List}
-use lib.Dec.{leb, ltb, eqb}
+use mathlib.Core.Bool.{true, false, _&&_}
+use mathlib.Core.List.{List, [], _∷_}
+use lib.Dec.{leb, ltb}
 use Rattle.graph.specs.Chordless.{Adjacency}
-use Rattle.enumeration.specs.Words.{Family}
+use Rattle.enumeration.specs.Words.{Family, isOpen}
+use Rattle.chordless.specs.Families.{rings, paths}
 use Rattle.atomset.specs.Set.{has, linkedBy}
 use Rattle.search.specs.Place.{endsKept}
-use Rattle.openness.specs.declared.Plan.{Plan}
 use Rattle.openness.specs.declared.Aim.{Aim}
 use Rattle.openness.specs.Plan.{Words, HandedOn, Steered}
 
@@ -44,7 +44,12 @@ pub record Stepping (F : Family) (adj : Adjacency) (p : List ℕ) (x : ℕ) (aim
   pub members-is : (v : ℕ) → has members v ≡ (has (aim .goal) v && adj x v)
   pub want-is : (v : ℕ) → has want v ≡ (has (aim .free) v && adj x v)
 
--- no member, and at most the atom c opens
-pub record Alone (opening : Bool) (c : ℕ) (plan : Plan) : Type 0 where
-  pub no-member : (v : ℕ) → has (plan .members) v ≡ false
-  pub one-opens : (v : ℕ) → has (plan .opens) v ≡ (eqb v c && opening)
+-- of the atoms from c on, the set has the first that begins a ring, and up to it no other
+abbrev pub FirstAhead : ℕ → List ℕ → ℕ → List ℕ → Type 0
+FirstAhead n table c set =
+    (v : ℕ) → c ≤ v → ((u : ℕ) → c ≤ u → u < v → has set u ≡ false) →
+    has set v ≡ isOpen (rings n (linkedBy table)) (v ∷ [])
+
+-- the set has the atoms that begin a path from s to t
+abbrev pub PathFirsts : ℕ → List ℕ → ℕ → ℕ → List ℕ → Type 0
+PathFirsts n table s t set = (v : ℕ) → has set v ≡ isOpen (paths n (linkedBy table) s t) (v ∷ [])

@@ -1,7 +1,7 @@
 -- What a trial finds at a beginning, as two sets of atoms, over the word table of a molecule's rows.
-use Prim.Native.Nat.{ℕ, _≤_}
+use Prim.Native.Nat.{ℕ, _≤_, _<_}
 use mathlib.Core.Path.{_≡_}
-use mathlib.Core.Bool.{true, cond}
+use mathlib.Core.Bool.{true, false, cond}
 use mathlib.Core.List.{List, [], _∷_, _++_}
 use lib.ListN.{length, take}
 use lib.Dec.{eqb}
@@ -36,9 +36,14 @@ pub record Tells (F : Family) (p : List ℕ) (plan : Plan) (v : ℕ) : Type 0 wh
 abbrev pub Everywhere : Family → List ℕ → Plan → Type 0
 Everywhere F p plan = (v : ℕ) → Tells F p plan v
 
--- They tell it of the next atom c, and of every atom where p has an atom or more
+-- They tell it of every atom from c up to the first that opens, that one included
+abbrev pub Ahead : Family → List ℕ → ℕ → Plan → Type 0
+Ahead F p c plan = (v : ℕ) → c ≤ v → ((u : ℕ) → c ≤ u → u < v → has (plan .opens) u ≡ false) → Tells F p plan v
+
+-- They tell it of the next atom c, of those up to the first that opens, and of every atom where p has an atom or more
 pub record Planned (F : Family) (p : List ℕ) (c : ℕ) (plan : Plan) : Type 0 where
   pub next : Tells F p plan c
+  pub ahead : Ahead F p c plan
   pub every : 1 ≤ length p → Everywhere F p plan
 
 -- an open beginning of a search in its array

@@ -13,7 +13,7 @@ ghost use Rattle.atomset.specs.Set.{has, linkedBy};
 ghost use Rattle.sweep.specs.Swept.{Symmetric};
 ghost use Rattle.search.specs.Place.{kindKept};
 ghost use Rattle.openness.specs.Plan.{familyBy, Words, Planned, Beginning, Everywhere, Steered, HandedOn, firstLength};
-ghost use Rattle.openness.specs.Parts.{Alone, OneAtom, TwoAtoms, TwoEnds, Stepping, Seconds};
+ghost use Rattle.openness.specs.Parts.{OneAtom, TwoAtoms, TwoEnds, Stepping, Seconds, FirstAhead, PathFirsts};
 
 // The atoms that make a member of a beginning, and those that open it.
 pub struct Plan {
@@ -281,6 +281,32 @@ fn second_atoms(table: &[u64; 256], n: usize, s: usize) -> [u64; 2]
     found
 }
 
+// The atom from c on that is the first to begin a ring; none where no such atom does.
+fn first_ahead(table: &[u64; 256], n: usize, c: usize) -> [u64; 2]
+    requires { ⌜ OneAtom n (now table) c ⌝ }
+    ensures { λ r. ⌜ FirstAhead n (now (table .entry)) c r ⌝ }
+{
+    let mut a = c;
+    while a <= n {
+        if ring_starts(table, n, a) {
+            return atomset::single(a);
+        }
+        a += 1;
+    }
+    atomset::empty()
+}
+
+// The atom that begins a path from s to t: s where t is reached from it, otherwise none.
+fn path_firsts(table: &[u64; 256], n: usize, s: usize, t: usize) -> [u64; 2]
+    requires { ⌜ TwoEnds n (now table) s t ⌝ }
+    ensures { λ r. ⌜ PathFirsts n (now (table .entry)) s t r ⌝ }
+{
+    let all = atomset::up_to(n);
+    let goal = atomset::single(t);
+    let alone = atomset::single(s);
+    sweep::reached(table, all, goal, alone)
+}
+
 // Whether some path from s to t begins with c.
 fn path_starts(table: &[u64; 256], n: usize, s: usize, t: usize, c: usize) -> bool
     requires { ⌜ TwoEnds n (now table) s t ⌝ }
@@ -289,34 +315,11 @@ fn path_starts(table: &[u64; 256], n: usize, s: usize, t: usize, c: usize) -> bo
     if c != s {
         return false;
     }
-    let all = atomset::up_to(n);
-    let goal = atomset::single(t);
-    let alone = atomset::single(s);
-    let swept = sweep::reached(table, all, goal, alone);
-    atomset::contains(swept, s)
+    atomset::contains(path_firsts(table, n, s, t), s)
 }
 
-// No member, and the atom c opens or not.
-fn alone(opening: bool, c: usize) -> Plan
-    requires { ⌜ (1 ≤ c) × (c ≤ 128) ⌝ }
-    ensures { λ r. ⌜ Alone opening c r ⌝ }
-{
-    let none = atomset::empty();
-    if opening {
-        let one = atomset::single(c);
-        return Plan {
-            members: none,
-            opens: one,
-        };
-    }
-    Plan {
-        members: none,
-        opens: none,
-    }
-}
-
-// What a trial finds at an open beginning: of the next atom c, and of every atom where the beginning has an atom or
-// more.
+// What a trial finds at an open beginning: of every atom from the next atom c up to the first that opens, and of every
+// atom where the beginning has an atom or more.
 pub fn plan_at(
     table: &[u64; 256],
     n: usize,
@@ -333,13 +336,21 @@ pub fn plan_at(
     if first_length(kind) <= len {
         return steered_plan(table, n, kind, s, t, prefix, len);
     }
+    let none = atomset::empty();
     if kind != 0 {
-        return alone(path_starts(table, n, s, t, c), c);
+        let firsts = path_firsts(table, n, s, t);
+        return Plan {
+            members: none,
+            opens: firsts,
+        };
     }
     if len == 0 {
-        return alone(ring_starts(table, n, c), c);
+        let first = first_ahead(table, n, c);
+        return Plan {
+            members: none,
+            opens: first,
+        };
     }
-    let none = atomset::empty();
     let opens = second_atoms(table, n, u8_usize(prefix[0]));
     Plan {
         members: none,
@@ -358,24 +369,16 @@ fn opens_by(found: Plan, v: usize) -> bool
     atomset::contains(opens, v)
 }
 
-// Whether the atom at place i opens the beginning before it.
-fn opens_at(
-    table: &[u64; 256],
-    n: usize,
-    kind: usize,
-    s: usize,
-    t: usize,
-    prefix: &[u8; 128],
-    i: usize,
-) -> bool
-    requires { ⌜ Beginning n (now table) kind s t (now prefix) i ⌝ }
-    ensures { λ r. ⌜ r ≡ isOpen (familyBy n (now (table .entry)) kind s t) (take (suc i) (now (prefix .entry))) ⌝ }
+// Whether some ring begins with the first atom of the array.
+fn one_opens(table: &[u64; 256], n: usize, prefix: &[u8; 128]) -> bool
+    requires { ⌜ Words n (now table) × (length (now prefix) ≡ 128) ⌝ }
+    ensures { λ r. ⌜ r ≡ isOpen (rings n (linkedBy (now (table .entry)))) (take 1 (now (prefix .entry))) ⌝ }
 {
-    let v = u8_usize(prefix[i]);
-    if !molecule::is_atom(n, v) {
+    let a = u8_usize(prefix[0]);
+    if !molecule::is_atom(n, a) {
         return false;
     }
-    opens_by(plan_at(table, n, kind, s, t, prefix, i, v), v)
+    ring_starts(table, n, a)
 }
 
 // Whether the shortest beginning that two sets steer is open: of a ring the first two atoms, of a path the first one.
@@ -452,7 +455,7 @@ pub fn is_open(
         return true;
     }
     if len < first_length(kind) {
-        return opens_at(table, n, kind, s, t, prefix, 0);
+        return one_opens(table, n, prefix);
     }
     if !first_opens(table, n, kind, s, t, prefix) {
         return false;

@@ -61,7 +61,7 @@ module _ {T : Task} {out prefix : List ℕ} {at : Spot} {found : Plan} {stale : 
     standing = d .held;
     valid = makes-valid (T .lawful) (t .valid) (d .makes);
     bounded = makes-bounded (t .bounded) (d .makes);
-    told = λ e v. rw (d .same (raised e)) (t .told e v);
+    told = λ e. let (word, next) = d .same (raised e) in rw (word, next) (t .told e);
     going =
         let room : used + length (d .bytes) ≤ length (T .output) = omega (arith, d .listing .fits, length-kept t) in
         rw (d .listing .used-is) (going-makes (t .going) (d .makes) further-paid room (d .listing .output));

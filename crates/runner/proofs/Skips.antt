@@ -11,10 +11,10 @@ use Rattle.enumeration.specs.Machine.{act}
 use Rattle.enumeration.proofs.Makes.{not-done, not-limit, unwound-stays}
 use Rattle.atomset.specs.Set.{has}
 use Rattle.openness.specs.declared.Plan.{Plan}
-use Rattle.openness.specs.Plan.{Planned}
+use Rattle.openness.specs.Plan.{Ahead}
 use Rattle.trial.specs.declared.Spot.{Spot}
 use Rattle.trial.specs.Parts.{stackOf, stateAt, Skips, Idle, skip}
-use Rattle.runner.proofs.Trials.{Task, Turning, Trying, planned-old, member-told, written-none, turn}
+use Rattle.runner.proofs.Trials.{Task, Turning, Trying, member-told, written-none, turn}
 
 -- the place after one trial that only raises the next atom
 abbrev raised : Spot → Spot
@@ -48,7 +48,6 @@ skip-more k at =
 first : {found : Plan} {at : Spot} {n k : ℕ} → Skips found false at n (suc k) → Skips found false at n 1
 first s = record {
   fresh = refl;
-  long = s .long;
   gap = record { within = omega (arith, s .gap .within); idle = λ i h. s .gap .idle i (omega arith) };
   trials-most = omega (arith, s .trials-most);
   extensions-other = s .extensions-other;
@@ -58,7 +57,6 @@ first s = record {
 later : {found : Plan} {at : Spot} {n k : ℕ} → Skips found false at n (suc k) → Skips found false (raised at) n k
 later {at = at} s = record {
   fresh = refl;
-  long = s .long;
   gap = record {
     within = omega (arith, s .gap .within);
     idle = λ i h.
@@ -75,10 +73,10 @@ module _ {T : Task} {out prefix : List ℕ} {found : Plan} {used : ℕ} where
       {at : Spot} {made : ℕ} → Turning T out prefix at found false used made → made < T .budget →
       Skips found false at (T .n) 1 → Turning T out prefix (raised at) found false used (made + 1)
   one {at} {made} t b s =
-      turn here planned
-      (written-none _ _ _ _ (sym (member-told here planned) ∙ none .0)) (sym (none .0)) (sym (none .1))
+      turn here told
+      (written-none _ _ _ _ (sym (member-told here told) ∙ none .0)) (sym (none .0)) (sym (none .1))
       (record { within = t .standing .within; state-is = raised-state (T .n) prefix at below })
-      (record { same = λ e. refl; long = λ e. s .long })
+      (record { same = λ e. refl })
     where
       here : Trying T out prefix at found false used made
       here = record {
@@ -91,8 +89,8 @@ module _ {T : Task} {out prefix : List ℕ} {found : Plan} {used : ℕ} where
       below : at .next < T .n
       below = omega (arith, s .gap .within)
 
-      planned : Planned (T .family) (take (at .len) prefix) (at .next) found
-      planned = planned-old here refl
+      told : Ahead (T .family) (take (at .len) prefix) (at .next) found
+      told = t .told refl
 
       none : (has (found .members) (at .next) ≡ false) × (has (found .opens) (at .next) ≡ false)
       none = let z : at .next + 0 ≡ at .next = omega arith in rw z at (s .gap .idle 0 (omega arith))

@@ -1,12 +1,12 @@
 -- What a run keeps from trial to trial, one turn of it, and its ways out.
 -- The plan tells what the trial does, so the state of the array after it is the machine's.
 use Prim.Native.Nat.{ℕ, zero, suc, _+_, _-_, _≤_, _<_}
+use native.Mathlib.Decide.{decLt}
 use native.Mathlib.Omega.{arith}
 use mathlib.Core.Path.{_≡_, refl, ap, sym, _∙_}
 use mathlib.Core.Bool.{Bool, true, false, _&&_}
 use mathlib.Core.List.{List, [], _∷_, _++_, reverse}
 use lib.ListN.{length, take, drop, take-append-drop}
-use lib.Seq.{length-take-le}
 use lib.Dec.{eqb}
 use borrow.Author.Tests.{ne-eqb}
 use borrow.Rule.Slice.PartMut.{putMid}
@@ -19,17 +19,18 @@ use Rattle.enumeration.specs.Run.{atLimit, lists, recordIf, recordOf, stopped, 
 use Rattle.enumeration.specs.Lawful.{Lawful}
 use Rattle.enumeration.specs.Trials.{Valid}
 use Rattle.enumeration.specs.RunFacts.{Bounded}
+use Rattle.enumeration.proofs.Trial.{shut}
 use Rattle.enumeration.proofs.Theorems.{trial-valid, valid-short, valid-next}
 use Rattle.atomset.specs.Set.{has}
 use Rattle.search.specs.declared.Search.{Search}
 use Rattle.search.specs.declared.Ran.{Ran}
 use Rattle.search.specs.Place.{beginning, stateOf}
 use Rattle.openness.specs.declared.Plan.{Plan}
-use Rattle.openness.specs.Plan.{familyBy, Tells, Planned}
+use Rattle.openness.specs.Plan.{familyBy, Tells, Ahead}
 use Rattle.openness.proofs.Plans.{family-by-lawful, family-by-atoms}
 use Rattle.trial.specs.declared.Spot.{Spot}
 use Rattle.trial.specs.Parts.{stackOf, stateAt, spotOf, Held, HeldWithRoom, Counting, Acted, Stale}
-use Rattle.trial.proofs.Arrays.{stack-length, stack-back, stack-more, placeOf, act-same, search-held, tried-word}
+use Rattle.trial.proofs.Arrays.{stack-length, stack-back, stack-more, placeOf, act-longer, act-same, search-held, tried-word}
 use Rattle.trial.proofs.Bytes.{part-length, part-back, record-length}
 use Rattle.runner.specs.declared.FirstPlan.{FirstPlan}
 use Rattle.runner.specs.Parts.{stoppedAt, Ready, Yields, FirstTells}
@@ -74,8 +75,8 @@ pub record Turning (T : Task) (out prefix : List ℕ) (at : Spot) (found : Plan)
     pub standing : HeldWithRoom prefix (at .len)
     pub valid : Valid (T .family) (stateAt prefix at)
     pub bounded : Bounded (stateAt prefix at)
-    -- a plan that is not stale tells of every atom
-    pub told : stale ≡ false → (v : ℕ) → Tells (T .family) (take (at .len) prefix) found v
+    -- a plan that is not stale tells of the next atom and of those after it, up to the first that opens
+    pub told : stale ≡ false → Ahead (T .family) (take (at .len) prefix) (at .next) found
     pub going : Going (T .family) (T .budget) (T .output) (T .from) out (stateAt prefix at) used made
 
 -- with the plan of a beginning of one atom, and the array of the fast loop
@@ -228,10 +229,6 @@ module _ {T : Task} {out prefix : List ℕ} {at : Spot} {found : Plan} {stale : 
         listed-less = b .listed-less;
       }
 
-  -- the plan, if it is not stale
-  pub planned-old : stale ≡ false → Planned (T .family) (take (at .len) prefix) (at .next) found
-  planned-old e = record { next = t .turning .told e (at .next); every = λ h. t .turning .told e }
-
   pub stops-full :
       T .family .member (tried now) ≡ true → length out - used < at .len + 2 → StopsBy T prefix at used made Full
   stops-full m h =
@@ -275,17 +272,42 @@ module _ {T : Task} {out prefix : List ℕ} {at : Spot} {found : Plan} {stale : 
         ∙ ap (λ (place : List ℕ × ℕ). reverse (place .0)) same-place
         ∙ stack-back prefix (at .len)
 
-    pub not-first : at′ .next ≡ 1 → ⊥
-    not-first f =
-        let raised : at′ .next ≡ suc (at .next) = ap (λ (place : List ℕ × ℕ). place .1) same-place in
-        omega (arith, next-range)
+    next-raised : at′ .next ≡ suc (at .next)
+    next-raised = ap (λ (place : List ℕ × ℕ). place .1) same-place
 
-  module _ {plan : Plan} (planned : Planned (T .family) (take (at .len) prefix) (at .next) plan) where
+    pub not-first : at′ .next ≡ 1 → ⊥
+    not-first f = let raised = next-raised in omega (arith, next-range)
+
+    -- its word is not open: the beginning was not extended by it, and a member is not open
+    not-opening : member ≡ T .family .member (tried now) → extends ≡ isOpen (T .family) (tried now) → extends ≡ false
+    unfolding tried
+    not-opening = go member extends same-length
+      where
+        go :
+            (m o : Bool) → length (act (T .n) m o now .stack) ≡ length (stackOf prefix (at .len)) →
+            m ≡ T .family .member (tried now) → o ≡ isOpen (T .family) (tried now) → o ≡ false
+        go m false l f g = refl
+        go true true l f g = g ∙ shut (T .family) (T .lawful) (stackOf prefix (at .len)) (at .next) (sym f)
+        go false true l f g = absurd (act-longer (T .n) now (omega (arith, next-range)) l)
+
+  module _ {plan : Plan} (ahead : Ahead (T .family) (take (at .len) prefix) (at .next) plan) where
+    told-next : Tells (T .family) (take (at .len) prefix) plan (at .next)
+    told-next = ahead (at .next) (omega arith) (λ u l h. absurd (omega arith))
+
     pub member-told : has (plan .members) (at .next) ≡ T .family .member (tried now)
-    member-told = planned .next .members ∙ ap (T .family .member) (sym (tried-word prefix at))
+    member-told = told-next .members ∙ ap (T .family .member) (sym (tried-word prefix at))
 
     open-told : has (plan .opens) (at .next) ≡ isOpen (T .family) (tried now)
-    open-told = planned .next .opens ∙ ap (isOpen (T .family)) (sym (tried-word prefix at))
+    open-told = told-next .opens ∙ ap (isOpen (T .family)) (sym (tried-word prefix at))
+
+    -- where the next atom does not open, they tell of those after it
+    ahead-raised :
+        has (plan .opens) (at .next) ≡ false → Ahead (T .family) (take (at .len) prefix) (suc (at .next)) plan
+    ahead-raised shut-here v l none = ahead v (omega arith) (λ u k h. go u k h (decLt (at .next) u))
+      where
+        go : (u : ℕ) → at .next ≤ u → u < v → Dec (at .next < u) → has (plan .opens) u ≡ false
+        go u k h (yes past) = none u past h
+        go u k h (no other) = let same : u ≡ at .next = omega arith in rw same shut-here
 
     pub turn :
         {out′ prefix′ : List ℕ} {used′ : ℕ} {at′ : Spot} {member extends stale′ : Bool} →
@@ -297,7 +319,9 @@ module _ {T : Task} {out prefix : List ℕ} {at : Spot} {found : Plan} {stale : 
       standing = record { within = a .within; short = short′ };
       valid = valid′;
       bounded = rw (a .state-is) (act-bounded (T .n) member extends now below);
-      told = λ e v. rw (same-beginning a fresh e) (planned .every (long e) v);
+      told = λ e.
+          let shut-here = sym x ∙ not-opening a fresh e (m ∙ member-told) (x ∙ open-told) in
+          rw (same-beginning a fresh e, next-raised a fresh e) (ahead-raised shut-here);
       going =
           rw (stepped, w .count)
           (going-turn (old .going) (t .not-done) (t .not-limit) (t .paid) (w .output) (w .fits));
@@ -319,8 +343,3 @@ module _ {T : Task} {out prefix : List ℕ} {at : Spot} {found : Plan} {stale : 
         short′ =
             let shorter = valid-short (T .family) (T .lawful) (stateAt prefix′ at′) valid′ in
             omega (arith, stack-length prefix′ (at′ .len) (a .within), old .few)
-
-        long : stale′ ≡ false → 1 ≤ length (take (at .len) prefix)
-        long e =
-            let room : at .len ≤ length prefix = omega (arith, old .standing .within .size, old .standing .short) in
-            omega (arith, length-take-le (at .len) prefix room, fresh .same e, fresh .long e)

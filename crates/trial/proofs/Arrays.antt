@@ -214,6 +214,15 @@ unwound-same n (a ∷ stack) c e = go (eqb c (suc n)) e (unwound-most n stack (s
 abbrev pub placeOf : State → List ℕ × ℕ
 placeOf st = (st .stack, st .next)
 
+-- a trial that extends the beginning makes it longer
+pub act-longer :
+    (n : ℕ) (st : State) → 1 ≤ n → length (act n false true st .stack) ≡ length (st .stack) → ⊥
+unfolding act
+act-longer n st some e =
+    let stays = unwound-stays n (st .next) (st .stack) 1 (λ f. omega arith) in
+    let longer = ap (λ (q : List ℕ × ℕ). length (q .0)) stays in
+    omega arith
+
 -- a trial that leaves the length as it was leaves the beginning, and raises the next atom
 pub act-same :
     (n : ℕ) (member extends : Bool) (st : State) → 1 ≤ n →
@@ -221,10 +230,7 @@ pub act-same :
     placeOf (act n member extends st) ≡ (st .stack, suc (st .next))
 unfolding act
 act-same n true extends st some e = unwound-same n (st .stack) (suc (st .next)) e
-act-same n false true st some e =
-    let stays = unwound-stays n (st .next) (st .stack) 1 (λ f. omega arith) in
-    let longer = ap (λ (q : List ℕ × ℕ). length (q .0)) stays in
-    absurd (omega arith)
+act-same n false true st some e = absurd (act-longer n st some e)
 act-same n false false st some e = unwound-same n (st .stack) (suc (st .next)) e
 
 -- ---- the search at a place

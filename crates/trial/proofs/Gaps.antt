@@ -84,14 +84,13 @@ module _ {found : Plan} {stale : Bool} {at : Spot} {n left : ℕ} where
 
   -- the whole gap, within the budget and 128 trials or more below the limit
   pub idle-gap :
-      {k : ℕ} → n ≤ 128 → stale ≡ false → 1 ≤ at .len → NoneAtLimit (at .trials) (at .extensions) (at .listed) →
+      {k : ℕ} → n ≤ 128 → stale ≡ false → NoneAtLimit (at .trials) (at .extensions) (at .listed) →
       at .trials + 128 ≤ limit → Gap found (at .next) n k → k ≤ left → Idle found stale at n left k
-  idle-gap few fresh long counts room gap affordable = record {
+  idle-gap few fresh counts room gap affordable = record {
     affordable = affordable;
     small = omega (arith, gap .within);
     runs = λ some. record {
       fresh = fresh;
-      long = long;
       gap = gap;
       trials-most = omega (arith, gap .within);
       extensions-other = counts .extensions-other;

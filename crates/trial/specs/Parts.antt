@@ -98,7 +98,6 @@ pub record Gap (found : Plan) (c n k : ℕ) : Type 0 where
 -- k trials that only raise the next atom, and that no test stops
 pub record Skips (found : Plan) (stale : Bool) (at : Spot) (n k : ℕ) : Type 0 where
   pub fresh : stale ≡ false
-  pub long : 1 ≤ at .len
   pub gap : Gap found (at .next) n k
   pub trials-most : at .trials + k ≤ limit
   pub extensions-other : eqb (at .extensions) limit ≡ false
@@ -120,7 +119,6 @@ skip k at = record {
   listed = at .listed;
 }
 
--- no new plan: the beginning is as long as it was, and has an atom or more
+-- no new plan: the beginning is as long as it was
 pub record Stale (before after : ℕ) (stale : Bool) : Type 0 where
   pub same : stale ≡ false → before ≡ after
-  pub long : stale ≡ false → 1 ≤ after

@@ -51,13 +51,10 @@ pub fn at_limit(trials: u64, extensions: u64, listed: u64) -> bool
     listed == 9_999_999_999_999_999_999
 }
 
-// Whether the next trial needs a new plan: the beginning has changed, or it has no atom.
+// Whether the next trial needs a new plan: the beginning has changed.
 pub fn is_stale(before: usize, after: usize) -> bool
     ensures { λ r. ⌜ Stale before after r ⌝ }
 {
-    if after < 1 {
-        return true;
-    }
     before != after
 }
 
@@ -77,17 +74,14 @@ fn gap(found: Plan, c: usize, n: usize) -> usize
     atomset::lowest(next) - c
 }
 
-// How many trials from the next atom on only raise it: none without a plan for every atom, and no more than the budget
-// and the limit leave.
+// How many trials from the next atom on only raise it: none without a plan, and no more than the budget and the limit
+// leave.
 pub fn idle_trials(found: Plan, stale: bool, at: Spot, n: usize, left: u64) -> usize
     requires { ⌜ (1 ≤ at .next) × (n ≤ 128) ⌝ }
     ensures { λ r. ⌜ Idle found stale at n left r ⌝ }
 {
     let c = at.next;
     if stale {
-        return 0;
-    }
-    if at.len < 1 {
         return 0;
     }
     if n < c {

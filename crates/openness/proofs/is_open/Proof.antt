@@ -1,12 +1,11 @@
 -- `openness::is_open` meets its contract: a beginning too short for two sets is tested by itself; of a longer one first
 -- its first atoms, which are open where the whole is, then the further ones.
-use Prim.Native.Nat.{_≤_}
+use Prim.Native.Nat.{_≤_, _<_}
 use native.Mathlib.Omega.{arith}
 use mathlib.Core.Path.{_≡_, sym}
 use borrow.Author.Needs.{needs}
 use Rattle.openness.specs.Plan.{Beginning, firstLength}
-use Rattle.openness.proofs.Plans.{first-few}
-use Rattle.openness.proofs.Opens.{open-none, first-stops, first-goes-on}
+use Rattle.openness.proofs.Opens.{open-none, one-of-rings, first-stops, first-goes-on}
 use Rattle.openness.proofs.is_open.Statement.{statement}
 use Rattle.openness.proofs.is_open.Tie as tie
 
@@ -30,10 +29,12 @@ returns-2 c =
     let start : tie.Start = search in
     let some : tie.Else1 = search in
     let first : tie.After-first-length = search in
-    let few = first-few (start .args .kind) in
-    let one : start .args .len ≡ 1 =
-    omega (arith, some .if1 .left, c .before .if2 .taken, first .first-length .ensures) in
-    rw one (c .opens-at .ensures)
+    let args = start .args in
+    let short : args .len < firstLength (args .kind) =
+    omega (arith, c .before .if2 .taken, first .first-length .ensures) in
+    let (words, kinds, size, most) = start .pre in
+    one-of-rings _ _ (args .prefix .now) size (args .kind) (args .s) (args .t) (omega (arith, some .if1 .left)) short
+    (c .one-opens .ensures)
 
 returns-3 : tie.Need-returns-3
 returns-3 c = sym (first-stops _ _ _ _ _ _ (long (search)) (c .before .first-opens .ensures) (c .if3 .taken))
@@ -49,5 +50,5 @@ pub is-open-spec : {M : Type 1} → statement M
 is-open-spec =
     tie.close
     (tie.spec
-    returns (λ c κs. tt) (λ c κs. none (search)) returns-2 (λ c κs. search needs) returns-3 goes-on-open-requires
+    returns (λ c κs. tt) (λ c κs. search needs) returns-2 (λ c κs. search needs) returns-3 goes-on-open-requires
     (λ c. search needs))

@@ -27,15 +27,16 @@ steered-plan-requires c κs =
 
 -- ---- a path search
 
-path-starts-requires : tie.Need-path-starts-requires
-path-starts-requires c κs = let start : tie.Start = search in path-ends (start .pre .0) (c .if2 .taken)
+path-firsts-requires : tie.Need-path-firsts-requires
+path-firsts-requires c κs = let start : tie.Start = search in path-ends (start .pre .0) (c .if2 .taken)
 
 returns-2 : tie.Need-returns-2
 returns-2 c =
     let start : tie.Start = search in
     let path : tie.Then2 = search in
-    planned-path-start (start .pre .0) (path .if2 .taken) (short (search)) (c .before .path-starts .ensures)
-    (c .alone .ensures)
+    let empty : tie.After-empty = search in
+    planned-path-start (start .pre .0) (path .if2 .taken) (short (search)) (empty .empty .ensures)
+    (c .path-firsts .ensures)
 
 -- ---- a ring search
 
@@ -44,8 +45,9 @@ returns-3 c =
     let start : tie.Start = search in
     let ring : tie.Else2 = search in
     let none : tie.Then3 = search in
-    planned-ring-start (start .pre .0) (ring .if2 .left) (none .if3 .taken) (c .before .ring-starts .ensures)
-    (c .alone2 .ensures)
+    let empty : tie.After-empty = search in
+    planned-ring-start (start .pre .0) (ring .if2 .left) (none .if3 .taken) (empty .empty .ensures)
+    (c .first-ahead .ensures)
 
 second-atoms-requires : tie.Need-second-atoms-requires
 second-atoms-requires c κs =
@@ -67,6 +69,6 @@ pub plan-at-spec : {M : Type 1} → statement M
 plan-at-spec =
     tie.close
     (tie.spec
-    (λ c κs. tt) steered-plan-requires (λ c. planned-every (c .steered-plan .ensures)) path-starts-requires
-    (λ c κs. search needs) returns-2 (λ c κs. search needs) (λ c κs. search needs) returns-3 (λ c κs. tt)
+    (λ c κs. tt) steered-plan-requires (λ c. planned-every (c .steered-plan .ensures)) (λ c κs. tt)
+    path-firsts-requires returns-2 (λ c κs. search needs) returns-3
     (λ c. search needs) (λ c κs. search needs) second-atoms-requires returns-4)

@@ -8,13 +8,13 @@ use lib.ListN.{take, length-replicate}
 use Rattle.enumeration.specs.Machine.{State, isDone, tried}
 use Rattle.enumeration.specs.Run.{atLimit}
 use Rattle.openness.specs.declared.Plan.{Plan}
-use Rattle.openness.specs.Plan.{Planned}
+use Rattle.openness.specs.Plan.{Ahead}
 use Rattle.trial.specs.Parts.{stateAt}
 use Rattle.runner.specs.Parts.{FirstTells, Planning}
 use Rattle.runner.proofs.Firsts.{none-tells}
 use Rattle.runner.proofs.Trials.{Task, taskOf, Turning, Looping, Trying, Written, StopsBy}
 use Rattle.runner.proofs.Trials.{starts, used-within, room-in-part, length-kept, next-most, done-test}
-use Rattle.runner.proofs.Trials.{next-range, next-in-set, counting, planned-old, member-told}
+use Rattle.runner.proofs.Trials.{next-range, next-in-set, counting, member-told}
 use Rattle.runner.proofs.Trials.{written-none, written-record, not-first, turn}
 use Rattle.runner.proofs.Trials.{stops-done, stops-limit, stops-spent, stops-full, answers}
 use Rattle.runner.proofs.Skips.{skips}
@@ -140,13 +140,13 @@ planning c =
       tells = here c .loop .inv .tells;
     }
 
-abbrev PlannedAt : Place tie.At-loop → Plan → Type 0
-PlannedAt c plan = Planned (task c .family) (take (c .loop .at .len) (c .loop .prefix)) (c .loop .at .next) plan
+abbrev TellsAhead : Place tie.At-loop → Plan → Type 0
+TellsAhead c plan = Ahead (task c .family) (take (c .loop .at .len) (c .loop .prefix)) (c .loop .at .next) plan
 
-planned : (c : Place tie.Joined4) → PlannedAt (here (c .before)) (c .if4 .found)
+planned : (c : Place tie.Joined4) → TellsAhead (here (c .before)) (c .if4 .found)
 planned c = elim (c .if4 .came) [
-  | inl (stale, prefix, plan-of, prefix2, first-after, found, first) ↦ rw found (plan-of .ensures)
-  | inr (fresh, found, first) ↦ rw found (planned-old (trying (search)) (fresh .left))
+  | inl (stale, prefix, plan-of, prefix2, first-after, found, first) ↦ rw found (plan-of .ensures .ahead)
+  | inr (fresh, found, first) ↦ rw found (trying (search) .turning .told (fresh .left))
 ]
 
 -- the first plan after it

@@ -7,31 +7,29 @@ use Rattle.trial.proofs.Gaps.{NoneAtLimit, none-at-limit, idle-none, id
 use Rattle.trial.proofs.idle_trials.Statement.{statement}
 use Rattle.trial.proofs.idle_trials.Tie as tie
 
-abbrev start : tie.Else4 → tie.Start
-start c = c .before .before .before .before .before .before
+abbrev start : tie.Else3 → tie.Start
+start c = c .before .before .before .before
 
--- the fourth test is passed
-counts : (c : tie.Else4) → let at = start c .args .at in NoneAtLimit (at .trials) (at .extensions) (at .listed)
+-- the third test is passed
+counts : (c : tie.Else3) → let at = start c .args .at in NoneAtLimit (at .trials) (at .extensions) (at .listed)
 counts c =
     let at = start c .args .at in
-    none-at-limit (at .trials) (at .extensions) (at .listed) (sym (c .before .at-limit .ensures) ∙ c .if4 .left)
+    none-at-limit (at .trials) (at .extensions) (at .listed) (sym (c .before .at-limit .ensures) ∙ c .if3 .left)
 
 -- every test is passed
-returns-7 : tie.Need-returns-7
-returns-7 c =
+returns-6 : tie.Need-returns-6
+returns-6 c =
     let start : tie.Start = search in
     let fresh : tie.Else1 = search in
-    let long : tie.Else2 = search in
     let gap : tie.After-gap = search in
-    let left : tie.Else5 = search in
+    let left : tie.Else4 = search in
     let few = start .pre .1 in
-    let room = c .if6 .left in
-    idle-gap few (fresh .if1 .left) (long .if2 .left) (counts (search)) (omega arith) (gap .gap .ensures)
-    (left .if5 .left)
+    let room = c .if5 .left in
+    idle-gap few (fresh .if1 .left) (counts (search)) (omega arith) (gap .gap .ensures) (left .if4 .left)
 
 pub idle-trials-spec : {M : Type 1} → statement M
 idle-trials-spec =
     tie.close
     (tie.spec
-    (λ c. idle-none) (λ c. idle-none) (λ c. idle-none) (λ c κs. search needs) (λ c. idle-none) (λ c κs. search needs)
-    (λ c. idle-none) (λ c. idle-none) returns-7)
+    (λ c. idle-none) (λ c. idle-none) (λ c κs. search needs) (λ c. idle-none) (λ c κs. search needs) (λ c. idle-none)
+    (λ c. idle-none) returns-6)
