@@ -1,7 +1,7 @@
 // Members and open beginnings by sets of atoms (lemma 2 of document 003). Two sets steer a search below a beginning,
 // and are handed on to each longer one; a kind of search supplies the first two.
 use widen::u8_usize;
-ghost use Prim.Native.Nat.{ℕ, suc, _≤_, _-_};
+ghost use Prim.Native.Nat.{ℕ, _≤_, _-_};
 ghost use mathlib.Core.Path.{_≡_};
 ghost use mathlib.Core.Bool.{true};
 ghost use mathlib.Core.List.{List, [], _∷_, _++_};

@@ -2,7 +2,7 @@
 -- its first atoms, which are open where the whole is, then the further ones.
 use Prim.Native.Nat.{_≤_, _<_}
 use native.Mathlib.Omega.{arith}
-use mathlib.Core.Path.{_≡_, sym}
+use mathlib.Core.Path.{sym}
 use borrow.Author.Needs.{needs}
 use Rattle.openness.specs.Plan.{Beginning, firstLength}
 use Rattle.openness.proofs.Opens.{open-none, one-of-rings, first-stops, first-goes-on}
