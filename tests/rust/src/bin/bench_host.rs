@@ -41,6 +41,8 @@ struct Lister {
     about: &'static str,
     /// What the geometric mean of the ratios is not to exceed.
     aim: Option<f64>,
+    /// The ratio of a molecule above which the table says why.
+    each: Option<f64>,
     run: fn(&Record, &mut [u8]),
 }
 
@@ -50,6 +52,7 @@ const LISTERS: &[Lister] = &[
         name: "lister",
         about: "takes only the atoms that list or open",
         aim: Some(0.75),
+        each: Some(AIM),
         run: |record, _| {
             black_box(lister::list(record, Task::Rings));
         },
@@ -58,6 +61,7 @@ const LISTERS: &[Lister] = &[
         name: "best",
         about: "also omits the sweeps that decide nothing",
         aim: Some(1.1),
+        each: Some(1.1),
         run: |record, _| {
             black_box(best::list(record, Task::Rings));
         },
@@ -66,6 +70,7 @@ const LISTERS: &[Lister] = &[
         name: "stepper",
         about: "goes trial by trial",
         aim: None,
+        each: None,
         run: |record, out| {
             black_box(stepper::run(record, u64::MAX, out));
         },
@@ -370,27 +375,36 @@ fn summary(rows: &[Row]) -> String {
     )
 }
 
-/// The molecules whose ratio is above the aim, and why.
-fn above_aim(rows: &[Row]) -> String {
+/// The molecules whose ratio to a lister is above what the table explains, each
+/// with the ratio and the share of the fixed cost of a call.
+fn above(rows: &[Row], lister: usize, most: f64) -> Option<String> {
     let above: Vec<_> = rows
         .iter()
-        .filter(|row| row.ratio(0) > AIM)
+        .filter(|row| row.ratio(lister) > most)
         .map(|row| {
             let share = 100.0 * row.call / row.entry;
-            format!("{} ({:.2}; {share:.0} %)", row.name, row.ratio(0))
+            format!("{} ({:.2}; {share:.0} %)", row.name, row.ratio(lister))
         })
         .collect();
-    if above.is_empty() {
+    let name = LISTERS[lister].name;
+    (!above.is_empty()).then(|| format!("\nAbove {most} of `{name}`: {}.\n", above.join("; ")))
+}
+
+/// Where the entry takes more than the aims, and why.
+fn above_aim(rows: &[Row]) -> String {
+    let lists: Vec<_> = LISTERS
+        .iter()
+        .enumerate()
+        .filter_map(|(number, lister)| above(rows, number, lister.each?))
+        .collect();
+    if lists.is_empty() {
         return String::new();
     }
-    format!(
-        "\nAbove {AIM} of `{}`, with the ratio and the share of the entry's time that a call with budget 0 and no mark takes: \
-         {}. A small molecule pays this fixed cost of a call, most of `resume`: the sheet is read and its record checked, the \
-         table of its words made, the mark saved. Besides, the entry counts trials and can stop before any of them, which \
-         `{0}` does not.\n",
-        LISTERS[0].name,
-        above.join("; "),
-    )
+    lists.concat()
+        + "\nIn brackets the ratio, and the share of the entry's time that a call with budget 0 and no mark takes. A small \
+           molecule pays this fixed cost of a call, most of `resume`: the sheet is read and its record checked, the table of \
+           its words made, the mark saved. Besides, the entry counts trials and can stop before any of them, and finds the \
+           first and the second atoms of rings by trials, which the other listers do not.\n"
 }
 
 /// The time in runs of each length over that in one run.
