@@ -38,17 +38,12 @@ impl Lister {
         self.bonded[(v - 1) & 127]
     }
 
-    /// The neighbours of all atoms of a set, by its lower and its upper half.
+    /// The neighbours of all atoms of a set.
     fn near_any(&self, set: Set) -> Set {
-        let mut near = 0;
-        let (mut low, mut high) = (set as u64, (set >> 64) as u64);
-        while low != 0 {
-            near |= self.near(low.trailing_zeros() as usize + 1);
-            low &= low - 1;
-        }
-        while high != 0 {
-            near |= self.near(high.trailing_zeros() as usize + 65);
-            high &= high - 1;
+        let (mut near, mut rest) = (0, set);
+        while rest != 0 {
+            near |= self.near(lowest(rest));
+            rest &= rest - 1;
         }
         near
     }
