@@ -16,6 +16,7 @@ use Rattle.sweep.specs.Swept.{Symmetric}
 use Rattle.search.specs.Place.{kindKept}
 use Rattle.openness.specs.declared.Plan.{Plan}
 use Rattle.openness.specs.declared.Aim.{Aim}
+use Rattle.openness.specs.declared.FirstPlan.{FirstPlan}
 
 -- The family of a kind over a word table
 unfoldable pub familyBy : ℕ → List ℕ → ℕ → ℕ → ℕ → Family
@@ -45,6 +46,10 @@ pub record Planned (F : Family) (p : List ℕ) (c : ℕ) (plan : Plan) : Type 0 
   pub next : Tells F p plan c
   pub ahead : Ahead F p c plan
   pub every : 1 ≤ length p → Everywhere F p plan
+
+-- the first plan tells of the beginning of its atom; where the atom is 0 there is none
+abbrev pub FirstTells : Family → FirstPlan → Type 0
+FirstTells F first = 1 ≤ first .atom → Everywhere F (first .atom ∷ []) (first .plan)
 
 -- an open beginning of a search in its array
 pub record Beginning (n : ℕ) (table : List ℕ) (kind s t : ℕ) (prefix : List ℕ) (len : ℕ) : Type 0 where

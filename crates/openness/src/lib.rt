@@ -21,6 +21,12 @@ pub struct Plan {
     pub opens: [u64; 2],
 }
 
+// The plan of a beginning of one atom, and that atom; 0 where there is none.
+pub struct FirstPlan {
+    pub plan: Plan,
+    pub atom: u8,
+}
+
 // The two sets that steer a search below a beginning, but for what is bonded to its last atom: the atoms that may close
 // a member, and those that may stand between.
 pub struct Aim {

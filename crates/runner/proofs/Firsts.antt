@@ -9,12 +9,12 @@ use lib.Seq.{take-suc}
 use Rattle.enumeration.specs.Words.{Family}
 use Rattle.search.specs.declared.Search.{Search}
 use Rattle.openness.specs.declared.Plan.{Plan}
-use Rattle.openness.specs.Plan.{familyBy, Planned}
+use Rattle.openness.specs.Plan.{familyBy, Planned, FirstTells}
 use Rattle.openness.proofs.Plans.{planned-every}
 use Rattle.openness.proofs.Aims.{place-atom}
 use Rattle.trial.specs.declared.Spot.{Spot}
-use Rattle.runner.specs.declared.FirstPlan.{FirstPlan}
-use Rattle.runner.specs.Parts.{FirstTells, Planning, FirstAfter}
+use Rattle.openness.specs.declared.FirstPlan.{FirstPlan}
+use Rattle.runner.specs.Parts.{Planning, FirstAfter}
 
 -- there is none
 pub none-tells : {F : Family} {first : FirstPlan} → first .atom ≡ 0 → FirstTells F first

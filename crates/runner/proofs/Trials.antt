@@ -26,14 +26,14 @@ use Rattle.search.specs.declared.Search.{Search}
 use Rattle.search.specs.declared.Ran.{Ran}
 use Rattle.search.specs.Place.{beginning, stateOf}
 use Rattle.openness.specs.declared.Plan.{Plan}
-use Rattle.openness.specs.Plan.{familyBy, Tells, Ahead}
+use Rattle.openness.specs.Plan.{familyBy, Tells, Ahead, FirstTells}
 use Rattle.openness.proofs.Plans.{family-by-lawful, family-by-atoms}
 use Rattle.trial.specs.declared.Spot.{Spot}
 use Rattle.trial.specs.Parts.{stackOf, stateAt, spotOf, Held, HeldWithRoom, Counting, Acted, Stale}
 use Rattle.trial.proofs.Arrays.{stack-length, stack-back, stack-more, placeOf, act-longer, act-same, search-held, tried-word}
 use Rattle.trial.proofs.Bytes.{part-length, part-back, record-length}
-use Rattle.runner.specs.declared.FirstPlan.{FirstPlan}
-use Rattle.runner.specs.Parts.{stoppedAt, Ready, Yields, FirstTells}
+use Rattle.openness.specs.declared.FirstPlan.{FirstPlan}
+use Rattle.runner.specs.Parts.{stoppedAt, Ready, Yields}
 use Rattle.runner.proofs.Turns.{Going, going-starts, going-length, going-used, going-turn, going-answers}
 use Rattle.runner.proofs.Turns.{Below, below-limit, act-bounded, run-done, run-limit, run-spent, run-full}
 

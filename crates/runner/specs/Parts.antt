@@ -16,10 +16,10 @@ use Rattle.search.specs.declared.Ran.{Ran}
 use Rattle.search.specs.Place.{stateOf, kindKept}
 use Rattle.search.specs.Entries.{ran}
 use Rattle.openness.specs.declared.Plan.{Plan}
-use Rattle.openness.specs.Plan.{familyBy, Words, Everywhere, Planned, Beginning}
+use Rattle.openness.specs.Plan.{familyBy, Words, Planned, FirstTells, Beginning}
 use Rattle.trial.specs.declared.Spot.{Spot}
 use Rattle.trial.specs.Parts.{searchHeld, HeldWithRoom}
-use Rattle.runner.specs.declared.FirstPlan.{FirstPlan}
+use Rattle.openness.specs.declared.FirstPlan.{FirstPlan}
 
 -- the answer of a run of q that has stopped there
 abbrev pub stoppedAt : Search → List ℕ → Spot → Stop → ℕ → ℕ → Ran
@@ -46,10 +46,6 @@ runOnto o out = o .bytes ++ drop (length (o .bytes)) out
 pub record Yields (q : Search) (o : Outcome) (before : List ℕ) (r : Ran) (after : List ℕ) : Type 0 where
   pub result : r ≡ ran q o
   pub output : after ≡ runOnto o before
-
--- the first plan tells of the beginning of its atom; where the atom is 0 there is none
-abbrev pub FirstTells : Family → FirstPlan → Type 0
-FirstTells F first = 1 ≤ first .atom → Everywhere F (first .atom ∷ []) (first .plan)
 
 -- an open beginning that is to be planned, and a first plan
 pub record Planning (n : ℕ) (table : List ℕ) (q : Search) (prefix : List ℕ) (at : Spot) (first : FirstPlan) : Type 0

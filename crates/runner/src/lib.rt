@@ -12,17 +12,12 @@ ghost use Rattle.openness.specs.Plan.{familyBy, Planned};
 ghost use Rattle.runner.specs.Parts.{stoppedAt, Ready, outcomeBy, Yields, Planning, FirstAfter};
 use enumeration::Stop;
 use molecule::Molecule;
+use openness::FirstPlan;
 use openness::Plan;
 use search::Ended;
 use search::Ran;
 use search::Search;
 use trial::Spot;
-
-// The plan of a beginning of one atom, and that atom; 0 where there is none yet.
-struct FirstPlan {
-    plan: Plan,
-    atom: u8,
-}
 
 // No atom makes a member or opens a beginning.
 fn no_plan() -> Plan {

@@ -8,9 +8,9 @@ use lib.ListN.{take, length-replicate}
 use Rattle.enumeration.specs.Machine.{State, isDone, tried}
 use Rattle.enumeration.specs.Run.{atLimit}
 use Rattle.openness.specs.declared.Plan.{Plan}
-use Rattle.openness.specs.Plan.{Ahead}
+use Rattle.openness.specs.Plan.{Ahead, FirstTells}
 use Rattle.trial.specs.Parts.{stateAt}
-use Rattle.runner.specs.Parts.{FirstTells, Planning}
+use Rattle.runner.specs.Parts.{Planning}
 use Rattle.runner.proofs.Firsts.{none-tells}
 use Rattle.runner.proofs.Trials.{Task, taskOf, Turning, Looping, Trying, Written, StopsBy}
 use Rattle.runner.proofs.Trials.{starts, used-within, room-in-part, length-kept, next-most, done-test}
