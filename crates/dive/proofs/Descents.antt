@@ -8,7 +8,7 @@ use mathlib.Core.Path.{_≡_, refl, sym, ap, subst, _∙_}
 use mathlib.Core.Bool.{Bool, true, false, _&&_, _||_}
 use mathlib.Core.List.{List, [], _∷_, _++_, append-nil, reverse, reverse-cons}
 use lib.ListN.{length, getD, take, drop, set, length-set}
-use lib.Seq.{take-set-le, getD-set-same, getD-set-other}
+use lib.Seq.{take-set-le, take-suc-set, getD-set-same, getD-set-other}
 use lib.Dec.{leb}
 use borrow.Author.Tests.{le-leb}
 use borrow.Rule.Slice.PartMut.{putMid}
@@ -25,26 +25,31 @@ use Rattle.enumeration.proofs.Order.{range-at}
 use Rattle.enumeration.proofs.Open.{range-on, stack-short, stack-top}
 use Rattle.atomset.specs.Set.{has, linkedBy, Lowest, LowestLeft}
 use Rattle.openness.specs.declared.Aim.{Aim}
+use Rattle.openness.specs.Plan.{familyBy, firstLength}
 use Rattle.openness.proofs.Arrays.{open-atoms}
+use Rattle.openness.proofs.Plans.{family-by-atoms}
 use Rattle.trial.specs.declared.Spot.{Spot}
 use Rattle.trial.specs.Parts.{stackOf, Held, HeldWithRoom}
 use Rattle.trial.proofs.Arrays.{stack-length, stack-back, stack-push, stack-set, held-push, Unwinding, unwinding-pop}
 use Rattle.trial.proofs.Bytes.{part-back, record-length}
 use Rattle.dive.specs.declared.Dived.{Dived}
-use Rattle.dive.specs.Levels.{aimIn, restIn, keptRest, LevelPlanned}
-use Rattle.dive.specs.Parts.{Rising, listedAt, extendedAt, droppedAt, Bounds, stateBefore, Descent, Listed, Left}
+use Rattle.dive.specs.Levels.{aimIn, restIn, keptRest, goesOnBy, LevelAdded, Stage}
+use Rattle.dive.specs.Parts.{Rising, listedAt, extendedAt, droppedAt, Bounds, stateBefore, Added, Descent, Listed, Left}
 use Rattle.dive.proofs.Levels.{rest-kept-other, aim-past-rest, length-kept-rest}
-use Rattle.dive.proofs.Stages.{goesOnBy, Stage, stage-same, stage-lowered, stage-added}
+use Rattle.dive.proofs.Stages.{stage-same, stage-lowered, stage-added}
 use Rattle.dive.proofs.Stages.{lowest-from, lowest-goes-on, lowest-first, lowest-member, lowest-opens}
 use Rattle.dive.proofs.Listings.{listed-none, listed-more, listed-length, listed-within}
 
-module _ {n : ℕ} {table : List ℕ} {most : ℕ} {from : Spot} {start : ℕ} {prefix₀ levels₀ out₀ : List ℕ}
-    (d : Descent n table most from start prefix₀ levels₀ out₀) where
+module _ {n : ℕ} {table : List ℕ} {kind s t most : ℕ} {from : Spot} {start : ℕ} {prefix₀ levels₀ out₀ : List ℕ}
+    (d : Descent n table kind s t most from start prefix₀ levels₀ out₀) where
   abbrev F : Family
-  F = d .family
+  F = familyBy n table kind s t
+
+  atoms-are : F .atoms ≡ n
+  atoms-are = family-by-atoms n table kind s t
 
   abbrev StageHere : List ℕ → List ℕ → ℕ → ℕ → Type 0
-  StageHere prefix levels i c = Stage F (linkedBy table) prefix levels i c
+  StageHere prefix levels i c = Stage F (linkedBy table) (firstLength kind) prefix levels i c
 
   pub record Diving (prefix levels out : List ℕ) (at : Spot) (used : ℕ) : Type 0 where
     pub bytes : List ℕ
@@ -72,19 +77,9 @@ module _ {n : ℕ} {table : List ℕ} {most : ℕ} {from : Spot} {start : ℕ} {
     bounds = d .bounds;
     makes = let z : from .trials - from .trials ≡ 0 = omega arith in rw z none;
     listing = listed-none (d .in-room);
-    here = λ h. record {
-      steered = d .steered;
-      handed = d .handed;
-      to-try = λ v some. d .to-try v ∙ from-first v some;
-    };
+    here = λ h. rw (d .first) (d .stage);
     passed = λ i l h. absurd (omega arith);
   }
-    where
-      from-first :
-          (v : ℕ) → 1 ≤ v → goesOnBy F (take (from .len) prefix₀) v ≡
-          (leb (from .next) v && goesOnBy F (take (from .len) prefix₀) v)
-      from-first v some =
-          let next : leb (from .next) v ≡ true = le-leb (from .next) v (omega (arith, d .first)) in rw next
 
   -- ---- a turn
 
@@ -100,14 +95,14 @@ module _ {n : ℕ} {table : List ℕ} {most : ℕ} {from : Spot} {start : ℕ} {
     stage = k .here deep
 
     lawful : Lawful F
-    lawful = stage .steered .lawful
+    lawful = stage .lawful
 
     word-is : (u : ℕ) → reverse (u ∷ stack) ≡ word ++ u ∷ []
     word-is u = reverse-cons u stack ∙ ap (λ (w : List ℕ). w ++ u ∷ []) (stack-back prefix (at .len))
 
     -- an atom that goes on is at most n
     goes-most : (v : ℕ) → goesOnBy F word v ≡ true → v ≤ n
-    goes-most v e = rw (d .atoms) at (split (or-either (F .member (word ++ v ∷ [])) (isOpen F (word ++ v ∷ [])) e))
+    goes-most v e = rw (atoms-are) at (split (or-either (F .member (word ++ v ∷ [])) (isOpen F (word ++ v ∷ [])) e))
       where
         split : (F .member (word ++ v ∷ []) ≡ true) ⊎ (isOpen F (word ++ v ∷ []) ≡ true) → v ≤ F .atoms
         split (inl m) =
@@ -130,7 +125,7 @@ module _ {n : ℕ} {table : List ℕ} {most : ℕ} {from : Spot} {start : ℕ} {
         subst
         (λ (m : ℕ). Makes F (placed (unwound m stack (at .next + j)) (at .trials + j) (at .extensions) (at .listed))
         (placed (unwound m stack (at .next)) (at .trials) (at .extensions) (at .listed)) j [])
-        (d .atoms) (makes-rises stack (at .next) j (k .low) (omega (arith, d .atoms)) neither t≤ e< l<)
+        (atoms-are) (makes-rises stack (at .next) j (k .low) (omega (arith, atoms-are)) neither t≤ e< l<)
       where
         neither : Rises F stack (at .next) j
         neither i h =
@@ -183,7 +178,7 @@ module _ {n : ℕ} {table : List ℕ} {most : ℕ} {from : Spot} {start : ℕ} {
 
       stage-kept :
           (i : ℕ) {c : ℕ} → from .len ≤ i → i ≤ at .len - 1 → StageHere prefix levels i c → StageHere shorter levels i c
-      stage-kept i l h s = stage-same s (word-kept i h) (atom-kept (i - 1) (omega (arith, d .some))) refl refl refl
+      stage-kept i l h s = stage-same s (word-kept i h) (atom-kept (i - 1) (omega (arith, d .some))) refl (λ e. refl) refl
 
       pub diving-drops : Diving shorter levels out (droppedAt at n last) used
       diving-drops = record {
@@ -205,8 +200,8 @@ module _ {n : ℕ} {table : List ℕ} {most : ℕ} {from : Spot} {start : ℕ} {
           last-most : last ≤ n
           last-most =
               rw last-is
-              (open-atoms prefix (at .len) lawful (d .atoms) (k .held .within .size) (k .held .within .most)
-              (stage .steered .isOpened) (at .len - 1) (omega (arith, d .some)) .1)
+              (open-atoms prefix (at .len) lawful (atoms-are) (k .held .within .size) (k .held .within .most)
+              (stage .isOpened) (at .len - 1) (omega (arith, d .some)) .1)
 
           bounds′ : Bounds (droppedAt at n last) most
           bounds′ = record {
@@ -238,7 +233,7 @@ module _ {n : ℕ} {table : List ℕ} {most : ℕ} {from : Spot} {start : ℕ} {
       passed′ : (i : ℕ) → from .len ≤ i → i < at .len → StageHere prefix levels′ i (getD prefix i 0 + 1)
       passed′ i low h =
           stage-same (k .passed i low h) refl refl (aim-past-rest levels (at .len) others i)
-          (aim-past-rest levels (at .len) others (suc i)) (rest-kept-other levels (at .len) others i (λ e. omega arith))
+          (λ e. aim-past-rest levels (at .len) others (suc i)) (rest-kept-other levels (at .len) others i (λ e. omega arith))
 
       -- the trials before it
       before :
@@ -328,7 +323,7 @@ module _ {n : ℕ} {table : List ℕ} {most : ℕ} {from : Spot} {start : ℕ} {
               (placed (unwound m stack (suc v)) (suc (at .trials + (v - at .next))) (at .extensions) (suc (at .listed)))
               (placed (unwound m stack v) (at .trials + (v - at .next)) (at .extensions) (at .listed)) 1
               (recordOf (reverse (v ∷ stack))))
-              (d .atoms) (makes-lists stack v (l .low) (omega (arith, v-most, d .atoms)) is-member t< e< l<))
+              (atoms-are) (makes-lists stack v (l .low) (omega (arith, v-most, atoms-are)) is-member t< e< l<))
 
       -- it opens the beginning
       module _ (not-closing : has (aimIn levels (at .len) .goal) v ≡ false) where
@@ -341,29 +336,57 @@ module _ {n : ℕ} {table : List ℕ} {most : ℕ} {from : Spot} {start : ℕ} {
         short′ : at .len + 1 ≤ 127
         short′ =
             let size = stack-length prefix (at .len) (k .held .within) in
-            omega (arith, stack-short F lawful stack v opens-stack, d .atoms, d .words .few)
+            omega (arith, stack-short F lawful stack v opens-stack, atoms-are, d .words .few)
+
+        room : at .len < length prefix
+        room = omega (arith, k .held .within .size, k .held .short)
+
+        -- the longer beginning, which is to be planned
+        added-here : Added n table kind s t (set prefix (at .len) v) levels′ (at .len + 1) v
+        added-here =
+            let one : at .len + 1 - 1 ≡ at .len = omega arith in
+            record {
+              begun = record {
+                words = d .words;
+                kinds = d .kinds;
+                size = length-set prefix (at .len) v ∙ k .held .within .size;
+                short = short′;
+                isOpened = rw (add-one (at .len), take-suc-set prefix (at .len) v room) opens;
+              };
+              long = omega (arith, d .near);
+              last-is = rw one (sym (getD-set-same prefix (at .len) v 0 room));
+              low = l .low;
+              high = l .high;
+              sized = size′;
+            }
 
       -- it is added
       pub diving-extends :
           {levels″ : List ℕ} → has (aimIn levels (at .len) .goal) v ≡ false →
-          LevelPlanned (linkedBy table) v (at .len + 1) levels′ levels″ →
+          LevelAdded F (linkedBy table) (firstLength kind) v (at .len + 1) (set prefix (at .len) v) levels′ levels″ →
           Diving (set prefix (at .len) v) levels″ out (extendedAt at v) used
-      diving-extends {levels″} not-closing planned = record {
+      diving-extends {levels″} not-closing added = record {
         bytes = k .bytes ++ [];
         held = record { within = held-push prefix (at .len) v (k .held); short = short′ not-closing };
-        size = planned .size ∙ size′;
+        size = added .size ∙ size′;
         low = omega arith;
         high = omega (arith, v-most, l .low);
         more = omega (arith, k .more);
         bounds = counts′ (at .listed) (at .extensions + 1) (omega arith) (omega arith);
-        makes = with-last added;
+        makes = with-last extended;
         listing = rw (append-nil (k .bytes)) (k .listing);
-        here = λ h. stage-added lowered room (opens not-closing) planned;
+        here = λ h. stage-added lowered (room not-closing) (omega (arith, d .near)) (opens not-closing) added;
         passed = passed″;
       }
         where
-          room : at .len < length prefix
-          room = omega (arith, k .held .within .size, k .held .short)
+          -- the sets that were handed on to it
+          next-kept :
+              (i : ℕ) → i ≤ at .len → Dec (i < at .len) → firstLength kind ≤ i →
+              aimIn levels″ (suc i) ≡ aimIn levels′ (suc i)
+          next-kept i h (yes b) e = added .aims-kept (suc i) (omega arith)
+          next-kept i h (no b) e =
+              let last : suc i ≡ at .len + 1 = omega arith in
+              rw last (added .aim-kept (omega arith))
 
           -- the beginnings that it goes on from
           kept :
@@ -372,8 +395,7 @@ module _ {n : ℕ} {table : List ℕ} {most : ℕ} {from : Spot} {start : ℕ} {
           kept i low h s =
               stage-same s (take-set-le i prefix (at .len) v h)
               (getD-set-other prefix (at .len) (i - 1) v 0 (λ e. omega (arith, d .some)))
-              (planned .aims-kept i (omega arith)) (planned .aims-kept (suc i) (omega arith))
-              (planned .rests-kept i (omega arith))
+              (added .aims-kept i (omega arith)) (next-kept i h (decLt i (at .len))) (added .rests-kept i (omega arith))
 
           passed″ :
               (i : ℕ) → from .len ≤ i → i < at .len + 1 →
@@ -388,12 +410,12 @@ module _ {n : ℕ} {table : List ℕ} {most : ℕ} {from : Spot} {start : ℕ} {
                   (kept i low (omega arith) (passed′ i low b))
               split (no b) =
                   let same : i ≡ at .len = omega arith in
-                  rw (same, getD-set-same prefix (at .len) v 0 room) (kept (at .len) deep (omega arith) lowered)
+                  rw (same, getD-set-same prefix (at .len) v 0 (room not-closing)) (kept (at .len) deep (omega arith) lowered)
 
-          added :
+          extended :
               Makes F (stateBefore n (set prefix (at .len) v) (extendedAt at v))
               (placed (unwound n stack v) (at .trials + (v - at .next)) (at .extensions) (at .listed)) 1 []
-          added =
+          extended =
               let len : at .len + 1 ≡ suc (at .len) = add-one (at .len) in
               let trials : at .trials + (v + 1 - at .next) ≡ suc (at .trials + (v - at .next)) =
               omega (arith, v-from) in
@@ -402,13 +424,13 @@ module _ {n : ℕ} {table : List ℕ} {most : ℕ} {from : Spot} {start : ℕ} {
               let l< : at .listed < limit = omega (arith, k .bounds) in
               let t< : at .trials + (v - at .next) < limit = omega (arith, k .bounds, v-most, d .words .few, k .low) in
               let no-member = ap (F .member) (word-is v) ∙ lowest-member stage l ∙ not-closing in
-              rw (len, trials, extensions, stack-push prefix (at .len) v room)
+              rw (len, trials, extensions, stack-push prefix (at .len) v (room not-closing))
               (subst
               (λ (m : ℕ). Makes F
               (placed (unwound m (v ∷ stack) 1) (suc (at .trials + (v - at .next))) (suc (at .extensions)) (at .listed))
               (placed (unwound m stack v) (at .trials + (v - at .next)) (at .extensions) (at .listed)) 1 [])
-              (d .atoms)
-              (makes-extends stack v (l .low) (omega (arith, v-most, d .atoms)) no-member (opens-stack not-closing) t<
+              (atoms-are)
+              (makes-extends stack v (l .low) (omega (arith, v-most, atoms-are)) no-member (opens-stack not-closing) t<
               e< l<))
 
 -- ---- the turns as the calls tell them
@@ -422,8 +444,8 @@ pub record Tries (most : ℕ) (from at : Spot) (levels : List ℕ) (v : ℕ) (ot
   pub left : LowestLeft (restIn levels (at .len)) others
   pub kept-is : kept ≡ keptRest levels (at .len) others
 
-module _ {n : ℕ} {table : List ℕ} {most : ℕ} {from : Spot} {start : ℕ} {prefix₀ levels₀ out₀ : List ℕ}
-    (d : Descent n table most from start prefix₀ levels₀ out₀) {prefix levels out : List ℕ} {at : Spot} {used : ℕ}
+module _ {n : ℕ} {table : List ℕ} {kind s t most : ℕ} {from : Spot} {start : ℕ} {prefix₀ levels₀ out₀ : List ℕ}
+    (d : Descent n table kind s t most from start prefix₀ levels₀ out₀) {prefix levels out : List ℕ} {at : Spot} {used : ℕ}
     (k : Diving d prefix levels out at used)
   where
     pub drops :
@@ -432,25 +454,25 @@ module _ {n : ℕ} {table : List ℕ} {most : ℕ} {from : Spot} {start : ℕ} {
         Diving d (set prefix (at .len - 1) 0) levels out at′ used
     drops deep far last-is nothing e = rw e (diving-drops d k deep far last-is nothing)
 
-    module _ {v : ℕ} {others kept : List ℕ} (t : Tries most from at levels v others kept) where
+    module _ {v : ℕ} {others kept : List ℕ} (r : Tries most from at levels v others kept) where
       from-next : at .next ≤ v
-      from-next = v-from d k (t .deep) (t .far) (t .lowest) (t .left)
+      from-next = v-from d k (r .deep) (r .far) (r .lowest) (r .left)
 
       -- the trials up to v can be counted
       pub rising : Rising at v
       rising = record {
         ahead = omega (arith, from-next);
-        few = t .lowest .high;
+        few = r .lowest .high;
         countable = omega (arith, k .bounds);
       }
 
       pub kept-size : length kept ≡ 774
-      kept-size = ap length (t .kept-is) ∙ size′ d k (t .deep) (t .far) (t .lowest) (t .left)
+      kept-size = ap length (r .kept-is) ∙ size′ d k (r .deep) (r .far) (r .lowest) (r .left)
 
       -- the trials that are left fall
       pub falls-by :
           129 * (most - (at .trials + (v + 1 - at .next))) + suc (at .len) < 129 * (most - at .trials) + at .len
-      falls-by = omega (arith, from-next, k .low, t .lowest .high, t .far)
+      falls-by = omega (arith, from-next, k .low, r .lowest .high, r .far)
 
       pub lists :
           {out′ part : List ℕ} {at′ : Spot} → has (aimIn levels (at .len) .goal) v ≡ true →
@@ -460,27 +482,31 @@ module _ {n : ℕ} {table : List ℕ} {most : ℕ} {from : Spot} {start : ℕ} {
           out′ ≡ putMid used (length out - used) out part → at′ ≡ listedAt at v →
           Diving d prefix kept out′ at′ (used + (at .len + 2))
       lists closes room put back e =
-          rw (e, t .kept-is)
-          (diving-lists d k (t .deep) (t .far) (t .lowest) (t .left) closes room put back refl)
+          rw (e, r .kept-is)
+          (diving-lists d k (r .deep) (r .far) (r .lowest) (r .left) closes room put back refl)
 
-      pub extends-length : has (aimIn levels (at .len) .goal) v ≡ false → at .len + 1 ≤ 127
-      extends-length not-closing = short′ d k (t .deep) (t .far) (t .lowest) (t .left) not-closing
+      pub extends-added :
+          has (aimIn levels (at .len) .goal) v ≡ false →
+          Added n table kind s t (set prefix (at .len) v) kept (at .len + 1) v
+      extends-added not-closing =
+          rw (r .kept-is) (added-here d k (r .deep) (r .far) (r .lowest) (r .left) not-closing)
 
       pub extends :
           {planned : List ℕ} {at′ : Spot} → has (aimIn levels (at .len) .goal) v ≡ false →
-          LevelPlanned (linkedBy table) v (at .len + 1) kept planned → at′ ≡ extendedAt at v →
+          LevelAdded (familyBy n table kind s t) (linkedBy table) (firstLength kind) v (at .len + 1)
+          (set prefix (at .len) v) kept planned → at′ ≡ extendedAt at v →
           Diving d (set prefix (at .len) v) planned out at′ used
       extends not-closing p e =
           rw e
-          (diving-extends d k (t .deep) (t .far) (t .lowest) (t .left) not-closing (rw (t .kept-is) at p))
+          (diving-extends d k (r .deep) (r .far) (r .lowest) (r .left) not-closing (rw (r .kept-is) at p))
 
 -- ---- the loop is left
 
-module _ {n : ℕ} {table : List ℕ} {most : ℕ} {from : Spot} {start : ℕ} {prefix₀ levels₀ out₀ : List ℕ}
-    (d : Descent n table most from start prefix₀ levels₀ out₀) where
+module _ {n : ℕ} {table : List ℕ} {kind s t most : ℕ} {from : Spot} {start : ℕ} {prefix₀ levels₀ out₀ : List ℕ}
+    (d : Descent n table kind s t most from start prefix₀ levels₀ out₀) where
   pub diving-left :
       {prefix levels out : List ℕ} {at : Spot} {used : ℕ} → Diving d prefix levels out at used →
-      Left (d .family) n most prefix₀ from out₀ start prefix out (record { at = at; used = used })
+      Left (familyBy n table kind s t) n most prefix₀ from out₀ start prefix out (record { at = at; used = used })
   diving-left k = record {
     bytes = k .bytes;
     held = k .held;

@@ -1,58 +1,51 @@
 -- From a place of a run to what the fast loop starts from, and from where the fast loop leaves to the unwound place.
--- The two sets of the beginning and its plan are kept and found again; a beginning whose next atom is 1 is unwound.
+-- The sets of the beginning, or its first plan, are kept and found again; a beginning whose next atom is 1 is unwound.
 use Prim.Native.Nat.{ℕ, _+_, _-_, _≤_, _<_}
 use native.Mathlib.Omega.{arith}
-use mathlib.Core.Path.{_≡_, refl, ap, sym, _∙_}
+use mathlib.Core.Path.{_≡_, refl, ap, ap₂, sym, _∙_}
+use mathlib.Core.Bool.{_||_}
 use mathlib.Core.List.{List, []}
 use lib.ListN.{length, getD, take, take-append-drop}
+use borrow.Author.Tests.{le-leb}
 use Rattle.enumeration.specs.Words.{Family}
 use Rattle.enumeration.specs.Machine.{placed}
 use Rattle.enumeration.specs.Makes.{none}
 use Rattle.enumeration.proofs.Makes.{unwound-stays}
-use Rattle.chordless.proofs.Steers.{steers-same}
-use Rattle.atomset.specs.Set.{linkedBy}
+use Rattle.atomset.specs.Set.{has, linkedBy}
 use Rattle.search.specs.declared.Search.{Search}
 use Rattle.openness.specs.declared.Aim.{Aim}
-use Rattle.openness.specs.Plan.{familyBy, firstLength, Steered}
-use Rattle.openness.proofs.Arrays.{open-atoms}
-use Rattle.openness.proofs.Plans.{family-by-lawful, family-by-atoms}
-use Rattle.openness.proofs.Aims.{first-some}
+use Rattle.openness.specs.declared.FirstPlan.{FirstPlan}
+use Rattle.openness.specs.Plan.{familyBy, firstLength, Everywhere, Steered}
+use Rattle.openness.proofs.Arrays.{one-taken, open-atoms}
+use Rattle.openness.proofs.Plans.{family-by-lawful, family-by-atoms, first-few}
+use Rattle.openness.proofs.Aims.{place-atom}
 use Rattle.trial.specs.declared.Spot.{Spot}
 use Rattle.trial.specs.declared.Place.{Place}
 use Rattle.trial.specs.Parts.{stackOf, stateAt, Unwound}
 use Rattle.trial.proofs.Arrays.{stack-length, unwound-most}
 use Rattle.dive.specs.declared.Dived.{Dived}
-use Rattle.dive.specs.Levels.{aimIn, keptAim, LevelPlanned}
-use Rattle.dive.specs.Parts.{Bounds, Room, Descent, Left, Entering, Descended, stateBefore}
-use Rattle.dive.proofs.Levels.{length-kept-aim, goal-kept-same, free-kept-same}
+use Rattle.dive.specs.Levels.{aimIn, keptAim, keptRest, LevelPlanned}
+use Rattle.dive.specs.Parts.{Bounds, Room, Starting, FirstStage, Descent, Left, Entering, Entered, Descended, stateBefore}
+use Rattle.dive.proofs.Levels.{length-kept-aim, length-kept-rest, goal-kept-same, rest-kept-same, aim-past-rest}
+use Rattle.dive.proofs.Levels.{kept-steers, planned-led}
 
 -- ---- what the fast loop starts from
 
--- an open beginning of a search, of some atoms, whose next atom is 1, and the trials that no count forbids
-pub record Begun (n : ℕ) (table : List ℕ) (q : Search) (at : Spot) (most start : ℕ) (prefix levels out : List ℕ) :
-    Type 0 where
-  pub entering : Entering n table q at start prefix levels out
-  pub first : at .next ≡ 1
-  pub long : firstLength (q .kind) ≤ at .len
-  pub bounds : Bounds at most
-
-module _ {n : ℕ} {table : List ℕ} {q : Search} {at : Spot} {most start : ℕ} {prefix levels out : List ℕ}
-    (b : Begun n table q at most start prefix levels out) where
-  abbrev pub family : Family
+module _ {n : ℕ} {table : List ℕ} {q : Search} {at : Spot} {first : FirstPlan} {prefix levels : List ℕ}
+    (b : Starting n table q at first prefix levels) where
+  abbrev family : Family
   family = familyBy n table (q .kind) (q .s) (q .t)
 
-  pub begun-some : 1 ≤ at .len
-  begun-some = omega (arith, first-some (q .kind), b .long)
+  short-enough : at .len ≤ 128
+  short-enough = omega (arith, b .begun .short)
 
   -- its last atom
   last-of : {x : ℕ} → x ≡ getD prefix (at .len - 1) 0 → (1 ≤ x) × (x ≤ n)
   last-of e =
-      let begun = b .entering .begun in
       let L = family-by-lawful n table (q .kind) (q .s) (q .t) in
       let A = family-by-atoms n table (q .kind) (q .s) (q .t) in
-      let short : at .len ≤ 128 = omega (arith, begun .short) in
-      let last : at .len - 1 < at .len = omega (arith, begun-some) in
-      rw e (open-atoms prefix (at .len) L A (begun .size) short (begun .isOpened) (at .len - 1) last)
+      let last : at .len - 1 < at .len = omega (arith, b .entered .some) in
+      rw e (open-atoms prefix (at .len) L A (b .begun .size) short-enough (b .begun .isOpened) (at .len - 1) last)
 
   pub begun-atoms : 1 ≤ n
   begun-atoms =
@@ -62,44 +55,89 @@ module _ {n : ℕ} {table : List ℕ} {q : Search} {at : Spot} {most start : ℕ
   pub last-atom : {x : ℕ} → x ≡ getD prefix (at .len - 1) 0 → (1 ≤ x) × (x ≤ 128)
   last-atom e =
       let (low, high) = last-of e in
-      (low, omega (arith, b .entering .begun .words .few))
+      (low, omega (arith, b .begun .words .few))
 
-  -- the sets kept for its length steer it
-  module _ {aim : Aim} {kept planned : List ℕ} {x : ℕ} (kept-is : kept ≡ keptAim levels (at .len) aim)
-      (last-is : x ≡ getD prefix (at .len - 1) 0)
-      (steered : Steered family (linkedBy table) (take (at .len) prefix) (getD prefix (at .len - 1) 0) aim)
-      (plan : LevelPlanned (linkedBy table) x (at .len) kept planned) where
-    pub steered-kept : Steered family (linkedBy table) (take (at .len) prefix) x (aimIn kept (at .len))
-    steered-kept =
-        let short : at .len ≤ 128 = omega (arith, b .entering .begun .short) in
-        rw (kept-is, last-is)
-        (record {
+  -- the sets steer it: they are kept for its length, and it is planned
+  pub starts-steered :
+      {aim : Aim} {kept planned : List ℕ} {x : ℕ} → firstLength (q .kind) ≤ at .len →
+      Steered family (linkedBy table) (take (at .len) prefix) (getD prefix (at .len - 1) 0) aim →
+      kept ≡ keptAim levels (at .len) aim → x ≡ getD prefix (at .len - 1) 0 →
+      LevelPlanned (linkedBy table) x (at .len) kept planned →
+      FirstStage n table (q .kind) (q .s) (q .t) prefix planned (at .len) × (length planned ≡ 774)
+  starts-steered {aim} {kept} {planned} long steered kept-is last-is given =
+      let plan : LevelPlanned (linkedBy table) (getD prefix (at .len - 1) 0) (at .len) (keptAim levels (at .len) aim)
+      planned = rw (kept-is, last-is) at given in
+      let sets = kept-steers levels (at .len) aim (b .sized) short-enough steered in (
+        record {
           lawful = steered .lawful;
-          some = steered .some;
           isOpened = steered .isOpened;
-          steers =
-              steers-same (λ u. sym (goal-kept-same levels (at .len) aim (b .entering .sized) short u))
-              (λ u. sym (free-kept-same levels (at .len) aim (b .entering .sized) short u)) (steered .steers);
-        })
+          long = λ h. planned-led plan sets;
+          short = λ h. absurd (omega arith);
+          to-try = λ v some. plan .to-try family (take (at .len) prefix) sets v ∙ rw (le-leb 1 v some);
+        },
+        plan .size ∙ length-kept-aim levels (at .len) aim ∙ b .sized,
+      )
 
-    pub aim-still : aimIn kept (at .len) ≡ aimIn planned (at .len)
-    aim-still = sym (plan .aims-kept (at .len) (omega arith))
+  -- it is too short for them: the first plan tells of it
+  module _ (few : at .len < firstLength (q .kind)) where
+    first-plan : Everywhere family (take (at .len) prefix) (first .plan)
+    first-plan =
+        let (one, same) = b .entered .known few in
+        let low = place-atom (b .begun) 0 (omega arith) (sym same) .0 in
+        rw (one, one-taken prefix (b .begun .size), same) (b .tells low)
 
-    abbrev pub begun-descent : Descent n table most at start prefix planned out
-    begun-descent = record {
-      family = family;
-      atoms = family-by-atoms n table (q .kind) (q .s) (q .t);
-      words = b .entering .begun .words;
-      sized = plan .size ∙ ap length kept-is ∙ length-kept-aim levels (at .len) aim ∙ b .entering .sized;
-      standing = b .entering .standing;
-      some = begun-some;
-      first = b .first;
-      steered = rw (← aim-still, ← last-is) steered-kept;
-      handed = rw (← aim-still, ← last-is) (plan .handed);
-      to-try = plan .to-try family (take (at .len) prefix) steered-kept;
-      bounds = b .bounds;
-      in-room = b .entering .in-room;
-    }
+    pub starts-short :
+        (rest : List ℕ) {kept planned : List ℕ} →
+        kept ≡ keptAim levels (at .len) (record { goal = first .plan .members; free = first .plan .opens }) →
+        ((v : ℕ) → has rest v ≡ (has (first .plan .members) v || has (first .plan .opens) v)) →
+        planned ≡ keptRest kept (at .len) rest →
+        FirstStage n table (q .kind) (q .s) (q .t) prefix planned (at .len) × (length planned ≡ 774)
+    starts-short rest {kept} {planned} kept-is rest-is planned-is =
+        let aim : Aim = record { goal = first .plan .members; free = first .plan .opens } in
+        let sized′ : length kept ≡ 774 = ap length kept-is ∙ length-kept-aim levels (at .len) aim ∙ b .sized in
+        let aim-is : aimIn planned (at .len) ≡ aimIn (keptAim levels (at .len) aim) (at .len) =
+        ap (λ (k : List ℕ). aimIn k (at .len)) planned-is ∙ aim-past-rest kept (at .len) rest (at .len)
+        ∙ ap (λ (k : List ℕ). aimIn k (at .len)) kept-is in (
+          record {
+            lawful = family-by-lawful n table (q .kind) (q .s) (q .t);
+            isOpened = b .begun .isOpened;
+            long = λ h. absurd (omega arith);
+            short = λ h v.
+                ap (λ (k : Aim). has (k .goal) v) aim-is ∙
+                goal-kept-same levels (at .len) aim (b .sized) short-enough v ∙ first-plan v .members;
+            to-try = λ v some.
+                rw (planned-is, le-leb 1 v some)
+                (rest-kept-same kept (at .len) rest sized′ short-enough v ∙ rest-is v ∙
+                ap₂ _||_ (first-plan v .members) (first-plan v .opens));
+          },
+          rw planned-is (length-kept-rest kept (at .len) rest ∙ sized′),
+        )
+
+-- a place that the fast loop enters
+pub starting :
+    {n : ℕ} {table : List ℕ} {q : Search} {at : Spot} {first : FirstPlan} {start : ℕ} {prefix levels out : List ℕ} →
+    Entering n table q at first start prefix levels out → Entered (q .kind) at prefix (first .atom) →
+    Starting n table q at first prefix levels
+starting e entered = record { begun = e .begun; entered = entered; tells = e .tells; sized = e .sized }
+
+pub descent-of :
+    {n : ℕ} {table : List ℕ} {q : Search} {at : Spot} {first : FirstPlan} {most start : ℕ}
+    {prefix levels out planned : List ℕ} → Entering n table q at first start prefix levels out →
+    Entered (q .kind) at prefix (first .atom) → Bounds at most →
+    FirstStage n table (q .kind) (q .s) (q .t) prefix planned (at .len) × (length planned ≡ 774) →
+    Descent n table (q .kind) (q .s) (q .t) most at start prefix planned out
+descent-of {q = q} e entered bounds (stage, sized) = record {
+  words = e .begun .words;
+  kinds = e .begun .kinds;
+  sized = sized;
+  standing = e .standing;
+  some = entered .some;
+  near = omega (arith, first-few (q .kind), entered .some);
+  first = entered .first;
+  stage = stage;
+  bounds = bounds;
+  in-room = e .in-room;
+}
 
 -- ---- where the fast loop leaves, unwound
 
@@ -182,8 +220,8 @@ descended-within k d = record {
 
 -- no trial is made
 pub none-made :
-    {n : ℕ} {table : List ℕ} {q : Search} {at : Spot} {start : ℕ} {prefix levels out : List ℕ} (F : Family) (left : ℕ) →
-    Entering n table q at start prefix levels out →
+    {n : ℕ} {table : List ℕ} {q : Search} {at : Spot} {first : FirstPlan} {start : ℕ} {prefix levels out : List ℕ}
+    (F : Family) (left : ℕ) → Entering n table q at first start prefix levels out →
     Descended F prefix at left out start prefix out (record { at = at; used = start })
 none-made {at = at} {start = start} {prefix = prefix} {out = out} F left e =
     let zero-trials : at .trials - at .trials ≡ 0 = omega arith in

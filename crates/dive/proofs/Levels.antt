@@ -1,14 +1,14 @@
 -- The sets kept by length: what is kept for a length is found again, and the other lengths are as they were.
 -- The words of length i have the places from 6 × i to 6 × i + 5, so those of two lengths are apart.
-use Prim.Native.Nat.{ℕ, suc, _+_, _*_, _≤_}
+use Prim.Native.Nat.{ℕ, suc, _+_, _*_, _≤_, _<_}
 use native.Mathlib.Numerals.{add-one}
 use native.Mathlib.Omega.{arith}
 use native.Mathlib.Decide.{decLe}
-use mathlib.Core.Path.{_≡_, refl, ap, ap₂, _∙_}
+use mathlib.Core.Path.{_≡_, refl, sym, ap, ap₂, _∙_}
 use mathlib.Core.Bool.{true, false, _||_}
 use mathlib.Core.List.{List, [], _∷_}
 use mathlib.Core.Logic.{_⊎_, inl, inr}
-use lib.ListN.{length, getD, set, length-set}
+use lib.ListN.{length, getD, take, set, length-set}
 use lib.Seq.{getD-set-same, getD-set-other}
 use borrow.Author.Tests.{leb-true}
 use Rattle.graph.proofs.Below.{either, and-parts}
@@ -17,10 +17,11 @@ use Rattle.atomset.specs.Set.{has}
 use Rattle.atomset.proofs.Members.{has-outside, has-first, has-second}
 use Rattle.graph.specs.Chordless.{Adjacency}
 use Rattle.enumeration.specs.Words.{Family}
+use Rattle.chordless.proofs.Steers.{steers-same}
 use Rattle.openness.specs.declared.Aim.{Aim}
 use Rattle.openness.specs.declared.Plan.{Plan}
 use Rattle.openness.specs.Plan.{HandedOn, Steered, Everywhere}
-use Rattle.dive.specs.Levels.{aimIn, restIn, keptAim, keptRest, LevelPlanned}
+use Rattle.dive.specs.Levels.{aimIn, restIn, keptAim, keptRest, LevelPlanned, Led, LevelAdded}
 
 -- ---- sets with the same two words hold the same atoms
 
@@ -193,3 +194,59 @@ module _ {adj : Adjacency} {x : ℕ} {next : Aim} {plan : Plan} {rest : List ℕ
       after ≡ keptRest longer len rest → LevelPlanned adj x len levels after
   level-planned {levels} {longer} {after} {len} {aim} size h aim-is found kept kept-rest =
       rw (kept-rest, kept, add-one len) (kept-planned levels len size h (rw aim-is at found))
+
+-- ---- the sets steer what they are kept for
+
+module _ {F : Family} {adj : Adjacency} {p : List ℕ} {x : ℕ} where
+  pub kept-steers :
+      (levels : List ℕ) (i : ℕ) (aim : Aim) → length levels ≡ 774 → i ≤ 128 → Steered F adj p x aim →
+      Steered F adj p x (aimIn (keptAim levels i aim) i)
+  kept-steers levels i aim size h k = record {
+    lawful = k .lawful;
+    some = k .some;
+    isOpened = k .isOpened;
+    steers =
+        steers-same (λ u. sym (goal-kept-same levels i aim size h u)) (λ u. sym (free-kept-same levels i aim size h u))
+        (k .steers);
+  }
+
+  -- they are as they were after the beginning is planned
+  pub planned-led :
+      {len : ℕ} {before after : List ℕ} → LevelPlanned adj x len before after → Steered F adj p x (aimIn before len) →
+      Led F adj p x (aimIn after len) (aimIn after (suc len))
+  planned-led {len} plan k =
+      let still = plan .aims-kept len (omega arith) in
+      record { steered = rw still k; handed = rw still (plan .handed) }
+
+-- ---- a beginning that has got its last atom
+
+module _ {F : Family} {adj : Adjacency} {first x len : ℕ} {prefix levels after : List ℕ} where
+  -- the shortest that the sets steer: they are made and kept
+  pub added-first :
+      (aim : Aim) {kept : List ℕ} → length levels ≡ 774 → len ≤ 127 → len ≡ first →
+      Steered F adj (take len prefix) x aim → kept ≡ keptAim levels len aim → LevelPlanned adj x len kept after →
+      LevelAdded F adj first x len prefix levels after
+  added-first aim {kept} size h same steered kept-is planned =
+      let plan : LevelPlanned adj x len (keptAim levels len aim) after = rw kept-is at planned in
+      let sets = kept-steers levels len aim size (omega arith) steered in
+      record {
+        size = plan .size ∙ length-kept-aim levels len aim;
+        aims-kept = λ i l. plan .aims-kept i (omega arith) ∙ aim-kept-other levels len aim i (λ e. omega arith);
+        aim-kept = λ l. absurd (omega arith);
+        rests-kept = λ i l. plan .rests-kept i (omega arith) ∙ rest-past-aim levels len aim i;
+        led = λ before. planned-led plan sets;
+        to-try = λ before. plan .to-try F (take len prefix) sets;
+      }
+
+  -- a longer one: they were handed on
+  pub added-later :
+      first ≤ len → (len ≡ first → ⊥) → LevelPlanned adj x len levels after →
+      LevelAdded F adj first x len prefix levels after
+  added-later long other plan = record {
+    size = plan .size;
+    aims-kept = λ i l. plan .aims-kept i (omega arith);
+    aim-kept = λ l. plan .aims-kept len (omega arith);
+    rests-kept = λ i l. plan .rests-kept i (omega arith);
+    led = λ before. planned-led plan (before (omega arith));
+    to-try = λ before. plan .to-try F (take len prefix) (before (omega arith));
+  }

@@ -1,8 +1,9 @@
--- A beginning on the way down and what is kept for its length: its sets steer it and are handed on, and the atoms still
--- to be tried are those from the next one on that make a member or open it. How that changes with a trial.
+-- A beginning on the way down and what is kept for its length (`Stage`): what its lowest atom to be tried tells, and how
+-- it changes with a trial. Where the sets steer, by the laws of `Steers`; a shorter beginning has its members kept.
 use Prim.Native.Nat.{ℕ, suc, _+_, _-_, _≤_, _<_}
 use native.Mathlib.Omega.{arith}
 use native.Mathlib.Numerals.{add-one}
+use native.Mathlib.Decide.{decLe}
 use mathlib.Core.Path.{_≡_, refl, sym, ap, _∙_}
 use mathlib.Core.Bool.{Bool, true, false, _&&_, _||_, not}
 use mathlib.Core.List.{List, [], _∷_, _++_}
@@ -19,29 +20,22 @@ use Rattle.chordless.specs.Steers.{Onward}
 use Rattle.chordless.proofs.Steers.{steers-more, steers-same, steers-member, steers-open}
 use Rattle.atomset.specs.Set.{has, Lowest, LowestLeft}
 use Rattle.openness.specs.declared.Aim.{Aim}
-use Rattle.openness.specs.Plan.{HandedOn, Steered}
-use Rattle.dive.specs.Levels.{aimIn, restIn, keptRest, LevelPlanned}
+use Rattle.openness.specs.Plan.{Steered}
+use Rattle.dive.specs.Levels.{aimIn, restIn, keptRest, goesOnBy, Led, LevelAdded, Stage}
 use Rattle.dive.proofs.Levels.{rest-kept-same, rest-kept-other, aim-past-rest}
 
--- v makes a member of the beginning p, or opens it
-abbrev pub goesOnBy : Family → List ℕ → ℕ → Bool
-goesOnBy F p v = F .member (p ++ v ∷ []) || isOpen F (p ++ v ∷ [])
-
--- the beginning of i atoms, whose next atom is c
-pub record Stage (F : Family) (adj : Adjacency) (prefix levels : List ℕ) (i c : ℕ) : Type 0 where
-  pub steered : Steered F adj (take i prefix) (getD prefix (i - 1) 0) (aimIn levels i)
-  pub handed : HandedOn adj (getD prefix (i - 1) 0) (aimIn levels i) (aimIn levels (suc i))
-  pub to-try : (v : ℕ) → 1 ≤ v → has (restIn levels i) v ≡ (leb c v && goesOnBy F (take i prefix) v)
-
-module _ {F : Family} {adj : Adjacency} {prefix levels : List ℕ} {i c : ℕ} (s : Stage F adj prefix levels i c) where
+module _ {F : Family} {adj : Adjacency} {first : ℕ} {prefix levels : List ℕ} {i c : ℕ}
+    (s : Stage F adj first prefix levels i c) where
   -- an array and kept sets that are the same there
   pub stage-same :
       {prefix′ levels′ : List ℕ} → take i prefix′ ≡ take i prefix → getD prefix′ (i - 1) 0 ≡ getD prefix (i - 1) 0 →
-      aimIn levels′ i ≡ aimIn levels i → aimIn levels′ (suc i) ≡ aimIn levels (suc i) →
-      restIn levels′ i ≡ restIn levels i → Stage F adj prefix′ levels′ i c
+      aimIn levels′ i ≡ aimIn levels i → (first ≤ i → aimIn levels′ (suc i) ≡ aimIn levels (suc i)) →
+      restIn levels′ i ≡ restIn levels i → Stage F adj first prefix′ levels′ i c
   stage-same p x a n r = record {
-    steered = rw (p, x, a) (s .steered);
-    handed = rw (x, a, n) (s .handed);
+    lawful = s .lawful;
+    isOpened = rw p (s .isOpened);
+    long = λ h. rw (p, x, a, n h) (s .long h);
+    short = λ h v. rw p (ap (λ (aim : Aim). has (aim .goal) v) a ∙ s .short h v);
     to-try = rw (p, r) (s .to-try);
   }
 
@@ -71,26 +65,35 @@ module _ {F : Family} {adj : Adjacency} {prefix levels : List ℕ} {i c : ℕ} (
     last = getD prefix (i - 1) 0
 
     pub lowest-member : F .member (here ++ v ∷ []) ≡ has (aimIn levels i .goal) v
-    lowest-member =
-        same-test (F .member (here ++ v ∷ [])) (has (aimIn levels i .goal) v) to
-        (λ g. split g (or-either (F .member (here ++ v ∷ [])) (isOpen F (here ++ v ∷ [])) lowest-goes-on))
+    lowest-member = go (decLe first i)
       where
-        told : F .member (here ++ v ∷ []) ≡ (has (aimIn levels i .goal) v && adj last v)
-        told = steers-member (s .steered .steers) (s .steered .isOpened) v
+        -- where the sets steer, an atom that opens and may close a member is bonded to the last one, so it makes one
+        steered-member : Led F adj here last (aimIn levels i) (aimIn levels (suc i)) →
+            F .member (here ++ v ∷ []) ≡ has (aimIn levels i .goal) v
+        steered-member led =
+            same-test (F .member (here ++ v ∷ [])) (has (aimIn levels i .goal) v) to
+            (λ g. split g (or-either (F .member (here ++ v ∷ [])) (isOpen F (here ++ v ∷ [])) lowest-goes-on))
+          where
+            told : F .member (here ++ v ∷ []) ≡ (has (aimIn levels i .goal) v && adj last v)
+            told = steers-member (led .steered .steers) (s .isOpened) v
 
-        to : F .member (here ++ v ∷ []) ≡ true → has (aimIn levels i .goal) v ≡ true
-        to m = and-parts (has (aimIn levels i .goal) v) (adj last v) (sym told ∙ m) .0
+            to : F .member (here ++ v ∷ []) ≡ true → has (aimIn levels i .goal) v ≡ true
+            to m = and-parts (has (aimIn levels i .goal) v) (adj last v) (sym told ∙ m) .0
 
-        split :
-            has (aimIn levels i .goal) v ≡ true →
-            (F .member (here ++ v ∷ []) ≡ true) ⊎ (isOpen F (here ++ v ∷ []) ≡ true) →
-            F .member (here ++ v ∷ []) ≡ true
-        split g (inl m) = m
-        split g (inr o) =
-            let onward : Onward adj last (has (aimIn levels i .goal)) (has (aimIn levels i .free)) v =
-            steers-open (s .steered .steers) (s .steered .isOpened) v .0 o in
-            let bonded = and-parts (has (aimIn levels i .free) v) (adj last v) (onward .touches) .1 in
-            told ∙ and-both (has (aimIn levels i .goal) v) (adj last v) g bonded
+            split :
+                has (aimIn levels i .goal) v ≡ true →
+                (F .member (here ++ v ∷ []) ≡ true) ⊎ (isOpen F (here ++ v ∷ []) ≡ true) →
+                F .member (here ++ v ∷ []) ≡ true
+            split g (inl m) = m
+            split g (inr o) =
+                let onward : Onward adj last (has (aimIn levels i .goal)) (has (aimIn levels i .free)) v =
+                steers-open (led .steered .steers) (s .isOpened) v .0 o in
+                let bonded = and-parts (has (aimIn levels i .free) v) (adj last v) (onward .touches) .1 in
+                told ∙ and-both (has (aimIn levels i .goal) v) (adj last v) g bonded
+
+        go : Dec (first ≤ i) → F .member (here ++ v ∷ []) ≡ has (aimIn levels i .goal) v
+        go (yes h) = steered-member (s .long h)
+        go (no h) = sym (s .short (omega arith) v)
 
     pub lowest-opens : has (aimIn levels i .goal) v ≡ false → isOpen F (here ++ v ∷ []) ≡ true
     lowest-opens g = split (or-either (F .member (here ++ v ∷ [])) (isOpen F (here ++ v ∷ [])) lowest-goes-on)
@@ -104,10 +107,12 @@ module _ {F : Family} {adj : Adjacency} {prefix levels : List ℕ} {i c : ℕ} (
     -- it is tried
     pub stage-lowered :
         {others : List ℕ} → length levels ≡ 774 → i ≤ 128 → LowestLeft (restIn levels i) others →
-        Stage F adj prefix (keptRest levels i others) i (v + 1)
+        Stage F adj first prefix (keptRest levels i others) i (v + 1)
     stage-lowered {others} size most left = record {
-      steered = rw (aim-past-rest levels i others i) (s .steered);
-      handed = rw (aim-past-rest levels i others i, aim-past-rest levels i others (suc i)) (s .handed);
+      lawful = s .lawful;
+      isOpened = s .isOpened;
+      long = rw (aim-past-rest levels i others i, aim-past-rest levels i others (suc i)) (s .long);
+      short = λ h u. ap (λ (aim : Aim). has (aim .goal) u) (aim-past-rest levels i others i) ∙ s .short h u;
       to-try = λ u some.
           rest-kept-same levels i others size most u ∙ left .others v l u ∙
           same-test (has (restIn levels i) u && not (eqb u v)) (leb (v + 1) u && goesOnBy F here u)
@@ -136,15 +141,17 @@ module _ {F : Family} {adj : Adjacency} {prefix levels : List ℕ} {i c : ℕ} (
             (not-of (eqb u v) (ne-eqb u v (λ q. omega arith)))
 
 -- an atom v that opens the beginning is added, and the longer one is planned
-module _ {F : Family} {adj : Adjacency} {prefix levels : List ℕ} {i c : ℕ} where
+module _ {F : Family} {adj : Adjacency} {first : ℕ} {prefix levels : List ℕ} {i c : ℕ} where
   pub stage-added :
-      {v : ℕ} {levels′ : List ℕ} → Stage F adj prefix levels i c → i < length prefix →
-      isOpen F (take i prefix ++ v ∷ []) ≡ true → LevelPlanned adj v (i + 1) levels levels′ →
-      Stage F adj (set prefix i v) levels′ (i + 1) 1
-  stage-added {v} {levels′} s room o planned = record {
-    steered = steered′;
-    handed = rw (last-is, planned .aims-kept (i + 1) (omega arith)) (planned .handed);
-    to-try = λ u some. planned .to-try F (take (i + 1) (set prefix i v)) before u ∙ rw (le-leb 1 u some);
+      {v : ℕ} {levels′ : List ℕ} → Stage F adj first prefix levels i c → i < length prefix → first ≤ suc i →
+      isOpen F (take i prefix ++ v ∷ []) ≡ true → LevelAdded F adj first v (i + 1) (set prefix i v) levels levels′ →
+      Stage F adj first (set prefix i v) levels′ (i + 1) 1
+  stage-added {v} {levels′} s room near o added = record {
+    lawful = s .lawful;
+    isOpened = rw word-is o;
+    long = λ h. rw last-is (added .led before);
+    short = λ h. absurd (omega arith);
+    to-try = λ u some. added .to-try before u ∙ rw (le-leb 1 u some);
   }
     where
       word-is : take (i + 1) (set prefix i v) ≡ take i prefix ++ v ∷ []
@@ -153,22 +160,20 @@ module _ {F : Family} {adj : Adjacency} {prefix levels : List ℕ} {i c : ℕ} w
       last-is : getD (set prefix i v) (i + 1 - 1) 0 ≡ v
       last-is = let one : i + 1 - 1 ≡ i = omega arith in rw one (getD-set-same prefix i v 0 room)
 
-      before : Steered F adj (take (i + 1) (set prefix i v)) v (aimIn levels (i + 1))
-      before =
+      -- the sets that were handed on
+      before : first < i + 1 → Steered F adj (take (i + 1) (set prefix i v)) v (aimIn levels (i + 1))
+      before h =
+          let led = s .long (omega arith) in
           rw (word-is, add-one i)
           (record {
-            lawful = s .steered .lawful;
+            lawful = s .lawful;
             some = long (take i prefix);
             isOpened = o;
             steers =
-                steers-same (λ u. sym (s .handed .goal-left u)) (λ u. sym (s .handed .free-left u))
-                (steers-more (s .steered .steers) v);
+                steers-same (λ u. sym (led .handed .goal-left u)) (λ u. sym (led .handed .free-left u))
+                (steers-more (led .steered .steers) v);
           })
         where
           long : (p : List ℕ) → 1 ≤ length (p ++ v ∷ [])
           long [] = omega arith
           long (a ∷ p) = omega arith
-
-      steered′ :
-          Steered F adj (take (i + 1) (set prefix i v)) (getD (set prefix i v) (i + 1 - 1) 0) (aimIn levels′ (i + 1))
-      steered′ = rw (last-is, planned .aims-kept (i + 1) (omega arith)) before

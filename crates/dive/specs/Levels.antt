@@ -1,12 +1,14 @@
 -- The sets kept by length: those of the beginnings of i atoms have 6 words from place 6 × i on. Nothing to believe:
 -- they serve the proof of the fast loop.
-use Prim.Native.Nat.{ℕ, suc, _+_, _*_, _≤_}
+use Prim.Native.Nat.{ℕ, suc, _+_, _-_, _*_, _≤_, _<_}
 use mathlib.Core.Path.{_≡_}
-use mathlib.Core.Bool.{_||_}
+use mathlib.Core.Bool.{Bool, true, _&&_, _||_}
 use mathlib.Core.List.{List, [], _∷_, _++_}
-use lib.ListN.{length, getD, set}
+use lib.ListN.{length, getD, take, set}
+use lib.Dec.{leb}
 use Rattle.graph.specs.Chordless.{Adjacency}
 use Rattle.enumeration.specs.Words.{Family, isOpen}
+use Rattle.enumeration.specs.Lawful.{Lawful}
 use Rattle.atomset.specs.Set.{has}
 use Rattle.openness.specs.declared.Aim.{Aim}
 use Rattle.openness.specs.Plan.{HandedOn, Steered}
@@ -30,6 +32,10 @@ keptAim levels i aim =
 abbrev pub keptRest : List ℕ → ℕ → List ℕ → List ℕ
 keptRest levels i rest = set (set levels (6 * i + 4) (getD rest 0 0)) (6 * i + 5) (getD rest 1 0)
 
+-- v makes a member of the beginning p, or opens it
+abbrev pub goesOnBy : Family → List ℕ → ℕ → Bool
+goesOnBy F p v = F .member (p ++ v ∷ []) || isOpen F (p ++ v ∷ [])
+
 -- the beginning of `len` atoms with the last atom x is planned: the atoms to be tried are kept, and the sets handed on;
 -- the other lengths are as they were
 pub record LevelPlanned (adj : Adjacency) (x len : ℕ) (before after : List ℕ) : Type 0 where
@@ -37,6 +43,35 @@ pub record LevelPlanned (adj : Adjacency) (x len : ℕ) (before after : List ℕ
   pub handed : HandedOn adj x (aimIn before len) (aimIn after (suc len))
   pub to-try :
       (F : Family) (p : List ℕ) → Steered F adj p x (aimIn before len) → (v : ℕ) →
-      has (restIn after len) v ≡ (F .member (p ++ v ∷ []) || isOpen F (p ++ v ∷ []))
+      has (restIn after len) v ≡ goesOnBy F p v
   pub aims-kept : (i : ℕ) → i ≤ len → aimIn after i ≡ aimIn before i
   pub rests-kept : (i : ℕ) → suc i ≤ len → restIn after i ≡ restIn before i
+
+-- the sets steer the open beginning p, with the last atom x, and are handed on
+pub record Led (F : Family) (adj : Adjacency) (p : List ℕ) (x : ℕ) (aim next : Aim) : Type 0 where
+  pub steered : Steered F adj p x aim
+  pub handed : HandedOn adj x aim next
+
+-- the beginning of `len` atoms in the array, which has got its last atom x, is planned, in a search whose sets steer the
+-- beginnings of `first` atoms or more: the sets of a longer one were handed on, those of one of `first` atoms are made
+pub record LevelAdded (F : Family) (adj : Adjacency) (first x len : ℕ) (prefix before after : List ℕ) : Type 0 where
+  pub size : length after ≡ length before
+  pub aims-kept : (i : ℕ) → i < len → aimIn after i ≡ aimIn before i
+  pub aim-kept : first < len → aimIn after len ≡ aimIn before len
+  pub rests-kept : (i : ℕ) → i < len → restIn after i ≡ restIn before i
+  pub led :
+      (first < len → Steered F adj (take len prefix) x (aimIn before len)) →
+      Led F adj (take len prefix) x (aimIn after len) (aimIn after (suc len))
+  pub to-try :
+      (first < len → Steered F adj (take len prefix) x (aimIn before len)) → (v : ℕ) →
+      has (restIn after len) v ≡ goesOnBy F (take len prefix) v
+
+-- an open beginning of i atoms on the way down, whose next atom is c, and what is kept for its length: from `first` atoms
+-- on the sets steer it; of a shorter one the atoms that make a member are kept as those that may close one. The atoms
+-- still to be tried are those from the next one on that make a member or open it
+pub record Stage (F : Family) (adj : Adjacency) (first : ℕ) (prefix levels : List ℕ) (i c : ℕ) : Type 0 where
+  pub lawful : Lawful F
+  pub isOpened : isOpen F (take i prefix) ≡ true
+  pub long : first ≤ i → Led F adj (take i prefix) (getD prefix (i - 1) 0) (aimIn levels i) (aimIn levels (suc i))
+  pub short : i < first → (v : ℕ) → has (aimIn levels i .goal) v ≡ F .member (take i prefix ++ v ∷ [])
+  pub to-try : (v : ℕ) → 1 ≤ v → has (restIn levels i) v ≡ (leb c v && goesOnBy F (take i prefix) v)

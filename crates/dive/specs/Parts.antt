@@ -1,21 +1,23 @@
 -- What the fast loop asks and returns: trials of which none stops the run lead from one place to another and list these
 -- records. Nothing to believe: the contract of the run is its definition.
-use Prim.Native.Nat.{ℕ, suc, _+_, _-_, _≤_}
+use Prim.Native.Nat.{ℕ, suc, _+_, _-_, _≤_, _<_}
 use mathlib.Core.Path.{_≡_}
-use mathlib.Core.Bool.{_||_}
-use mathlib.Core.List.{List, [], _∷_, _++_}
+use mathlib.Core.Bool.{true}
+use mathlib.Core.List.{List, _++_}
 use lib.ListN.{length, getD, take, drop}
-use Rattle.enumeration.specs.Words.{Family, isOpen}
+use Rattle.enumeration.specs.Words.{Family}
 use Rattle.enumeration.specs.Machine.{State, placed, unwound}
 use Rattle.enumeration.specs.Run.{limit}
 use Rattle.enumeration.specs.Makes.{Makes}
-use Rattle.atomset.specs.Set.{has, linkedBy}
+use Rattle.atomset.specs.Set.{linkedBy}
 use Rattle.search.specs.declared.Search.{Search}
-use Rattle.openness.specs.Plan.{Words, HandedOn, Steered, Beginning}
+use Rattle.search.specs.Place.{kindKept}
+use Rattle.openness.specs.declared.FirstPlan.{FirstPlan}
+use Rattle.openness.specs.Plan.{familyBy, firstLength, FirstTells, Words, Beginning}
 use Rattle.trial.specs.declared.Spot.{Spot}
 use Rattle.trial.specs.Parts.{stackOf, stateAt, HeldWithRoom}
 use Rattle.dive.specs.declared.Dived.{Dived}
-use Rattle.dive.specs.Levels.{aimIn, restIn}
+use Rattle.dive.specs.Levels.{Stage}
 
 -- v is the next atom or above it, or one below it; the trials up to it can be counted
 pub record Rising (at : Spot) (v : ℕ) : Type 0 where
@@ -69,27 +71,47 @@ abbrev pub stateBefore : ℕ → List ℕ → Spot → State
 stateBefore n prefix at =
     placed (unwound n (stackOf prefix (at .len)) (at .next)) (at .trials) (at .extensions) (at .listed)
 
--- what the fast loop starts from: an open beginning of a family, which the sets kept for its length steer
-pub record Descent (n : ℕ) (table : List ℕ) (most : ℕ) (from : Spot) (start : ℕ) (prefix levels out : List ℕ) : Type 0
-  where
-    pub family : Family
-    pub atoms : family .atoms ≡ n
-    pub words : Words n table
-    pub sized : length levels ≡ 774
-    pub standing : HeldWithRoom prefix (from .len)
-    pub some : 1 ≤ from .len
-    pub first : from .next ≡ 1
-    pub steered :
-        Steered family (linkedBy table) (take (from .len) prefix) (getD prefix (from .len - 1) 0)
-        (aimIn levels (from .len))
-    pub handed :
-        HandedOn (linkedBy table) (getD prefix (from .len - 1) 0) (aimIn levels (from .len))
-        (aimIn levels (suc (from .len)))
-    pub to-try :
-        (v : ℕ) → has (restIn levels (from .len)) v ≡
-        (family .member (take (from .len) prefix ++ v ∷ []) || isOpen family (take (from .len) prefix ++ v ∷ []))
-    pub bounds : Bounds from most
-    pub in-room : start ≤ length out
+-- an open beginning in its array, which has got its last atom x and is to be planned
+pub record Added (n : ℕ) (table : List ℕ) (kind s t : ℕ) (prefix levels : List ℕ) (len x : ℕ) : Type 0 where
+  pub begun : Beginning n table kind s t prefix len
+  pub long : firstLength kind ≤ len
+  pub last-is : x ≡ getD prefix (len - 1) 0
+  pub low : 1 ≤ x
+  pub high : x ≤ 128
+  pub sized : length levels ≡ 774
+
+-- a beginning whose next atom is 1, that two sets steer or whose one atom is that of the first plan
+pub record Entered (kind : ℕ) (at : Spot) (prefix : List ℕ) (atom : ℕ) : Type 0 where
+  pub first : at .next ≡ 1
+  pub some : 1 ≤ at .len
+  pub known : at .len < firstLength kind → (at .len ≡ 1) × (getD prefix 0 0 ≡ atom)
+
+-- an open beginning from which the fast loop starts; where two sets do not steer it, the first plan tells of it
+pub record Starting (n : ℕ) (table : List ℕ) (q : Search) (at : Spot) (first : FirstPlan) (prefix levels : List ℕ)
+    : Type 0 where
+  pub begun : Beginning n table (q .kind) (q .s) (q .t) prefix (at .len)
+  pub entered : Entered (q .kind) at prefix (first .atom)
+  pub tells : FirstTells (familyBy n table (q .kind) (q .s) (q .t)) first
+  pub sized : length levels ≡ 774
+
+-- the first beginning of the fast loop and what is kept for it
+abbrev pub FirstStage : ℕ → List ℕ → ℕ → ℕ → ℕ → List ℕ → List ℕ → ℕ → Type 0
+FirstStage n table kind s t prefix levels len =
+    Stage (familyBy n table kind s t) (linkedBy table) (firstLength kind) prefix levels len 1
+
+-- what the fast loop starts from: an open beginning, at most one atom shorter than those that two sets steer
+pub record Descent (n : ℕ) (table : List ℕ) (kind s t most : ℕ) (from : Spot) (start : ℕ) (prefix levels out : List ℕ)
+    : Type 0 where
+  pub words : Words n table
+  pub kinds : kindKept n kind s t ≡ true
+  pub sized : length levels ≡ 774
+  pub standing : HeldWithRoom prefix (from .len)
+  pub some : 1 ≤ from .len
+  pub near : firstLength kind ≤ suc (from .len)
+  pub first : from .next ≡ 1
+  pub stage : FirstStage n table kind s t prefix levels (from .len)
+  pub bounds : Bounds from most
+  pub in-room : start ≤ length out
 
 -- the bytes of the records that were listed, after those that were there, and the bytes used
 pub record Listed (before : List ℕ) (start : ℕ) (bytes after : List ℕ) (used : ℕ) : Type 0 where
@@ -110,9 +132,11 @@ pub record Left (F : Family) (n most : ℕ) (prefix₀ : List ℕ) (from : Spot)
       Makes F (stateBefore n prefix (r .at)) (stateBefore n prefix₀ from) (r .at .trials - from .trials) bytes
   pub listing : Listed out₀ start bytes out (r .used)
 
--- a place of a run of q: an open beginning in its array, counts at most the limit
-pub record Entering (n : ℕ) (table : List ℕ) (q : Search) (at : Spot) (start : ℕ) (prefix levels out : List ℕ) : Type 0
+-- a place of a run of q: an open beginning in its array, counts at most the limit, and a first plan
+pub record Entering (n : ℕ) (table : List ℕ) (q : Search) (at : Spot) (first : FirstPlan) (start : ℕ)
+    (prefix levels out : List ℕ) : Type 0
   where
+    pub tells : FirstTells (familyBy n table (q .kind) (q .s) (q .t)) first
     pub sized : length levels ≡ 774
     pub begun : Beginning n table (q .kind) (q .s) (q .t) prefix (at .len)
     pub standing : HeldWithRoom prefix (at .len)

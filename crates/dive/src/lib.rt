@@ -9,9 +9,11 @@ ghost use Rattle.enumeration.specs.Run.{limit};
 ghost use Rattle.atomset.specs.Set.{linkedBy};
 ghost use Rattle.sweep.specs.Swept.{Symmetric};
 ghost use Rattle.openness.specs.Plan.{familyBy, firstLength};
-ghost use Rattle.dive.specs.Levels.{aimIn, restIn, keptAim, keptRest, LevelPlanned};
-ghost use Rattle.dive.specs.Parts.{Rising, listedAt, extendedAt, droppedAt, Room, Bounds, Descent, Left, Entering, Descended};
+ghost use Rattle.dive.specs.Levels.{aimIn, restIn, keptAim, keptRest, LevelPlanned, LevelAdded};
+ghost use Rattle.dive.specs.Parts.{Rising, listedAt, extendedAt, droppedAt, Room, Bounds, Added, Starting};
+ghost use Rattle.dive.specs.Parts.{FirstStage, Descent, Left, Entering, Entered, Descended};
 use openness::Aim;
+use openness::FirstPlan;
 use search::Search;
 use trial::Spot;
 
@@ -85,6 +87,31 @@ fn plan_level(table: &[u64; 256], levels: &mut [u64; 774], len: usize, x: usize)
     keep_rest(levels, len, rest);
 }
 
+// Plans the beginning of `len` atoms that has got its last atom x. The sets of a longer one were handed on; those of the
+// shortest that two sets steer are made here.
+fn plan_added(
+    table: &[u64; 256],
+    n: usize,
+    kind: usize,
+    s: usize,
+    t: usize,
+    prefix: &[u8; 128],
+    levels: &mut [u64; 774],
+    len: usize,
+    x: usize,
+)
+    requires { ⌜ Added n (now table) kind s t (now prefix) (now levels) len x ⌝ }
+    ensures { λ _. ⌜
+        LevelAdded (familyBy n (now (table .entry)) kind s t) (linkedBy (now (table .entry))) (firstLength kind) x len
+        (now (prefix .entry)) (now (levels .entry)) (now (levels .exit)) ⌝ }
+{
+    if len == openness::first_length(kind) {
+        let aim = openness::first_aim(table, n, kind, s, t, prefix);
+        keep_aim(levels, len, aim);
+    }
+    plan_level(table, levels, len, x);
+}
+
 // The place after the trials from the next atom up to v, of which the last lists its word.
 fn listed(at: Spot, v: usize) -> Spot
     requires { ⌜ Rising at v × (at .listed ≤ limit) ⌝ }
@@ -132,6 +159,9 @@ fn dropped(at: Spot, n: usize, last: usize) -> Spot
 fn dive(
     table: &[u64; 256],
     n: usize,
+    kind: usize,
+    s: usize,
+    t: usize,
     most: u64,
     from: Spot,
     start: usize,
@@ -139,12 +169,10 @@ fn dive(
     levels: &mut [u64; 774],
     out: &mut [u8],
 ) -> Dived
-    requires { ⌜ Descent n (now table) most from start (now prefix) (now levels) (now out) ⌝ }
+    requires { ⌜ Descent n (now table) kind s t most from start (now prefix) (now levels) (now out) ⌝ }
     ensures { λ r. ⌜
-        ((d : Descent n (now (table .entry)) most from start (now (prefix .entry)) (now (levels .entry))
-        (now (out .entry))) →
-        Left (d .family) n most (now (prefix .entry)) from (now (out .entry)) start (now (prefix .exit))
-        (now (out .exit)) r) × (length (now (levels .exit)) ≡ 774) ⌝ }
+        Left (familyBy n (now (table .entry)) kind s t) n most (now (prefix .entry)) from (now (out .entry)) start
+        (now (prefix .exit)) (now (out .exit)) r × (length (now (levels .exit)) ≡ 774) ⌝ }
 {
     let base = from.len;
     let mut at = from;
@@ -175,7 +203,7 @@ fn dive(
             } else {
                 prefix[len] = v as u8;
                 at = extended(at, v);
-                plan_level(table, levels, len + 1, v);
+                plan_added(table, n, kind, s, t, prefix, levels, len + 1, v);
             }
         }
     }
@@ -202,10 +230,11 @@ fn room_for(at: Spot, left: u64) -> u64
     least(extensions, 9_999_999_999_999_999_999 - at.listed)
 }
 
-// Whether the fast loop pays: the last trial has added an atom, two sets steer the beginning, and some hundred trials
-// are left.
-fn enters(kind: usize, at: Spot, left: u64) -> bool
-    ensures { λ r. ⌜ (r ≡ true → (at .next ≡ 1) × (firstLength kind ≤ at .len)) ⌝ }
+// Whether the fast loop pays: the last trial has added an atom, some hundred trials are left, and two sets steer the
+// beginning, or its one atom is that of the first plan.
+fn enters(kind: usize, at: Spot, left: u64, prefix: &[u8; 128], atom: u8) -> bool
+    requires { ⌜ length (now prefix) ≡ 128 ⌝ }
+    ensures { λ r. ⌜ (r ≡ true → Entered kind at (now (prefix .entry)) atom) ⌝ }
 {
     if left < 256 {
         return false;
@@ -213,7 +242,48 @@ fn enters(kind: usize, at: Spot, left: u64) -> bool
     if at.next != 1 {
         return false;
     }
-    openness::first_length(kind) <= at.len
+    if openness::first_length(kind) <= at.len {
+        return true;
+    }
+    if at.len != 1 {
+        return false;
+    }
+    prefix[0] == atom
+}
+
+// Plans the beginning from which the fast loop starts: by its two sets, or, where it is too short for them, as the first
+// plan tells.
+fn plan_start(
+    table: &[u64; 256],
+    n: usize,
+    q: Search,
+    at: Spot,
+    first: FirstPlan,
+    prefix: &[u8; 128],
+    levels: &mut [u64; 774],
+)
+    requires { ⌜ Starting n (now table) q at first (now prefix) (now levels) ⌝ }
+    ensures { λ _. ⌜
+        FirstStage n (now (table .entry)) (q .kind) (q .s) (q .t) (now (prefix .entry)) (now (levels .exit)) (at .len) ×
+        (length (now (levels .exit)) ≡ 774) ⌝ }
+{
+    let len = at.len;
+    if len < openness::first_length(q.kind) {
+        let plan = first.plan;
+        let members = plan.members;
+        let opens = plan.opens;
+        let aim = Aim {
+            goal: members,
+            free: opens,
+        };
+        let rest = atomset::union(members, opens);
+        keep_aim(levels, len, aim);
+        keep_rest(levels, len, rest);
+        return;
+    }
+    let aim = openness::aim_at(table, n, q.kind, q.s, q.t, prefix, len);
+    keep_aim(levels, len, aim);
+    plan_level(table, levels, len, u8_usize(prefix[len - 1]));
 }
 
 // The trials below an open beginning of q whose next atom is 1, as long as none of them can stop the run; then the
@@ -224,23 +294,33 @@ fn below(
     q: Search,
     at: Spot,
     most: u64,
+    first: FirstPlan,
     start: usize,
     prefix: &mut [u8; 128],
     levels: &mut [u64; 774],
     out: &mut [u8],
 ) -> Dived
     requires { ⌜
-        Entering n (now table) q at start (now prefix) (now levels) (now out) × (at .next ≡ 1) ×
-        (firstLength (q .kind) ≤ at .len) × Bounds at most ⌝ }
+        Entering n (now table) q at first start (now prefix) (now levels) (now out) ×
+        Entered (q .kind) at (now prefix) (first .atom) × Bounds at most ⌝ }
     ensures { λ r. ⌜
         Descended (familyBy n (now (table .entry)) (q .kind) (q .s) (q .t)) (now (prefix .entry)) at (most - at .trials)
         (now (out .entry)) start (now (prefix .exit)) (now (out .exit)) r × (length (now (levels .exit)) ≡ 774) ⌝ }
 {
-    let len = at.len;
-    let aim = openness::aim_at(table, n, q.kind, q.s, q.t, prefix, len);
-    keep_aim(levels, len, aim);
-    plan_level(table, levels, len, u8_usize(prefix[len - 1]));
-    let dived = dive(table, n, most, at, start, prefix, levels, out);
+    plan_start(table, n, q, at, first, prefix, levels);
+    let dived = dive(
+        table,
+        n,
+        q.kind,
+        q.s,
+        q.t,
+        most,
+        at,
+        start,
+        prefix,
+        levels,
+        out,
+    );
     let end = dived.at;
     let place = trial::unwind(prefix, end.len, end.next, n);
     let spot = Spot {
@@ -256,26 +336,28 @@ fn below(
     }
 }
 
-// The trials that the fast loop makes from a place of a run of q, if it pays, of at most `left`.
+// The trials that the fast loop makes from a place of a run of q, if it pays, of at most `left`. The first plan tells of
+// a beginning that is too short for two sets.
 pub fn descend(
     table: &[u64; 256],
     n: usize,
     q: Search,
     at: Spot,
     left: u64,
+    first: FirstPlan,
     start: usize,
     prefix: &mut [u8; 128],
     levels: &mut [u64; 774],
     out: &mut [u8],
 ) -> Dived
-    requires { ⌜ Entering n (now table) q at start (now prefix) (now levels) (now out) ⌝ }
+    requires { ⌜ Entering n (now table) q at first start (now prefix) (now levels) (now out) ⌝ }
     ensures { λ r. ⌜
         Descended (familyBy n (now (table .entry)) (q .kind) (q .s) (q .t)) (now (prefix .entry)) at left
         (now (out .entry)) start (now (prefix .exit)) (now (out .exit)) r × (length (now (levels .exit)) ≡ 774) ⌝ }
 {
-    if enters(q.kind, at, left) {
+    if enters(q.kind, at, left, prefix, first.atom) {
         let most = at.trials + room_for(at, left);
-        return below(table, n, q, at, most, start, prefix, levels, out);
+        return below(table, n, q, at, most, first, start, prefix, levels, out);
     }
     Dived {
         at: at,

@@ -95,7 +95,7 @@ fn path_aim(table: &[u64; 256], n: usize, s: usize, t: usize) -> Aim
 }
 
 // The first sets of a beginning, by its kind.
-fn first_aim(
+pub fn first_aim(
     table: &[u64; 256],
     n: usize,
     kind: usize,

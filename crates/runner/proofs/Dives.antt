@@ -9,7 +9,8 @@ use lib.ListN.{length}
 use Rattle.enumeration.proofs.Makes.{makes-valid, makes-bounded}
 use Rattle.search.specs.declared.Search.{Search}
 use Rattle.openness.specs.declared.Plan.{Plan}
-use Rattle.openness.specs.Plan.{Beginning}
+use Rattle.openness.specs.declared.FirstPlan.{FirstPlan}
+use Rattle.openness.specs.Plan.{familyBy, FirstTells, Beginning}
 use Rattle.trial.specs.declared.Spot.{Spot}
 use Rattle.dive.specs.declared.Dived.{Dived}
 use Rattle.dive.specs.Parts.{Entering, Descended}
@@ -31,8 +32,11 @@ module _ {n : ℕ} {table : List ℕ} {q : Search} (ready : Ready n table q) {bu
     isOpened = opened t;
   }
 
-  pub entering : {kept : List ℕ} → length kept ≡ 774 → Entering n table q at used prefix kept out
-  entering size = record {
+  pub entering :
+      {first : FirstPlan} {kept : List ℕ} → FirstTells (familyBy n table (q .kind) (q .s) (q .t)) first →
+      length kept ≡ 774 → Entering n table q at first used prefix kept out
+  entering tells size = record {
+    tells = tells;
     sized = size;
     begun = begun;
     standing = t .standing;

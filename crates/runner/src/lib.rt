@@ -163,7 +163,18 @@ fn run_trials(table: &[u64; 256], n: usize, q: Search, budget: u64, out: &mut [u
         made += 1;
         stale = trial::is_stale(len, tried.len);
         let left = budget - made;
-        let dived = dive::descend(table, n, q, tried, left, used, &mut prefix, &mut kept, out);
+        let dived = dive::descend(
+            table,
+            n,
+            q,
+            tried,
+            left,
+            first,
+            used,
+            &mut prefix,
+            &mut kept,
+            out,
+        );
         at = dived.at;
         used = dived.used;
         made += at.trials - tried.trials;

@@ -12,8 +12,7 @@ below-requires c κs =
     let answer : tie.After-enters = search in
     let enters : tie.Then1 = search in
     let room : tie.After-room-for = search in
-    let (first, long) = answer .enters .ensures (enters .if1 .taken) in
-    (start .pre, first, long, room-bounds (room .room-for .ensures))
+    (start .pre, answer .enters .ensures (enters .if1 .taken), room-bounds (room .room-for .ensures))
 
 returns : tie.Need-returns
 returns c =

@@ -11,17 +11,17 @@ use Rattle.atomset.specs.Set.{has, Lowest, LowestLeft}
 use Rattle.dive.specs.Levels.{restIn, aimIn}
 use Rattle.dive.specs.Parts.{Descent}
 use Rattle.dive.proofs.Descents.{Diving, diving-starts, diving-left, closing-told}
-use Rattle.dive.proofs.Descents.{Tries, drops, rising, kept-size, falls-by, lists, extends-length, extends}
+use Rattle.dive.proofs.Descents.{Tries, drops, rising, kept-size, falls-by, lists, extends-added, extends}
 use Rattle.dive.proofs.Listings.{listed-length, listed-within, room-in-part}
 use Rattle.dive.proofs.dive.Statement.{statement}
 use Rattle.dive.proofs.dive.Tie as tie
 
 abbrev Inv-loop : tie.InvT-loop
-Inv-loop table n most start prefix₀ levels₀ out₀ base at₀ used₀ prefix levels out at used =
-    (d : Descent n table most at₀ start prefix₀ levels₀ out₀) → Diving d prefix levels out at used
+Inv-loop table n kind s t most start prefix₀ levels₀ out₀ base at₀ used₀ prefix levels out at used =
+    (d : Descent n table kind s t most at₀ start prefix₀ levels₀ out₀) → Diving d prefix levels out at used
 
 abbrev μ-loop : tie.MeasureT-loop
-μ-loop table n most start prefix₀ levels₀ out₀ base at₀ used₀ prefix levels out at used =
+μ-loop table n kind s t most start prefix₀ levels₀ out₀ base at₀ used₀ prefix levels out at used =
     129 * (most - at .trials) + at .len
 
 abbrev Place : (tie.InvT-loop → tie.MeasureT-loop → Type 0) → Type 0
@@ -245,18 +245,14 @@ extended-requires c κs =
     let k = diving (loop (here t)) in
     (rising _ k (tries t), k .held .within .most, omega (arith, k .bounds))
 
-add-plan-level : tie.Need-add-plan-level Inv-loop μ-loop
-add-plan-level c = omega (arith, diving (search) .held .short)
+add-plan-added : tie.Need-add-plan-added Inv-loop μ-loop
+add-plan-added c = omega (arith, diving (search) .held .short)
 
-plan-level-requires : tie.Need-plan-level-requires Inv-loop μ-loop
-plan-level-requires c κs =
+plan-added-requires : tie.Need-plan-added-requires Inv-loop μ-loop
+plan-added-requires c κs =
     let t : Place tie.After-contains = search in
     let else4 : Place tie.Else4 = search in
-    let k = diving (loop (here t)) in
-    let l = lowest-in (others t .before) in
-    let size = kept-size _ k (tries t) in
-    let short = extends-length _ k (tries t) (closes t ∙ else4 .if4 .left) in
-    (start (loop (here t)) .pre .words .symmetric, short, l .low, l .high, size)
+    extends-added _ (diving (loop (here t))) (tries t) (closes t ∙ else4 .if4 .left)
 
 loop-less-3 : tie.Need-loop-less-3 Inv-loop μ-loop
 loop-less-3 c =
@@ -270,7 +266,7 @@ loop-again-3 c d =
     let else4 : Place tie.Else4 = search in
     let extended : Place tie.After-extended = search in
     extends d (loop (here t) .loop .inv d) (tries t)
-    (closes t ∙ else4 .if4 .left) (c .plan-level .ensures) (extended .extended .ensures)
+    (closes t ∙ else4 .if4 .left) (c .plan-added .ensures) (extended .extended .ensures)
 
 -- ---- the ways out
 
@@ -278,13 +274,13 @@ same-length : tie.Need-same-length Inv-loop μ-loop
 same-length c = listed-length (diving (search) .listing)
 
 returns : tie.Need-returns Inv-loop μ-loop
-returns c = let loop : Place tie.At-loop = search in (λ d. diving-left d (loop .loop .inv d), diving loop .size)
+returns c = let loop : Place tie.At-loop = search in (diving-left _ (diving loop), diving loop .size)
 
 same-length-2 : tie.Need-same-length-2 Inv-loop μ-loop
 same-length-2 c = listed-length (diving (search) .listing)
 
 returns-2 : tie.Need-returns-2 Inv-loop μ-loop
-returns-2 c = let loop : Place tie.At-loop = search in (λ d. diving-left d (loop .loop .inv d), diving loop .size)
+returns-2 c = let loop : Place tie.At-loop = search in (diving-left _ (diving loop), diving loop .size)
 
 same-length-3 : tie.Need-same-length-3 Inv-loop μ-loop
 same-length-3 c = listed-length (diving (search) .listing)
@@ -293,7 +289,7 @@ returns-3 : tie.Need-returns-3 Inv-loop μ-loop
 returns-3 c =
     let t : Place tie.After-contains = search in
     let now = loop (here t) in
-    (λ d. diving-left d (now .loop .inv d), kept-size _ (diving now) (tries t))
+    (diving-left _ (diving now), kept-size _ (diving now) (tries t))
 
 pub dive-spec : {M : Type 1} → statement M
 dive-spec =
@@ -303,5 +299,5 @@ dive-spec =
     (λ c κs. tt) sub-prefix element-write-prefix dropped-requires loop-less loop-again lowest-requires
     without-lowest-requires keep-rest-requires aim-in-requires contains-requires sub-if5 add-if5 sub-put-record
     part-put-record-start (λ c. omega arith) put-record-requires add-used add-used-2 listed-requires loop-less-2
-    loop-again-2 cast-prefix element-write-prefix-2 extended-requires add-plan-level plan-level-requires loop-less-3
+    loop-again-2 cast-prefix element-write-prefix-2 extended-requires add-plan-added plan-added-requires loop-less-3
     loop-again-3 same-length returns same-length-2 returns-2 same-length-3 returns-3)

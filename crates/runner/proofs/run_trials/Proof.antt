@@ -304,7 +304,7 @@ sub-left c = turned c .going .in-budget
 descend-requires : tie.Need-descend-requires Inv-loop μ-loop
 descend-requires c κs =
     let after : Place tie.After-is-stale = search in
-    entering (start (stood after) .pre) (turned after) (stood after .loop .inv .sized)
+    entering (start (stood after) .pre) (turned after) (first-tells (search)) (stood after .loop .inv .sized)
 
 sub-made : tie.Need-sub-made Inv-loop μ-loop
 sub-made c = let dived : Place tie.After-descend = search in omega (arith, dived .descend .ensures .0 .more)
