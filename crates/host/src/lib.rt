@@ -56,11 +56,10 @@ pub extern "C" fn ringlist_resume(
 {
     let read = sheet::read_sheet(sheet);
     let read_answer = read.answer;
-    let m = read.molecule;
     match read_answer {
         Answer::Refused(r) => refusal::number(r),
         Answer::Accepted => {
-            let made = search_for(m, mark);
+            let made = search_for(read.molecule, mark);
             let made_answer = made.answer;
             let q = made.search;
             match made_answer {
@@ -69,7 +68,7 @@ pub extern "C" fn ringlist_resume(
                     if next_mark.len() < 599 {
                         return refusal::number(Refusal::MarkRoom);
                     }
-                    run_and_save(m, q, budget, rings, next_mark)
+                    run_and_save(read.molecule, q, budget, rings, next_mark)
                 }
             }
         }

@@ -17,7 +17,7 @@ start c = c .before .before .before .before .before
 
 -- from where the sheet is accepted
 abbrev reads : tie.After-enum-told → tie.After-read-sheet
-reads c = c .before .before .before
+reads c = c .before .before
 
 -- from where the mark is accepted
 abbrev makes : tie.After-enum-told2 → tie.After-search-for
