@@ -46,10 +46,9 @@ pub record ReadsLines (s : List ℕ) (lines : ℕ) (right : Bool) (values : List
   pub ok : right ≡ allBelow lines (lineKept s)
   pub values-are : right ≡ true → Decodes values (lineOf s) lines
 
--- so many atoms and bonds fit a molecule record, and the list of values has room for the bonds
+-- so many atoms fit a molecule record, and the list of values has room for so many bonds
 pub record FitsRecord (n : ℕ) (values : List ℕ) (m : ℕ) : Type 0 where
   pub few : n ≤ 128
-  pub short : m ≤ 1024
   pub room : RoomFor (m + 1) values
 
 -- they do, and the bonds keep rules 6 and 7

@@ -35,10 +35,10 @@ returns-2 c =
 
 fill-requires : tie.Need-fill-requires
 fill-requires c κs =
-    let begin : tie.Start = search in
+    let start : tie.Start = search in
     let test : tie.After-none-to-itself = search in
     record {
-      fits = begin .pre;
+      fits = start .pre;
       atoms = atoms-kept (search);
       apart = sym (test .none-to-itself .ensures) ∙ not-false _ (c .if2 .left);
     }

@@ -31,13 +31,13 @@ known :
     StoredSheet (start decoded .args .s .now) (decoded .decode .last .1 .1 .0) (first c .u16-usize .result)
     (c .u16-usize2 .result)
 known c =
-    let begin : tie.Start = search in
+    let start : tie.Start = search in
     let right : tie.Else1 = search in
     let lines = decoded (first c) .decode .ensures in
     let ok = not-false _ (right .if1 .left) in
     record {
-      long = begin .pre .long;
-      whole = begin .pre .whole;
+      long = start .pre .long;
+      whole = start .pre .whole;
       lines = sym (lines .ok) ∙ ok;
       decodes = lines .values-are ok;
       first = first c .u16-usize .ensures .same;
@@ -47,14 +47,14 @@ known c =
 -- ---- the needs: room for the lines, and the rule that each return met
 
 decode-requires : tie.Need-decode-requires
-decode-requires c κs = let begin : tie.Start = search in begin .pre .lines
+decode-requires c κs = let start : tie.Start = search in start .pre .lines
 
 returns : tie.Need-returns
 returns c =
-    let begin : tie.Start = search in
+    let start : tie.Start = search in
     let decode : tie.After-decode = search in
     let broken = sym (decode .decode .ensures .ok) ∙ not-true _ (c .before .if1 .taken) in
-    c .refused .ensures ∙ sym (sheet-bytes _ (begin .pre .long) (begin .pre .whole) broken)
+    c .refused .ensures ∙ sym (sheet-bytes _ (start .pre .long) (start .pre .whole) broken)
 
 returns-2 : tie.Need-returns-2
 returns-2 c = c .refused2 .ensures ∙ sym (stored-atoms (known (search)) (c .before .if2 .taken))
@@ -72,7 +72,7 @@ returns-4 c =
     ∙ sym (stored-size (known (search)) (few .if2 .left) (light .if3 .left) (c .before .if4 .taken))
 
 read-bonds-requires : tie.Need-read-bonds-requires
-read-bonds-requires c κs = record { few = omega arith; short = omega arith; room = omega arith }
+read-bonds-requires c κs = record { few = omega arith; room = omega arith }
 
 returns-5 : tie.Need-returns-5
 returns-5 c =
