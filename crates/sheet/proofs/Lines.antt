@@ -18,7 +18,7 @@ use Rattle.fields.proofs.Laws.{read-fits}
 use Rattle.sheet.specs.declared.Entry.{Entry}
 use Rattle.sheet.specs.Bonds.{Bond}
 use Rattle.sheet.specs.Read.{lineKept, lineOf}
-use Rattle.sheet.specs.Parts.{stored, Decodes, ReadsLine, ReadsLines}
+use Rattle.sheet.specs.Parts.{stored, RoomFor, Decodes, ReadsLine, Decodable, ReadsLines}
 
 -- ---- one line
 
@@ -67,7 +67,7 @@ field-small s at {v} e =
 
 -- ---- the list of values, with the numbers a and b of line i put at place k of it
 
-module _ (values : List ℕ) (line : ℕ → Bond) (i a b k : ℕ) (size : length values ≡ 2052) (place : k ≡ min i 1025) where
+module _ (values : List ℕ) (line : ℕ → Bond) (i a b k : ℕ) (room : RoomFor (k + 1) values) (slot : k ≡ min i 1025) where
   abbrev one : List ℕ
   one = set values (2 * k) a
 
@@ -77,10 +77,10 @@ module _ (values : List ℕ) (line : ℕ → Bond) (i a b k : ℕ) (size : lengt
   stored-here : stored both k ≡ (a, b)
   unfolding stored
   stored-here =
-      let room : 2 * k + 1 < length one = rw length-set (omega arith) in
+      let room-one : 2 * k + 1 < length one = rw length-set (omega arith) in
       let other = getD-set-other one (2 * k + 1) (2 * k) b 0 (omega arith) in
       let left = other ∙ getD-set-same values (2 * k) a 0 (omega arith) in
-      let right = getD-set-same one (2 * k + 1) b 0 room in
+      let right = getD-set-same one (2 * k + 1) b 0 room-one in
       ap₂ (λ x y. (x, y)) left right
 
   stored-other : (j : ℕ) → (j ≡ k → ⊥) → stored both j ≡ stored values j
@@ -108,18 +108,27 @@ module _ (values : List ℕ) (line : ℕ → Bond) (i a b k : ℕ) (size : lengt
               ap (stored both) same ∙ stored-here ∙ new ∙ ap line (sym e)
 
 -- ---- the loop over the lines: those before i are kept, and their numbers are stored
+-- `start` is the list of values before the first
 
-pub record Decoding (s : List ℕ) (lines : ℕ) (values : List ℕ) (i : ℕ) : Type 0 where
+pub record Decoding (s : List ℕ) (lines : ℕ) (start values : List ℕ) (i : ℕ) : Type 0 where
   pub most : i ≤ lines
   pub kept : allBelow i (lineKept s) ≡ true
-  pub size : length values ≡ 2052
+  pub size : length values ≡ length start
+  pub decodable : Decodable s lines start
   pub decodes : Decodes values (lineOf s) i
 
-pub decoding-none : {s : List ℕ} {lines : ℕ} {values : List ℕ} → length values ≡ 2052 → Decoding s lines values 0
-decoding-none size =
-    record { most = omega arith; kept = refl; size = size; decodes = record { at = λ i h. absurd (omega arith) } }
+pub decoding-none :
+    {s : List ℕ} {lines : ℕ} {start : List ℕ} → Decodable s lines start → Decoding s lines start start 0
+decoding-none decodable =
+    record {
+      most = omega arith;
+      kept = refl;
+      size = refl;
+      decodable = decodable;
+      decodes = record { at = λ i h. absurd (omega arith) };
+    }
 
-module _ {s : List ℕ} {lines : ℕ} {values : List ℕ} {i : ℕ} (now : Decoding s lines values i) where
+module _ {s : List ℕ} {lines : ℕ} {start values : List ℕ} {i : ℕ} (now : Decoding s lines start values i) where
   module _ {l : Entry} (more : i < lines) (reads : ReadsLine s i l) where
     -- a line that is not kept
     pub decoding-bad : l .ok ≡ false → ReadsLines s lines false values
@@ -132,15 +141,16 @@ module _ {s : List ℕ} {lines : ℕ} {values : List ℕ} {i : ℕ} (now : Decod
     -- one line more
     pub decoding-more :
         {k : ℕ} → l .ok ≡ true → k ≡ min i 1025 →
-        Decoding s lines (set (set values (2 * k) (l .left)) (2 * k + 1) (l .right)) (i + 1)
+        Decoding s lines start (set (set values (2 * k) (l .left)) (2 * k + 1) (l .right)) (i + 1)
     decoding-more {k} ok place =
+        let here : RoomFor (k + 1) values = omega (arith, now .decodable .room, now .size) in
         record {
           most = omega arith;
           kept = all-more i (lineKept s) (now .kept) (sym (reads .ok) ∙ ok);
           size = simp length-set (now .size);
+          decodable = now .decodable;
           decodes =
-              decodes-more values (lineOf s) i (l .left) (l .right) k (now .size) place (now .decodes)
-              (reads .values ok);
+              decodes-more values (lineOf s) i (l .left) (l .right) k here place (now .decodes) (reads .values ok);
         }
 
   -- all of them

@@ -1,5 +1,5 @@
 -- What the parts of the reader hold. Nothing to believe: the reader's contract is `readSheet`.
-use Prim.Native.Nat.{ℕ, suc, _+_, _*_, _≤_, _<_}
+use Prim.Native.Nat.{ℕ, suc, min, _+_, _*_, _/_, _%_, _≤_, _<_}
 use mathlib.Core.Path.{_≡_}
 use mathlib.Core.Bool.{Bool, true}
 use mathlib.Core.List.{List}
@@ -26,27 +26,36 @@ pub record ReadsLine (s : List ℕ) (i : ℕ) (r : Entry) : Type 0 where
   pub ok : r .ok ≡ lineKept s i
   pub values : r .ok ≡ true → (r .left, r .right) ≡ lineOf s i
 
--- so many lines are in the bytes, and the list of values has room for all that is stored
+-- the list of values has a place for each of so many lines
+abbrev pub RoomFor : ℕ → List ℕ → Type 0
+RoomFor lines values = 2 * lines ≤ length values
+
+-- so many lines are in the bytes, and the list of values has room for them: lines past the first 1,025 share a place
 pub record Decodable (s : List ℕ) (lines : ℕ) (values : List ℕ) : Type 0 where
   pub inside : 9 * lines ≤ length s
-  pub size : length values ≡ 2052
+  pub room : RoomFor (min lines 1026) values
+
+-- bytes that keep rule 1, and their lines can be stored
+pub record WholeLines (s values : List ℕ) : Type 0 where
+  pub long : 9 ≤ length s
+  pub whole : length s % 9 ≡ 0
+  pub lines : Decodable s (length s / 9) values
 
 -- every line that was read: whether all are right, and the list of values
 pub record ReadsLines (s : List ℕ) (lines : ℕ) (right : Bool) (values : List ℕ) : Type 0 where
   pub ok : right ≡ allBelow lines (lineKept s)
   pub values-are : right ≡ true → Decodes values (lineOf s) lines
 
--- so many atoms and bonds fit a molecule record
-pub record FitsRecord (n m : ℕ) : Type 0 where
+-- so many atoms fit a molecule record, and the list of values has room for so many bonds
+pub record FitsRecord (n : ℕ) (values : List ℕ) (m : ℕ) : Type 0 where
   pub few : n ≤ 128
-  pub short : m ≤ 1024
+  pub room : RoomFor (m + 1) values
 
--- bonds that keep rules 6 and 7, few enough for a molecule record
-pub record Fillable (n : ℕ) (bond : ℕ → Bond) (m : ℕ) : Type 0 where
-  pub few : n ≤ 128
-  pub short : m ≤ 1024
-  pub atoms : atomsKept n bond m ≡ true
-  pub apart : noneToItself bond m ≡ true
+-- they do, and the bonds keep rules 6 and 7
+pub record Fillable (n : ℕ) (values : List ℕ) (m : ℕ) : Type 0 where
+  pub fits : FitsRecord n values m
+  pub atoms : atomsKept n (storedBond values) m ≡ true
+  pub apart : noneToItself (storedBond values) m ≡ true
 
 -- row i and column j, both counted from 0, are a cell of the rows
 pub record CellIn (rows : List ℕ) (i j : ℕ) : Type 0 where

@@ -4,7 +4,8 @@ ghost use Prim.Native.Nat.{min, _+_, _*_, _≤_};
 ghost use lib.ListN.{length};
 ghost use Rattle.sheet.specs.Bonds.{atomsKept, noneToItself, withCell};
 ghost use Rattle.sheet.specs.Read.{refusedSheet, readBonds, readSheet};
-ghost use Rattle.sheet.specs.Parts.{storedBond, ReadsLine, Decodable, ReadsLines, FitsRecord, Fillable, CellIn};
+ghost use Rattle.sheet.specs.Parts.{storedBond, ReadsLine, Decodable, ReadsLines, RoomFor, FitsRecord, Fillable};
+ghost use Rattle.sheet.specs.Parts.{CellIn, WholeLines};
 use fields::Number;
 use molecule::Molecule;
 use refusal::Answer;
@@ -70,7 +71,7 @@ fn slot(i: usize) -> usize
 }
 
 // Every line of a sheet: whether all are right, with the numbers of the first 1,025 put into values.
-fn decode(s: &[u8], lines: usize, values: &mut [u16; 2052]) -> bool
+fn decode(s: &[u8], lines: usize, values: &mut [u16]) -> bool
     requires { ⌜ Decodable (now s) lines (now values) ⌝ }
     ensures { λ r. ⌜ ReadsLines (now (s .entry)) lines r (now (values .exit)) ⌝ }
 {
@@ -89,8 +90,8 @@ fn decode(s: &[u8], lines: usize, values: &mut [u16; 2052]) -> bool
 }
 
 // Rule 6: whether every bond's atoms are from 1 to n.
-fn atoms_kept(values: &[u16; 2052], n: usize, m: usize) -> bool
-    requires { ⌜ m ≤ 1024 ⌝ }
+fn atoms_kept(values: &[u16], n: usize, m: usize) -> bool
+    requires { ⌜ RoomFor (m + 1) (now values) ⌝ }
     ensures { λ r. ⌜ r ≡ atomsKept n (storedBond (now (values .entry))) m ⌝ }
 {
     let mut k: usize = 0;
@@ -107,8 +108,8 @@ fn atoms_kept(values: &[u16; 2052], n: usize, m: usize) -> bool
 }
 
 // Rule 7: whether no bond joins an atom to itself.
-fn none_to_itself(values: &[u16; 2052], m: usize) -> bool
-    requires { ⌜ m ≤ 1024 ⌝ }
+fn none_to_itself(values: &[u16], m: usize) -> bool
+    requires { ⌜ RoomFor (m + 1) (now values) ⌝ }
     ensures { λ r. ⌜ r ≡ noneToItself (storedBond (now (values .entry))) m ⌝ }
 {
     let mut k: usize = 0;
@@ -147,8 +148,8 @@ fn refused(r: Refusal) -> SheetAnswer
 }
 
 // Rule 8, and the rows of bonds that keep rules 6 and 7.
-fn fill(values: &[u16; 2052], n: usize, m: usize) -> SheetAnswer
-    requires { ⌜ Fillable n (storedBond (now values)) m ⌝ }
+fn fill(values: &[u16], n: usize, m: usize) -> SheetAnswer
+    requires { ⌜ Fillable n (now values) m ⌝ }
     ensures { λ r. ⌜ r ≡ readBonds n (storedBond (now (values .entry))) m ⌝ }
 {
     let mut rows = [0u8; 2048];
@@ -175,8 +176,8 @@ fn fill(values: &[u16; 2052], n: usize, m: usize) -> SheetAnswer
 }
 
 // Rules 6, 7 and 8.
-fn read_bonds(values: &[u16; 2052], n: usize, m: usize) -> SheetAnswer
-    requires { ⌜ FitsRecord n m ⌝ }
+fn read_bonds(values: &[u16], n: usize, m: usize) -> SheetAnswer
+    requires { ⌜ FitsRecord n (now values) m ⌝ }
     ensures { λ r. ⌜ r ≡ readBonds n (storedBond (now (values .entry))) m ⌝ }
 {
     if !atoms_kept(values, n, m) {
@@ -188,18 +189,12 @@ fn read_bonds(values: &[u16; 2052], n: usize, m: usize) -> SheetAnswer
     fill(values, n, m)
 }
 
-// Reads a bond sheet: any bytes give the molecule record of exactly its bonds, or one refusal.
-pub fn read_sheet(s: &[u8]) -> SheetAnswer
+// Rules 2 to 8 of a sheet of whole lines; values takes the numbers of the first 1,025.
+fn read_lines(s: &[u8], values: &mut [u16]) -> SheetAnswer
+    requires { ⌜ WholeLines (now s) (now values) ⌝ }
     ensures { λ r. ⌜ r ≡ readSheet (now (s .entry)) ⌝ }
 {
-    if s.len() < 9 {
-        return refused(Refusal::SheetLength);
-    }
-    if s.len() % 9 != 0 {
-        return refused(Refusal::SheetLength);
-    }
-    let mut values = [0u16; 2052];
-    if !decode(s, s.len() / 9, &mut values) {
+    if !decode(s, s.len() / 9, values) {
         return refused(Refusal::SheetBytes);
     }
     let n = u16_usize(values[0]);
@@ -213,5 +208,24 @@ pub fn read_sheet(s: &[u8]) -> SheetAnswer
     if s.len() != 9 * (m + 1) {
         return refused(Refusal::SheetSize);
     }
-    read_bonds(&values, n, m)
+    read_bonds(values, n, m)
+}
+
+// Reads a bond sheet: any bytes give the molecule record of exactly its bonds, or one refusal.
+pub fn read_sheet(s: &[u8]) -> SheetAnswer
+    ensures { λ r. ⌜ r ≡ readSheet (now (s .entry)) ⌝ }
+{
+    if s.len() < 9 {
+        return refused(Refusal::SheetLength);
+    }
+    if s.len() % 9 != 0 {
+        return refused(Refusal::SheetLength);
+    }
+    // The numbers of 128 lines fit a small array, which is cheaper to make.
+    if s.len() <= 1152 {
+        let mut few = [0u16; 256];
+        return read_lines(s, &mut few);
+    }
+    let mut values = [0u16; 2052];
+    read_lines(s, &mut values)
 }

@@ -23,6 +23,10 @@ abbrev μ-loop : tie.MeasureT-loop
 abbrev Place : (tie.InvT-loop → tie.MeasureT-loop → Type 0) → Type 0
 Place place = place Inv-loop μ-loop
 
+-- from where a turn begins
+abbrev start : Place tie.In-loop → Place tie.Start
+start c = c .before .before .before
+
 -- from where the first atom is tested
 abbrev turn : Place tie.After-is-atom → Place tie.In-loop
 turn c = c .before .before .before
@@ -35,23 +39,23 @@ first c = c .before .before .before .before
 
 left-told :
     (c : Place tie.After-is-atom) →
-    let head = turn c .before in
-    let args = head .before .args in
-    isAtom (args .n) (left (args .values .now) (head .loop .k)) ≡ c .is-atom .result
+    let here = turn c in
+    let args = start here .args in
+    isAtom (args .n) (left (args .values .now) (here .before .loop .k)) ≡ c .is-atom .result
 left-told c = rw (c .before .u16-usize .ensures .same) at (sym (c .is-atom .ensures))
 
 right-told :
     (c : Place tie.After-is-atom2) →
-    let head = turn (first c) .before in
-    let args = head .before .args in
-    isAtom (args .n) (right (args .values .now) (head .loop .k)) ≡ c .is-atom2 .result
+    let here = turn (first c) in
+    let args = start here .args in
+    isAtom (args .n) (right (args .values .now) (here .before .loop .k)) ≡ c .is-atom2 .result
 right-told c = rw (c .before .u16-usize2 .ensures .same) at (sym (c .is-atom2 .ensures))
 
 left-kept :
     (c : Place tie.Else1) →
-    let head = turn (c .before) .before in
-    let args = head .before .args in
-    isAtom (args .n) (left (args .values .now) (head .loop .k)) ≡ true
+    let here = turn (c .before) in
+    let args = start here .args in
+    isAtom (args .n) (left (args .values .now) (here .before .loop .k)) ≡ true
 left-kept c = left-told (search) ∙ not-false _ (c .if1 .left)
 
 -- ---- the needs

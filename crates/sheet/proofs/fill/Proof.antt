@@ -26,6 +26,10 @@ abbrev μ-loop : tie.MeasureT-loop
 abbrev Place : (tie.InvT-loop → tie.MeasureT-loop → Type 0) → Type 0
 Place place = place Inv-loop μ-loop
 
+-- from where a turn begins
+abbrev start : Place tie.In-loop → Place tie.Start
+start c = c .before .before .before
+
 -- from where the bond's second atom is read, and its first
 abbrev first : Place tie.After-u16-usize2 → Place tie.After-u16-usize
 first c = c .before .before
@@ -42,22 +46,22 @@ read c = c .before .before
 -- the bond of the turn c has the atoms a and b
 abbrev Here : Place tie.In-loop → ℕ → ℕ → Type 0
 Here c a b =
-    let args = c .before .before .args in
+    let args = start c .args in
     let loop = c .before .loop in
     AtBond (args .n) (storedBond (args .values .now)) (args .m) (loop .k) (loop .rows) a b
 
 -- its two numbers in the array are a and b
 abbrev Stored : Place tie.In-loop → ℕ → ℕ → Type 0
 Stored c a b =
-    let values = c .before .before .args .values .now in
+    let values = start c .args .values .now in
     let k = c .before .loop .k in
     (a ≡ left values k) × (b ≡ right values k)
 
 at-turn : (c : Place tie.In-loop) {a b : ℕ} → Stored c a b → Here c a b
 at-turn c stored =
-    let pre = c .before .before .pre in
+    let pre = start c .pre in
     record {
-      kept = kept-of (pre .few) (pre .atoms) (pre .apart);
+      kept = kept-of (pre .fits .few) (pre .atoms) (pre .apart);
       filled = c .before .loop .inv;
       more = c .loop-test .taken;
       atoms = bond-read _ _ ∙ rw (stored .0, stored .1);

@@ -10,10 +10,14 @@ use Rattle.sheet.proofs.Answers.{bonds-out, bonds-self}
 use Rattle.sheet.proofs.read_bonds.Statement.{statement}
 use Rattle.sheet.proofs.read_bonds.Tie as tie
 
+-- from where rule 6 is tested
+abbrev start : tie.After-atoms-kept → tie.Start
+start c = c .before .before
+
 -- rule 6 is kept
 atoms-kept :
     (c : tie.Else1) →
-    let args = c .before .before .args in
+    let args = start (c .before) .args in
     atomsKept (args .n) (storedBond (args .values .now)) (args .m) ≡ true
 atoms-kept c = sym (c .before .atoms-kept .ensures) ∙ not-false _ (c .if1 .left)
 
@@ -34,8 +38,7 @@ fill-requires c κs =
     let start : tie.Start = search in
     let test : tie.After-none-to-itself = search in
     record {
-      few = start .pre .few;
-      short = start .pre .short;
+      fits = start .pre;
       atoms = atoms-kept (search);
       apart = sym (test .none-to-itself .ensures) ∙ not-false _ (c .if2 .left);
     }
