@@ -457,3 +457,35 @@ module _ {words rest : List ℕ} {answer : Bool} {v : ℕ} (l : Lowest words v) 
         sole = λ none u w a b. only-lowest none u a ∙ sym (only-lowest none w b);
         two = other-atom;
       }
+
+-- ---- whether the lowest atom is in another set
+
+-- `alone` are the atoms of the set that are not left without its lowest, `shared` those of them in the other set
+module _ (other : ℕ → Bool) {words rest shared : List ℕ} {alone : ℕ → Bool} {none : Bool} (left : LowestLeft words rest)
+    (alone-is : (u : ℕ) → alone u ≡ (has words u && not (has rest u)))
+    (shared-is : (u : ℕ) → has shared u ≡ (other u && alone u)) (empty : Emptiness shared none)
+    (v : ℕ) (l : Lowest words v) where
+  alone-lowest : (u : ℕ) → alone u ≡ eqb u v
+  alone-lowest u = alone-is u ∙ rw (left .others v l u) (cases (has words u) (eqb u v) held)
+    where
+      held : eqb u v ≡ true → has words u ≡ true
+      held e = rw (eqb-true u v e) (l .member)
+
+      cases : (a same : Bool) → (same ≡ true → a ≡ true) → a && not (a && not same) ≡ same
+      cases true true h = refl
+      cases true false h = refl
+      cases false true h = h refl
+      cases false false h = refl
+
+  pub lowest-shared : not none ≡ other v
+  lowest-shared = go (either none)
+    where
+      go : (none ≡ true) ⊎ (none ≡ false) → not none ≡ other v
+      go (inl e) =
+          rw e
+          (sym (empty .none e v) ∙ shared-is v ∙
+          rw (alone-lowest v, eq-eqb v v refl) (and-true (other v)))
+      go (inr e) =
+          let (u, held) = empty .some e in
+          let (in-other, in-alone) = and-parts (other u) (alone u) (sym (shared-is u) ∙ held) in
+          rw (e, ← eqb-true u v (sym (alone-lowest u) ∙ in-alone)) (sym in-other)

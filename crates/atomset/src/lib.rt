@@ -140,6 +140,16 @@ pub fn without_lowest(x: [u64; 2]) -> [u64; 2]
     [0, x[1] & (x[1] - 1)]
 }
 
+// Whether the lowest atom of x is in y; `rest` is x without it. By words alone: it is faster than by the atom.
+pub fn lowest_in(x: [u64; 2], rest: [u64; 2], y: [u64; 2]) -> bool
+    requires { ⌜ LowestLeft x rest ⌝ }
+    ensures { λ r. ⌜ ((v : ℕ) → Lowest x v → r ≡ has y v) ⌝ }
+{
+    let alone = minus(x, rest);
+    let shared = intersection(y, alone);
+    !is_empty(shared)
+}
+
 // Whether the set has at most one atom.
 pub fn at_most_one(x: [u64; 2]) -> bool
     ensures { λ r. ⌜ AtMostOne x r ⌝ }

@@ -193,7 +193,7 @@ fn dive(
             keep_rest(levels, len, others);
             let aim = aim_in(levels, len);
             let goal = aim.goal;
-            if atomset::contains(goal, v) {
+            if atomset::lowest_in(rest, others, goal) {
                 if out.len() - used < len + 2 {
                     break;
                 }

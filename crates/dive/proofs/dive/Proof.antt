@@ -46,13 +46,13 @@ abbrev found : Place tie.After-lowest → Place tie.After-rest-in
 found c = c .before .before .before
 
 -- from where the test of a closing atom is made
-abbrev kept : Place tie.After-contains → Place tie.After-keep-rest
+abbrev kept : Place tie.After-lowest-in → Place tie.After-keep-rest
 kept c = c .before .before .before .before
 
-abbrev others : Place tie.After-contains → Place tie.After-without-lowest
+abbrev others : Place tie.After-lowest-in → Place tie.After-without-lowest
 others c = c .before .before .before .before .before .before
 
-abbrev here : Place tie.After-contains → Place tie.Else2
+abbrev here : Place tie.After-lowest-in → Place tie.Else2
 here c = turn (found (others c .before))
 
 -- ---- what is known there
@@ -82,11 +82,11 @@ nothing c u =
     ap (λ (w : List ℕ). has w u) (sym (c .before .before .rest-in .ensures)) ∙
     c .before .is-empty .ensures .none (c .if3 .taken) u
 
-lowest-in :
+lowest-to-try :
     (c : Place tie.After-lowest) →
     let now = loop (turn (found c)) .loop in
     Lowest (restIn (now .levels) (now .at .len)) (c .lowest .result)
-lowest-in c =
+lowest-to-try c =
     subst (λ (w : List ℕ). Lowest w (c .lowest .result)) (found c .rest-in .ensures) (c .lowest .ensures)
 
 left-in :
@@ -152,13 +152,13 @@ keep-rest-requires c κs = diving (search) .held .within .most
 aim-in-requires : tie.Need-aim-in-requires Inv-loop μ-loop
 aim-in-requires c κs = diving (search) .held .within .most
 
-contains-requires : tie.Need-contains-requires Inv-loop μ-loop
-contains-requires c κs = let l = lowest-in (search) in (l .low, l .high)
+lowest-in-requires : tie.Need-lowest-in-requires Inv-loop μ-loop
+lowest-in-requires c κs = let left : Place tie.After-without-lowest = search in left .without-lowest .ensures
 
 -- ---- the lowest atom is tried
 
 tries :
-    (c : Place tie.After-contains) →
+    (c : Place tie.After-lowest-in) →
     let now = loop (here c) in
     let args = start now .args in
     Tries (args .most) (args .from) (now .loop .at) (now .loop .levels) (others c .before .lowest .result)
@@ -166,7 +166,7 @@ tries :
 tries c = record {
   deep = deep (here c);
   far = far (here c);
-  lowest = lowest-in (others c .before);
+  lowest = lowest-to-try (others c .before);
   left = left-in (others c);
   kept-is = kept c .keep-rest .ensures;
 }
@@ -174,14 +174,14 @@ tries c = record {
 -- ---- a closing atom
 
 closes :
-    (c : Place tie.After-contains) →
+    (c : Place tie.After-lowest-in) →
     let now = loop (here c) .loop in
-    has (aimIn (now .levels) (now .at .len) .goal) (others c .before .lowest .result) ≡ c .contains .result
+    has (aimIn (now .levels) (now .at .len) .goal) (others c .before .lowest .result) ≡ c .lowest-in .result
 closes c =
     let aim : Place tie.After-aim-in = search in
     let now = loop (here c) .loop in
     closing-told (now .levels) (now .at .len) _ (others c .without-lowest .result) (kept c .keep-rest .ensures)
-    (aim .aim-in .ensures) (c .contains .ensures)
+    (aim .aim-in .ensures) (c .lowest-in .ensures _ (others c .before .lowest .ensures))
 
 sub-if5 : tie.Need-sub-if5 Inv-loop μ-loop
 sub-if5 c = listed-within (diving (search) .listing)
@@ -199,7 +199,7 @@ put-record-requires : tie.Need-put-record-requires Inv-loop μ-loop
 put-record-requires c κs =
     let k = diving (search) in
     let else5 : Place tie.Else5 = search in
-    (k .held .short, lowest-in (search) .high, room-in-part (k .listing) (else5 .if5 .left), k .held .within .size)
+    (k .held .short, lowest-to-try (search) .high, room-in-part (k .listing) (else5 .if5 .left), k .held .within .size)
 
 add-used : tie.Need-add-used Inv-loop μ-loop
 add-used c = omega (arith, diving (search) .held .short)
@@ -213,18 +213,18 @@ add-used-2 c =
 
 listed-requires : tie.Need-listed-requires Inv-loop μ-loop
 listed-requires c κs =
-    let t : Place tie.After-contains = search in
+    let t : Place tie.After-lowest-in = search in
     let k = diving (loop (here t)) in
     (rising _ k (tries t), omega (arith, k .bounds))
 
 loop-less-2 : tie.Need-loop-less-2 Inv-loop μ-loop
 loop-less-2 c =
-    let t : Place tie.After-contains = search in
+    let t : Place tie.After-lowest-in = search in
     rw (c .listed .ensures) (omega (arith, falls-by _ (diving (loop (here t))) (tries t)))
 
 loop-again-2 : tie.Need-loop-again-2 Inv-loop μ-loop
 loop-again-2 c d =
-    let t : Place tie.After-contains = search in
+    let t : Place tie.After-lowest-in = search in
     let then4 : Place tie.Then4 = search in
     let else5 : Place tie.Else5 = search in
     let put : Place tie.After-put-record = search in
@@ -234,14 +234,14 @@ loop-again-2 c d =
 -- ---- an atom that opens
 
 cast-prefix : tie.Need-cast-prefix Inv-loop μ-loop
-cast-prefix c = omega (arith, lowest-in (search) .high)
+cast-prefix c = omega (arith, lowest-to-try (search) .high)
 
 element-write-prefix-2 : tie.Need-element-write-prefix-2 Inv-loop μ-loop
 element-write-prefix-2 c = omega (arith, diving (search) .held .short)
 
 extended-requires : tie.Need-extended-requires Inv-loop μ-loop
 extended-requires c κs =
-    let t : Place tie.After-contains = search in
+    let t : Place tie.After-lowest-in = search in
     let k = diving (loop (here t)) in
     (rising _ k (tries t), k .held .within .most, omega (arith, k .bounds))
 
@@ -250,19 +250,19 @@ add-plan-added c = omega (arith, diving (search) .held .short)
 
 plan-added-requires : tie.Need-plan-added-requires Inv-loop μ-loop
 plan-added-requires c κs =
-    let t : Place tie.After-contains = search in
+    let t : Place tie.After-lowest-in = search in
     let else4 : Place tie.Else4 = search in
     extends-added _ (diving (loop (here t))) (tries t) (closes t ∙ else4 .if4 .left)
 
 loop-less-3 : tie.Need-loop-less-3 Inv-loop μ-loop
 loop-less-3 c =
-    let t : Place tie.After-contains = search in
+    let t : Place tie.After-lowest-in = search in
     let extended : Place tie.After-extended = search in
     rw (extended .extended .ensures) (omega (arith, falls-by _ (diving (loop (here t))) (tries t)))
 
 loop-again-3 : tie.Need-loop-again-3 Inv-loop μ-loop
 loop-again-3 c d =
-    let t : Place tie.After-contains = search in
+    let t : Place tie.After-lowest-in = search in
     let else4 : Place tie.Else4 = search in
     let extended : Place tie.After-extended = search in
     extends d (loop (here t) .loop .inv d) (tries t)
@@ -287,7 +287,7 @@ same-length-3 c = listed-length (diving (search) .listing)
 
 returns-3 : tie.Need-returns-3 Inv-loop μ-loop
 returns-3 c =
-    let t : Place tie.After-contains = search in
+    let t : Place tie.After-lowest-in = search in
     let now = loop (here t) in
     (diving-left _ (diving now), kept-size _ (diving now) (tries t))
 
@@ -297,7 +297,7 @@ dive-spec =
     (tie.spec
     Inv-loop μ-loop loop-holds sub-if2 rest-in-requires (λ c κs. tt) sub-u8-usize element-copy-out-u8-usize
     (λ c κs. tt) sub-prefix element-write-prefix dropped-requires loop-less loop-again lowest-requires
-    without-lowest-requires keep-rest-requires aim-in-requires contains-requires sub-if5 add-if5 sub-put-record
+    without-lowest-requires keep-rest-requires aim-in-requires lowest-in-requires sub-if5 add-if5 sub-put-record
     part-put-record-start (λ c. omega arith) put-record-requires add-used add-used-2 listed-requires loop-less-2
     loop-again-2 cast-prefix element-write-prefix-2 extended-requires add-plan-added plan-added-requires loop-less-3
     loop-again-3 same-length returns same-length-2 returns-2 same-length-3 returns-3)
