@@ -26,14 +26,15 @@ use Rattle.enumeration.proofs.Open.{range-on, stack-short, stack-top}
 use Rattle.atomset.specs.Set.{has, linkedBy, Lowest, LowestLeft}
 use Rattle.openness.specs.declared.Aim.{Aim}
 use Rattle.openness.specs.Plan.{familyBy, firstLength}
-use Rattle.openness.proofs.Arrays.{open-atoms}
+use Rattle.search.proofs.Readings.{open-short}
+use Rattle.openness.proofs.Arrays.{taken-length, open-atoms}
 use Rattle.openness.proofs.Plans.{family-by-atoms}
 use Rattle.trial.specs.declared.Spot.{Spot}
 use Rattle.trial.specs.Parts.{stackOf, Held, HeldWithRoom}
 use Rattle.trial.proofs.Arrays.{stack-length, stack-back, stack-push, stack-set, held-push, Unwinding, unwinding-pop}
 use Rattle.trial.proofs.Bytes.{part-back, record-length}
 use Rattle.dive.specs.declared.Dived.{Dived}
-use Rattle.dive.specs.Levels.{aimIn, restIn, keptRest, goesOnBy, LevelAdded, Stage}
+use Rattle.dive.specs.Levels.{LevelRoom, aimIn, restIn, keptRest, goesOnBy, LevelAdded, Stage}
 use Rattle.dive.specs.Parts.{Rising, listedAt, extendedAt, droppedAt, Bounds, stateBefore, Added, Descent, Listed, Left}
 use Rattle.dive.proofs.Levels.{rest-kept-other, aim-past-rest, length-kept-rest}
 use Rattle.dive.proofs.Stages.{stage-same, stage-lowered, stage-added}
@@ -54,7 +55,7 @@ module _ {n : ℕ} {table : List ℕ} {kind s t most : ℕ} {from : Spot} {start
   pub record Diving (prefix levels out : List ℕ) (at : Spot) (used : ℕ) : Type 0 where
     pub bytes : List ℕ
     pub held : HeldWithRoom prefix (at .len)
-    pub size : length levels ≡ 774
+    pub size : length levels ≡ length levels₀
     pub low : 1 ≤ at .next
     pub high : at .next ≤ suc n
     pub more : from .trials ≤ at .trials
@@ -70,7 +71,7 @@ module _ {n : ℕ} {table : List ℕ} {kind s t most : ℕ} {from : Spot} {start
   diving-starts = record {
     bytes = [];
     held = d .standing;
-    size = d .sized;
+    size = refl;
     low = omega (arith, d .first);
     high = omega (arith, d .first);
     more = omega arith;
@@ -96,6 +97,15 @@ module _ {n : ℕ} {table : List ℕ} {kind s t most : ℕ} {from : Spot} {start
 
     lawful : Lawful F
     lawful = stage .lawful
+
+    -- an open beginning is shorter than n, so there is room for its sets and those of a longer one
+    pub deep-most : suc (at .len) ≤ n
+    deep-most =
+        let taken = taken-length prefix (at .len) (k .held .within .size) (k .held .within .most) in
+        omega (arith, open-short F lawful word (stage .isOpened), atoms-are, d .some)
+
+    pub deep-room : LevelRoom (at .len) levels
+    deep-room = omega (arith, deep-most, d .sized, k .size)
 
     word-is : (u : ℕ) → reverse (u ∷ stack) ≡ word ++ u ∷ []
     word-is u = reverse-cons u stack ∙ ap (λ (w : List ℕ). w ++ u ∷ []) (stack-back prefix (at .len))
@@ -224,11 +234,11 @@ module _ {n : ℕ} {table : List ℕ} {kind s t most : ℕ} {from : Spot} {start
       pub v-most : v ≤ n
       v-most = goes-most v (lowest-goes-on stage l)
 
-      size′ : length levels′ ≡ 774
+      size′ : length levels′ ≡ length levels₀
       size′ = length-kept-rest levels (at .len) others ∙ k .size
 
       lowered : StageHere prefix levels′ (at .len) (v + 1)
-      lowered = stage-lowered stage l (k .size) (k .held .within .most) left
+      lowered = stage-lowered stage l deep-room left
 
       passed′ : (i : ℕ) → from .len ≤ i → i < at .len → StageHere prefix levels′ i (getD prefix i 0 + 1)
       passed′ i low h =
@@ -333,10 +343,13 @@ module _ {n : ℕ} {table : List ℕ} {kind s t most : ℕ} {from : Spot} {start
         opens-stack : isOpen F (reverse (v ∷ stack)) ≡ true
         opens-stack = ap (isOpen F) (word-is v) ∙ opens
 
-        short′ : at .len + 1 ≤ 127
-        short′ =
+        added-short : at .len + 1 < n
+        added-short =
             let size = stack-length prefix (at .len) (k .held .within) in
-            omega (arith, stack-short F lawful stack v opens-stack, atoms-are, d .words .few)
+            omega (arith, stack-short F lawful stack v opens-stack, atoms-are)
+
+        short′ : at .len + 1 ≤ 127
+        short′ = omega (arith, added-short, d .words .few)
 
         room : at .len < length prefix
         room = omega (arith, k .held .within .size, k .held .short)
@@ -357,7 +370,7 @@ module _ {n : ℕ} {table : List ℕ} {kind s t most : ℕ} {from : Spot} {start
               last-is = rw one (sym (getD-set-same prefix (at .len) v 0 room));
               low = l .low;
               high = l .high;
-              sized = size′;
+              sized = omega (arith, added-short, d .sized, size′);
             }
 
       -- it is added
@@ -466,7 +479,7 @@ module _ {n : ℕ} {table : List ℕ} {kind s t most : ℕ} {from : Spot} {start
         countable = omega (arith, k .bounds);
       }
 
-      pub kept-size : length kept ≡ 774
+      pub kept-size : length kept ≡ length levels₀
       kept-size = ap length (r .kept-is) ∙ size′ d k (r .deep) (r .far) (r .lowest) (r .left)
 
       -- the trials that are left fall

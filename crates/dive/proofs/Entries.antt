@@ -1,6 +1,6 @@
 -- From a place of a run to what the fast loop starts from, and from where the fast loop leaves to the unwound place.
 -- The sets of the beginning, or its first plan, are kept and found again; a beginning whose next atom is 1 is unwound.
-use Prim.Native.Nat.{ℕ, _+_, _-_, _≤_, _<_}
+use Prim.Native.Nat.{ℕ, suc, _+_, _-_, _≤_, _<_}
 use native.Mathlib.Omega.{arith}
 use mathlib.Core.Path.{_≡_, refl, ap, ap₂, sym, _∙_}
 use mathlib.Core.Bool.{_||_}
@@ -16,7 +16,8 @@ use Rattle.search.specs.declared.Search.{Search}
 use Rattle.openness.specs.declared.Aim.{Aim}
 use Rattle.openness.specs.declared.FirstPlan.{FirstPlan}
 use Rattle.openness.specs.Plan.{familyBy, firstLength, Everywhere, Steered}
-use Rattle.openness.proofs.Arrays.{one-taken, open-atoms}
+use Rattle.search.proofs.Readings.{open-short}
+use Rattle.openness.proofs.Arrays.{taken-length, one-taken, open-atoms}
 use Rattle.openness.proofs.Plans.{family-by-lawful, family-by-atoms, first-few}
 use Rattle.openness.proofs.Aims.{place-atom}
 use Rattle.trial.specs.declared.Spot.{Spot}
@@ -24,9 +25,9 @@ use Rattle.trial.specs.declared.Place.{Place}
 use Rattle.trial.specs.Parts.{stackOf, stateAt, Unwound}
 use Rattle.trial.proofs.Arrays.{stack-length, unwound-most}
 use Rattle.dive.specs.declared.Dived.{Dived}
-use Rattle.dive.specs.Levels.{aimIn, keptAim, keptRest, LevelPlanned}
+use Rattle.dive.specs.Levels.{LevelRoom, aimIn, keptAim, keptRest, LevelPlanned}
 use Rattle.dive.specs.Parts.{Bounds, Room, Starting, FirstStage, Descent, Left, Entering, Entered, Descended, stateBefore}
-use Rattle.dive.proofs.Levels.{length-kept-aim, length-kept-rest, goal-kept-same, rest-kept-same, aim-past-rest}
+use Rattle.dive.proofs.Levels.{length-kept-aim, goal-kept-same, rest-kept-same, aim-past-rest}
 use Rattle.dive.proofs.Levels.{kept-steers, planned-led}
 
 -- ---- what the fast loop starts from
@@ -57,26 +58,32 @@ module _ {n : ℕ} {table : List ℕ} {q : Search} {at : Spot} {first : FirstPla
       let (low, high) = last-of e in
       (low, omega (arith, b .begun .words .few))
 
+  -- it is shorter than n, so there is room for its sets and those of a longer one
+  pub longer-room : LevelRoom (suc (at .len)) levels
+  longer-room =
+      let L = family-by-lawful n table (q .kind) (q .s) (q .t) in
+      let taken = taken-length prefix (at .len) (b .begun .size) short-enough in
+      let most = open-short family L (take (at .len) prefix) (b .begun .isOpened) in
+      omega (arith, most, family-by-atoms n table (q .kind) (q .s) (q .t), b .entered .some, b .sized)
+
   -- the sets steer it: they are kept for its length, and it is planned
   pub starts-steered :
       {aim : Aim} {kept planned : List ℕ} {x : ℕ} → firstLength (q .kind) ≤ at .len →
       Steered family (linkedBy table) (take (at .len) prefix) (getD prefix (at .len - 1) 0) aim →
       kept ≡ keptAim levels (at .len) aim → x ≡ getD prefix (at .len - 1) 0 →
       LevelPlanned (linkedBy table) x (at .len) kept planned →
-      FirstStage n table (q .kind) (q .s) (q .t) prefix planned (at .len) × (length planned ≡ 774)
+      FirstStage n table (q .kind) (q .s) (q .t) prefix planned (at .len)
   starts-steered {aim} {kept} {planned} long steered kept-is last-is given =
       let plan : LevelPlanned (linkedBy table) (getD prefix (at .len - 1) 0) (at .len) (keptAim levels (at .len) aim)
       planned = rw (kept-is, last-is) at given in
-      let sets = kept-steers levels (at .len) aim (b .sized) short-enough steered in (
-        record {
-          lawful = steered .lawful;
-          isOpened = steered .isOpened;
-          long = λ h. planned-led plan sets;
-          short = λ h. absurd (omega arith);
-          to-try = λ v some. plan .to-try family (take (at .len) prefix) sets v ∙ rw (le-leb 1 v some);
-        },
-        plan .size ∙ length-kept-aim levels (at .len) aim ∙ b .sized,
-      )
+      let sets = kept-steers levels (at .len) aim (omega (arith, longer-room)) steered in
+      record {
+        lawful = steered .lawful;
+        isOpened = steered .isOpened;
+        long = λ h. planned-led plan sets;
+        short = λ h. absurd (omega arith);
+        to-try = λ v some. plan .to-try family (take (at .len) prefix) sets v ∙ rw (le-leb 1 v some);
+      }
 
   -- it is too short for them: the first plan tells of it
   module _ (few : at .len < firstLength (q .kind)) where
@@ -91,27 +98,26 @@ module _ {n : ℕ} {table : List ℕ} {q : Search} {at : Spot} {first : FirstPla
         kept ≡ keptAim levels (at .len) (record { goal = first .plan .members; free = first .plan .opens }) →
         ((v : ℕ) → has rest v ≡ (has (first .plan .members) v || has (first .plan .opens) v)) →
         planned ≡ keptRest kept (at .len) rest →
-        FirstStage n table (q .kind) (q .s) (q .t) prefix planned (at .len) × (length planned ≡ 774)
+        FirstStage n table (q .kind) (q .s) (q .t) prefix planned (at .len)
     starts-short rest {kept} {planned} kept-is rest-is planned-is =
         let aim : Aim = record { goal = first .plan .members; free = first .plan .opens } in
-        let sized′ : length kept ≡ 774 = ap length kept-is ∙ length-kept-aim levels (at .len) aim ∙ b .sized in
+        let room : LevelRoom (at .len) levels = omega (arith, longer-room) in
+        let size = ap length kept-is ∙ length-kept-aim levels (at .len) aim in
         let aim-is : aimIn planned (at .len) ≡ aimIn (keptAim levels (at .len) aim) (at .len) =
         ap (λ (k : List ℕ). aimIn k (at .len)) planned-is ∙ aim-past-rest kept (at .len) rest (at .len)
-        ∙ ap (λ (k : List ℕ). aimIn k (at .len)) kept-is in (
-          record {
-            lawful = family-by-lawful n table (q .kind) (q .s) (q .t);
-            isOpened = b .begun .isOpened;
-            long = λ h. absurd (omega arith);
-            short = λ h v.
-                ap (λ (k : Aim). has (k .goal) v) aim-is ∙
-                goal-kept-same levels (at .len) aim (b .sized) short-enough v ∙ first-plan v .members;
-            to-try = λ v some.
-                rw (planned-is, le-leb 1 v some)
-                (rest-kept-same kept (at .len) rest sized′ short-enough v ∙ rest-is v ∙
-                ap₂ _||_ (first-plan v .members) (first-plan v .opens));
-          },
-          rw planned-is (length-kept-rest kept (at .len) rest ∙ sized′),
-        )
+        ∙ ap (λ (k : List ℕ). aimIn k (at .len)) kept-is in
+        record {
+          lawful = family-by-lawful n table (q .kind) (q .s) (q .t);
+          isOpened = b .begun .isOpened;
+          long = λ h. absurd (omega arith);
+          short = λ h v.
+              ap (λ (k : Aim). has (k .goal) v) aim-is ∙ goal-kept-same levels (at .len) aim room v ∙
+              first-plan v .members;
+          to-try = λ v some.
+              rw (planned-is, le-leb 1 v some)
+              (rest-kept-same kept (at .len) rest (omega (arith, size)) v ∙ rest-is v ∙
+              ap₂ _||_ (first-plan v .members) (first-plan v .opens));
+        }
 
 -- a place that the fast loop enters
 pub starting :
@@ -124,12 +130,12 @@ pub descent-of :
     {n : ℕ} {table : List ℕ} {q : Search} {at : Spot} {first : FirstPlan} {most start : ℕ}
     {prefix levels out planned : List ℕ} → Entering n table q at first start prefix levels out →
     Entered (q .kind) at prefix (first .atom) → Bounds at most →
-    FirstStage n table (q .kind) (q .s) (q .t) prefix planned (at .len) × (length planned ≡ 774) →
+    FirstStage n table (q .kind) (q .s) (q .t) prefix planned (at .len) → length planned ≡ length levels →
     Descent n table (q .kind) (q .s) (q .t) most at start prefix planned out
-descent-of {q = q} e entered bounds (stage, sized) = record {
+descent-of {q = q} e entered bounds stage size = record {
   words = e .begun .words;
   kinds = e .begun .kinds;
-  sized = sized;
+  sized = omega (arith, e .sized);
   standing = e .standing;
   some = entered .some;
   near = omega (arith, first-few (q .kind), entered .some);

@@ -21,7 +21,7 @@ use Rattle.chordless.proofs.Steers.{steers-same}
 use Rattle.openness.specs.declared.Aim.{Aim}
 use Rattle.openness.specs.declared.Plan.{Plan}
 use Rattle.openness.specs.Plan.{HandedOn, Steered, Everywhere}
-use Rattle.dive.specs.Levels.{aimIn, restIn, keptAim, keptRest, LevelPlanned, Led, LevelAdded}
+use Rattle.dive.specs.Levels.{LevelRoom, aimIn, restIn, keptAim, keptRest, LevelPlanned, Led, LevelAdded}
 
 -- ---- sets with the same two words hold the same atoms
 
@@ -59,9 +59,9 @@ past-rest levels i rest k d4 d5 =
     ∙ getD-set-other levels (6 * i + 4) k (getD rest 0 0) 0 d4
 
 pub rest-kept-same :
-    (levels : List ℕ) (i : ℕ) (rest : List ℕ) → length levels ≡ 774 → i ≤ 128 → (u : ℕ) →
+    (levels : List ℕ) (i : ℕ) (rest : List ℕ) → LevelRoom i levels → (u : ℕ) →
     has (restIn (keptRest levels i rest) i) u ≡ has rest u
-rest-kept-same levels i rest size h =
+rest-kept-same levels i rest room =
     same-words (restIn (keptRest levels i rest) i) rest
     (getD-set-other (set levels (6 * i + 4) (getD rest 0 0)) (6 * i + 5) (6 * i + 4) (getD rest 1 0) 0
     (λ e. omega arith)
@@ -125,14 +125,14 @@ module _ (levels : List ℕ) (i : ℕ) (aim : Aim) where
       let word5 = past-aim (6 * j + 5) (λ e h q. omega arith) in
       rw (word4, word5)
 
-  module _ (size : length levels ≡ 774) (h : i ≤ 128) where
-    size1 : length kept1 ≡ 774
-    size1 = length-set levels (6 * i) (getD (aim .goal) 0 0) ∙ size
+  module _ (room : LevelRoom i levels) where
+    size1 : length kept1 ≡ length levels
+    size1 = length-set levels (6 * i) (getD (aim .goal) 0 0)
 
-    size2 : length kept2 ≡ 774
+    size2 : length kept2 ≡ length levels
     size2 = length-set kept1 (6 * i + 1) (getD (aim .goal) 1 0) ∙ size1
 
-    size3 : length kept3 ≡ 774
+    size3 : length kept3 ≡ length levels
     size3 = length-set kept2 (6 * i + 2) (getD (aim .free) 0 0) ∙ size2
 
     pub goal-kept-same : (u : ℕ) → has (aimIn (keptAim levels i aim) i .goal) u ≡ has (aim .goal) u
@@ -163,24 +163,24 @@ pub record Found (adj : Adjacency) (x : ℕ) (aim next : Aim) (plan : Plan) (res
 
 module _ {adj : Adjacency} {x : ℕ} {next : Aim} {plan : Plan} {rest : List ℕ} where
   kept-planned :
-      (levels : List ℕ) (len : ℕ) → length levels ≡ 774 → len ≤ 127 → Found adj x (aimIn levels len) next plan rest →
+      (levels : List ℕ) (len : ℕ) → LevelRoom (suc len) levels → Found adj x (aimIn levels len) next plan rest →
       LevelPlanned adj x len levels (keptRest (keptAim levels (suc len) next) len rest)
-  kept-planned levels len size h found =
+  kept-planned levels len room found =
       let longer = keptAim levels (suc len) next in
-      let size′ : length longer ≡ 774 = length-kept-aim levels (suc len) next ∙ size in
+      let room′ : LevelRoom len longer = omega (arith, length-kept-aim levels (suc len) next) in
       record {
         size = length-kept-rest longer len rest ∙ length-kept-aim levels (suc len) next;
         handed = record {
           goal-left = λ u.
               ap (λ (a : Aim). has (a .goal) u) (aim-past-rest longer len rest (suc len))
-              ∙ goal-kept-same levels (suc len) next size (omega arith) u ∙ found .handing .goal-left u;
+              ∙ goal-kept-same levels (suc len) next room u ∙ found .handing .goal-left u;
           free-left = λ u.
               ap (λ (a : Aim). has (a .free) u) (aim-past-rest longer len rest (suc len))
-              ∙ free-kept-same levels (suc len) next size (omega arith) u ∙ found .handing .free-left u;
+              ∙ free-kept-same levels (suc len) next room u ∙ found .handing .free-left u;
         };
         to-try = λ F p steered v.
             let tells = found .telling F p steered v in
-            rest-kept-same longer len rest size′ (omega arith) v ∙ found .either-set v
+            rest-kept-same longer len rest room′ v ∙ found .either-set v
             ∙ ap₂ _||_ (tells .members) (tells .opens);
         aims-kept = λ i l.
             aim-past-rest longer len rest i ∙ aim-kept-other levels (suc len) next i (λ e. omega arith);
@@ -189,24 +189,24 @@ module _ {adj : Adjacency} {x : ℕ} {next : Aim} {plan : Plan} {rest : List ℕ
       }
 
   pub level-planned :
-      {levels longer after : List ℕ} {len : ℕ} {aim : Aim} → length levels ≡ 774 → len ≤ 127 →
+      {levels longer after : List ℕ} {len : ℕ} {aim : Aim} → LevelRoom (suc len) levels →
       aim ≡ aimIn levels len → Found adj x aim next plan rest → longer ≡ keptAim levels (len + 1) next →
       after ≡ keptRest longer len rest → LevelPlanned adj x len levels after
-  level-planned {levels} {longer} {after} {len} {aim} size h aim-is found kept kept-rest =
-      rw (kept-rest, kept, add-one len) (kept-planned levels len size h (rw aim-is at found))
+  level-planned {levels} {longer} {after} {len} {aim} room aim-is found kept kept-rest =
+      rw (kept-rest, kept, add-one len) (kept-planned levels len room (rw aim-is at found))
 
 -- ---- the sets steer what they are kept for
 
 module _ {F : Family} {adj : Adjacency} {p : List ℕ} {x : ℕ} where
   pub kept-steers :
-      (levels : List ℕ) (i : ℕ) (aim : Aim) → length levels ≡ 774 → i ≤ 128 → Steered F adj p x aim →
+      (levels : List ℕ) (i : ℕ) (aim : Aim) → LevelRoom i levels → Steered F adj p x aim →
       Steered F adj p x (aimIn (keptAim levels i aim) i)
-  kept-steers levels i aim size h k = record {
+  kept-steers levels i aim room k = record {
     lawful = k .lawful;
     some = k .some;
     isOpened = k .isOpened;
     steers =
-        steers-same (λ u. sym (goal-kept-same levels i aim size h u)) (λ u. sym (free-kept-same levels i aim size h u))
+        steers-same (λ u. sym (goal-kept-same levels i aim room u)) (λ u. sym (free-kept-same levels i aim room u))
         (k .steers);
   }
 
@@ -223,12 +223,12 @@ module _ {F : Family} {adj : Adjacency} {p : List ℕ} {x : ℕ} where
 module _ {F : Family} {adj : Adjacency} {first x len : ℕ} {prefix levels after : List ℕ} where
   -- the shortest that the sets steer: they are made and kept
   pub added-first :
-      (aim : Aim) {kept : List ℕ} → length levels ≡ 774 → len ≤ 127 → len ≡ first →
+      (aim : Aim) {kept : List ℕ} → LevelRoom len levels → len ≡ first →
       Steered F adj (take len prefix) x aim → kept ≡ keptAim levels len aim → LevelPlanned adj x len kept after →
       LevelAdded F adj first x len prefix levels after
-  added-first aim {kept} size h same steered kept-is planned =
+  added-first aim {kept} room same steered kept-is planned =
       let plan : LevelPlanned adj x len (keptAim levels len aim) after = rw kept-is at planned in
-      let sets = kept-steers levels len aim size (omega arith) steered in
+      let sets = kept-steers levels len aim room steered in
       record {
         size = plan .size ∙ length-kept-aim levels len aim;
         aims-kept = λ i l. plan .aims-kept i (omega arith) ∙ aim-kept-other levels len aim i (λ e. omega arith);

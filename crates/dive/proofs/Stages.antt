@@ -21,7 +21,7 @@ use Rattle.chordless.proofs.Steers.{steers-more, steers-same, steers-member, st
 use Rattle.atomset.specs.Set.{has, Lowest, LowestLeft}
 use Rattle.openness.specs.declared.Aim.{Aim}
 use Rattle.openness.specs.Plan.{Steered}
-use Rattle.dive.specs.Levels.{aimIn, restIn, keptRest, goesOnBy, Led, LevelAdded, Stage}
+use Rattle.dive.specs.Levels.{LevelRoom, aimIn, restIn, keptRest, goesOnBy, Led, LevelAdded, Stage}
 use Rattle.dive.proofs.Levels.{rest-kept-same, rest-kept-other, aim-past-rest}
 
 module _ {F : Family} {adj : Adjacency} {first : ℕ} {prefix levels : List ℕ} {i c : ℕ}
@@ -106,15 +106,15 @@ module _ {F : Family} {adj : Adjacency} {first : ℕ} {prefix levels : List ℕ}
 
     -- it is tried
     pub stage-lowered :
-        {others : List ℕ} → length levels ≡ 774 → i ≤ 128 → LowestLeft (restIn levels i) others →
+        {others : List ℕ} → LevelRoom i levels → LowestLeft (restIn levels i) others →
         Stage F adj first prefix (keptRest levels i others) i (v + 1)
-    stage-lowered {others} size most left = record {
+    stage-lowered {others} room left = record {
       lawful = s .lawful;
       isOpened = s .isOpened;
       long = rw (aim-past-rest levels i others i, aim-past-rest levels i others (suc i)) (s .long);
       short = λ h u. ap (λ (aim : Aim). has (aim .goal) u) (aim-past-rest levels i others i) ∙ s .short h u;
       to-try = λ u some.
-          rest-kept-same levels i others size most u ∙ left .others v l u ∙
+          rest-kept-same levels i others room u ∙ left .others v l u ∙
           same-test (has (restIn levels i) u && not (eqb u v)) (leb (v + 1) u && goesOnBy F here u)
           (to u some) (back u some);
     }

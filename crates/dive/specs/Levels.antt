@@ -13,6 +13,10 @@ use Rattle.atomset.specs.Set.{has}
 use Rattle.openness.specs.declared.Aim.{Aim}
 use Rattle.openness.specs.Plan.{HandedOn, Steered}
 
+-- there is room for what is kept of the beginnings of i atoms, and so of shorter ones
+abbrev pub LevelRoom : ℕ → List ℕ → Type 0
+LevelRoom i levels = 6 * i + 6 ≤ length levels
+
 -- the two sets that steer the beginnings of i atoms
 abbrev pub aimIn : List ℕ → ℕ → Aim
 aimIn levels i = record {

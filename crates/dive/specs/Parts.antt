@@ -17,7 +17,7 @@ use Rattle.openness.specs.Plan.{familyBy, firstLength, FirstTells, Words, Begin
 use Rattle.trial.specs.declared.Spot.{Spot}
 use Rattle.trial.specs.Parts.{stackOf, stateAt, HeldWithRoom}
 use Rattle.dive.specs.declared.Dived.{Dived}
-use Rattle.dive.specs.Levels.{Stage}
+use Rattle.dive.specs.Levels.{LevelRoom, Stage}
 
 -- v is the next atom or above it, or one below it; the trials up to it can be counted
 pub record Rising (at : Spot) (v : ℕ) : Type 0 where
@@ -78,7 +78,7 @@ pub record Added (n : ℕ) (table : List ℕ) (kind s t : ℕ) (prefix levels : 
   pub last-is : x ≡ getD prefix (len - 1) 0
   pub low : 1 ≤ x
   pub high : x ≤ 128
-  pub sized : length levels ≡ 774
+  pub sized : LevelRoom (suc len) levels
 
 -- a beginning whose next atom is 1, that two sets steer or whose one atom is that of the first plan
 pub record Entered (kind : ℕ) (at : Spot) (prefix : List ℕ) (atom : ℕ) : Type 0 where
@@ -92,7 +92,7 @@ pub record Starting (n : ℕ) (table : List ℕ) (q : Search) (at : Spot) (first
   pub begun : Beginning n table (q .kind) (q .s) (q .t) prefix (at .len)
   pub entered : Entered (q .kind) at prefix (first .atom)
   pub tells : FirstTells (familyBy n table (q .kind) (q .s) (q .t)) first
-  pub sized : length levels ≡ 774
+  pub sized : LevelRoom n levels
 
 -- the first beginning of the fast loop and what is kept for it
 abbrev pub FirstStage : ℕ → List ℕ → ℕ → ℕ → ℕ → List ℕ → List ℕ → ℕ → Type 0
@@ -104,7 +104,7 @@ pub record Descent (n : ℕ) (table : List ℕ) (kind s t most : ℕ) (from : Sp
     : Type 0 where
   pub words : Words n table
   pub kinds : kindKept n kind s t ≡ true
-  pub sized : length levels ≡ 774
+  pub sized : LevelRoom n levels
   pub standing : HeldWithRoom prefix (from .len)
   pub some : 1 ≤ from .len
   pub near : firstLength kind ≤ suc (from .len)
@@ -137,7 +137,7 @@ pub record Entering (n : ℕ) (table : List ℕ) (q : Search) (at : Spot) (first
     (prefix levels out : List ℕ) : Type 0
   where
     pub tells : FirstTells (familyBy n table (q .kind) (q .s) (q .t)) first
-    pub sized : length levels ≡ 774
+    pub sized : LevelRoom n levels
     pub begun : Beginning n table (q .kind) (q .s) (q .t) prefix (at .len)
     pub standing : HeldWithRoom prefix (at .len)
     pub trials-most : at .trials ≤ limit

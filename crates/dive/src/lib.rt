@@ -3,13 +3,13 @@
 use widen::u8_usize;
 ghost use mathlib.Core.Path.{_≡_};
 ghost use mathlib.Core.Bool.{true};
-ghost use Prim.Native.Nat.{_-_, _≤_};
+ghost use Prim.Native.Nat.{suc, _-_, _≤_};
 ghost use lib.ListN.{length};
 ghost use Rattle.enumeration.specs.Run.{limit};
 ghost use Rattle.atomset.specs.Set.{linkedBy};
 ghost use Rattle.sweep.specs.Swept.{Symmetric};
 ghost use Rattle.openness.specs.Plan.{familyBy, firstLength};
-ghost use Rattle.dive.specs.Levels.{aimIn, restIn, keptAim, keptRest, LevelPlanned, LevelAdded};
+ghost use Rattle.dive.specs.Levels.{LevelRoom, aimIn, restIn, keptAim, keptRest, LevelPlanned, LevelAdded};
 ghost use Rattle.dive.specs.Parts.{Rising, listedAt, extendedAt, droppedAt, Room, Bounds, Added, Starting};
 ghost use Rattle.dive.specs.Parts.{FirstStage, Descent, Left, Entering, Entered, Descended};
 use openness::Aim;
@@ -24,8 +24,8 @@ pub struct Dived {
 }
 
 // The two sets kept for the beginnings of i atoms.
-fn aim_in(levels: &[u64; 774], i: usize) -> Aim
-    requires { ⌜ i ≤ 128 ⌝ }
+fn aim_in(levels: &[u64], i: usize) -> Aim
+    requires { ⌜ (i ≤ 128) × LevelRoom i (now levels) ⌝ }
     ensures { λ r. ⌜ r ≡ aimIn (now (levels .entry)) i ⌝ }
 {
     let goal0 = levels[6 * i];
@@ -39,8 +39,8 @@ fn aim_in(levels: &[u64; 774], i: usize) -> Aim
 }
 
 // The atoms still to be tried that make a member of the beginning of i atoms or open it.
-fn rest_in(levels: &[u64; 774], i: usize) -> [u64; 2]
-    requires { ⌜ i ≤ 128 ⌝ }
+fn rest_in(levels: &[u64], i: usize) -> [u64; 2]
+    requires { ⌜ (i ≤ 128) × LevelRoom i (now levels) ⌝ }
     ensures { λ r. ⌜ r ≡ restIn (now (levels .entry)) i ⌝ }
 {
     let rest0 = levels[6 * i + 4];
@@ -49,8 +49,8 @@ fn rest_in(levels: &[u64; 774], i: usize) -> [u64; 2]
 }
 
 // Keeps the two sets of the beginnings of i atoms.
-fn keep_aim(levels: &mut [u64; 774], i: usize, aim: Aim)
-    requires { ⌜ i ≤ 128 ⌝ }
+fn keep_aim(levels: &mut [u64], i: usize, aim: Aim)
+    requires { ⌜ (i ≤ 128) × LevelRoom i (now levels) ⌝ }
     ensures { λ _. ⌜ now (levels .exit) ≡ keptAim (now (levels .entry)) i aim ⌝ }
 {
     let goal = aim.goal;
@@ -62,8 +62,8 @@ fn keep_aim(levels: &mut [u64; 774], i: usize, aim: Aim)
 }
 
 // Keeps the atoms still to be tried at the beginning of i atoms.
-fn keep_rest(levels: &mut [u64; 774], i: usize, rest: [u64; 2])
-    requires { ⌜ i ≤ 128 ⌝ }
+fn keep_rest(levels: &mut [u64], i: usize, rest: [u64; 2])
+    requires { ⌜ (i ≤ 128) × LevelRoom i (now levels) ⌝ }
     ensures { λ _. ⌜ now (levels .exit) ≡ keptRest (now (levels .entry)) i rest ⌝ }
 {
     levels[6 * i + 4] = rest[0];
@@ -72,9 +72,9 @@ fn keep_rest(levels: &mut [u64; 774], i: usize, rest: [u64; 2])
 
 // Plans the beginning of `len` atoms with the last atom x: keeps the atoms to be tried, and the sets of the beginnings
 // that have an atom more.
-fn plan_level(table: &[u64; 256], levels: &mut [u64; 774], len: usize, x: usize)
+fn plan_level(table: &[u64; 256], levels: &mut [u64], len: usize, x: usize)
     requires { ⌜
-        Symmetric (linkedBy (now table)) × (len ≤ 127) × (1 ≤ x) × (x ≤ 128) × (length (now levels) ≡ 774) ⌝ }
+        Symmetric (linkedBy (now table)) × (len ≤ 127) × (1 ≤ x) × (x ≤ 128) × LevelRoom (suc len) (now levels) ⌝ }
     ensures { λ _. ⌜ LevelPlanned (linkedBy (now (table .entry))) x len (now (levels .entry)) (now (levels .exit)) ⌝ }
 {
     let aim = aim_in(levels, len);
@@ -96,7 +96,7 @@ fn plan_added(
     s: usize,
     t: usize,
     prefix: &[u8; 128],
-    levels: &mut [u64; 774],
+    levels: &mut [u64],
     len: usize,
     x: usize,
 )
@@ -166,13 +166,13 @@ fn dive(
     from: Spot,
     start: usize,
     prefix: &mut [u8; 128],
-    levels: &mut [u64; 774],
+    levels: &mut [u64],
     out: &mut [u8],
 ) -> Dived
     requires { ⌜ Descent n (now table) kind s t most from start (now prefix) (now levels) (now out) ⌝ }
     ensures { λ r. ⌜
         Left (familyBy n (now (table .entry)) kind s t) n most (now (prefix .entry)) from (now (out .entry)) start
-        (now (prefix .exit)) (now (out .exit)) r × (length (now (levels .exit)) ≡ 774) ⌝ }
+        (now (prefix .exit)) (now (out .exit)) r ⌝ }
 {
     let base = from.len;
     let mut at = from;
@@ -260,12 +260,11 @@ fn plan_start(
     at: Spot,
     first: FirstPlan,
     prefix: &[u8; 128],
-    levels: &mut [u64; 774],
+    levels: &mut [u64],
 )
     requires { ⌜ Starting n (now table) q at first (now prefix) (now levels) ⌝ }
     ensures { λ _. ⌜
-        FirstStage n (now (table .entry)) (q .kind) (q .s) (q .t) (now (prefix .entry)) (now (levels .exit)) (at .len) ×
-        (length (now (levels .exit)) ≡ 774) ⌝ }
+        FirstStage n (now (table .entry)) (q .kind) (q .s) (q .t) (now (prefix .entry)) (now (levels .exit)) (at .len) ⌝ }
 {
     let len = at.len;
     if len < openness::first_length(q.kind) {
@@ -297,7 +296,7 @@ fn below(
     first: FirstPlan,
     start: usize,
     prefix: &mut [u8; 128],
-    levels: &mut [u64; 774],
+    levels: &mut [u64],
     out: &mut [u8],
 ) -> Dived
     requires { ⌜
@@ -305,7 +304,7 @@ fn below(
         Entered (q .kind) at (now prefix) (first .atom) × Bounds at most ⌝ }
     ensures { λ r. ⌜
         Descended (familyBy n (now (table .entry)) (q .kind) (q .s) (q .t)) (now (prefix .entry)) at (most - at .trials)
-        (now (out .entry)) start (now (prefix .exit)) (now (out .exit)) r × (length (now (levels .exit)) ≡ 774) ⌝ }
+        (now (out .entry)) start (now (prefix .exit)) (now (out .exit)) r ⌝ }
 {
     plan_start(table, n, q, at, first, prefix, levels);
     let dived = dive(
@@ -347,13 +346,13 @@ pub fn descend(
     first: FirstPlan,
     start: usize,
     prefix: &mut [u8; 128],
-    levels: &mut [u64; 774],
+    levels: &mut [u64],
     out: &mut [u8],
 ) -> Dived
     requires { ⌜ Entering n (now table) q at first start (now prefix) (now levels) (now out) ⌝ }
     ensures { λ r. ⌜
         Descended (familyBy n (now (table .entry)) (q .kind) (q .s) (q .t)) (now (prefix .entry)) at left
-        (now (out .entry)) start (now (prefix .exit)) (now (out .exit)) r × (length (now (levels .exit)) ≡ 774) ⌝ }
+        (now (out .entry)) start (now (prefix .exit)) (now (out .exit)) r ⌝ }
 {
     if enters(q.kind, at, left, prefix, first.atom) {
         let most = at.trials + room_for(at, left);

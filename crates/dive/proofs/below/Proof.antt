@@ -14,21 +14,22 @@ dive-requires c κs =
     let start : tie.Start = search in
     let planned : tie.After-plan-start = search in
     descent-of (start .pre .0) (start .pre .1) (start .pre .2) (planned .plan-start .ensures)
+    (planned .plan-start .kept .1 .1 .1 .1 .1 .1 .0)
 
 unwind-requires : tie.Need-unwind-requires
 unwind-requires c κs =
     let start : tie.Start = search in
     let dived : tie.After-dive = search in
-    record { standing = dived .dive .ensures .0 .held; few = start .pre .0 .begun .words .few }
+    record { standing = dived .dive .ensures .held; few = start .pre .0 .begun .words .few }
 
 returns : tie.Need-returns
 returns c =
     let start : tie.Start = search in
     let dived : tie.After-dive = search in
     let some = begun-atoms (starting (start .pre .0) (start .pre .1)) in
-    (left-unwound some (start .pre .1 .first) (dived .dive .ensures .0) (c .unwind .ensures), dived .dive .ensures .1)
+    left-unwound some (start .pre .1 .first) (dived .dive .ensures) (c .unwind .ensures)
 
 pub below-spec : {M : Type 1} → statement M
 below-spec =
     tie.close
-    (tie.spec plan-start-requires dive-requires unwind-requires (λ c. search needs) returns)
+    (tie.spec plan-start-requires dive-requires unwind-requires (λ c. search needs) (λ c. search needs) returns)

@@ -18,18 +18,18 @@ returns : tie.Need-returns
 returns c =
     let room : tie.After-room-for = search in
     let below : tie.After-below = search in
-    (descended-within (room .room-for .ensures) (below .below .ensures .0), below .below .ensures .1)
+    descended-within (room .room-for .ensures) (below .below .ensures)
 
 returns-2 : tie.Need-returns-2
 returns-2 c =
     let start : tie.Start = search in
     let args = start .args in
     let F = familyBy (args .n) (args .table .now) (args .q .kind) (args .q .s) (args .q .t) in
-    (none-made F (args .left) (start .pre), start .pre .sized)
+    none-made F (args .left) (start .pre)
 
 pub descend-spec : {M : Type 1} → statement M
 descend-spec =
     tie.close
     (tie.spec
-    (λ c κs. search needs) (λ c κs. search needs) (λ c. search needs) below-requires (λ c. search needs) returns
-    returns-2)
+    (λ c κs. search needs) (λ c κs. search needs) (λ c. search needs) below-requires (λ c. search needs) (λ c. search needs)
+    returns returns-2)

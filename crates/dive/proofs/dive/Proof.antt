@@ -8,9 +8,9 @@ use native.Mathlib.Omega.{arith}
 use borrow.Author.Needs.{needs}
 use lib.ListN.{length}
 use Rattle.atomset.specs.Set.{has, Lowest, LowestLeft}
-use Rattle.dive.specs.Levels.{restIn, aimIn}
+use Rattle.dive.specs.Levels.{LevelRoom, restIn, aimIn}
 use Rattle.dive.specs.Parts.{Descent}
-use Rattle.dive.proofs.Descents.{Diving, diving-starts, diving-left, closing-told}
+use Rattle.dive.proofs.Descents.{Diving, diving-starts, diving-left, deep-room, closing-told}
 use Rattle.dive.proofs.Descents.{Tries, drops, rising, kept-size, falls-by, lists, extends-added, extends}
 use Rattle.dive.proofs.Listings.{listed-length, listed-within, room-in-part}
 use Rattle.dive.proofs.dive.Statement.{statement}
@@ -31,7 +31,7 @@ Place place = place Inv-loop μ-loop
 -- (in a proof, the argument `(search)` is a place: it is found in c by its type)
 
 abbrev start : Place tie.At-loop → Place tie.Start
-start c = c .before .before
+start c = c .before .before .before
 
 -- from where both tests before a turn are passed
 abbrev loop : Place tie.Else2 → Place tie.At-loop
@@ -47,10 +47,10 @@ found c = c .before .before .before
 
 -- from where the test of a closing atom is made
 abbrev kept : Place tie.After-lowest-in → Place tie.After-keep-rest
-kept c = c .before .before .before .before
+kept c = c .before .before .before .before .before .before
 
 abbrev others : Place tie.After-lowest-in → Place tie.After-without-lowest
-others c = c .before .before .before .before .before .before
+others c = kept c .before .before
 
 abbrev here : Place tie.After-lowest-in → Place tie.Else2
 here c = turn (found (others c .before))
@@ -72,6 +72,9 @@ far c = c .if2 .left
 
 some : (c : Place tie.Else2) → 1 ≤ loop c .loop .at .len
 some c = omega (arith, deep c, start (loop c) .pre .some)
+
+room : (c : Place tie.Else2) → LevelRoom (loop c .loop .at .len) (loop c .loop .levels)
+room c = deep-room _ (diving (loop c)) (deep c) (far c)
 
 -- its atoms to be tried
 nothing :
@@ -104,7 +107,7 @@ sub-if2 : tie.Need-sub-if2 Inv-loop μ-loop
 sub-if2 c = diving (search) .bounds .trials-most
 
 rest-in-requires : tie.Need-rest-in-requires Inv-loop μ-loop
-rest-in-requires c κs = diving (search) .held .within .most
+rest-in-requires c κs = (diving (search) .held .within .most, room (search))
 
 sub-u8-usize : tie.Need-sub-u8-usize Inv-loop μ-loop
 sub-u8-usize c = some (search)
@@ -147,10 +150,12 @@ without-lowest-requires : tie.Need-without-lowest-requires Inv-loop μ-loop
 without-lowest-requires c κs = sym (c .before .before .is-empty .ensures .test) ∙ c .before .if3 .left
 
 keep-rest-requires : tie.Need-keep-rest-requires Inv-loop μ-loop
-keep-rest-requires c κs = diving (search) .held .within .most
+keep-rest-requires c κs = (diving (search) .held .within .most, room (search))
 
 aim-in-requires : tie.Need-aim-in-requires Inv-loop μ-loop
-aim-in-requires c κs = diving (search) .held .within .most
+aim-in-requires c κs =
+    let kept : Place tie.After-keep-rest = search in
+    (diving (search) .held .within .most, omega (arith, room (search), kept .keep-rest .kept .0))
 
 lowest-in-requires : tie.Need-lowest-in-requires Inv-loop μ-loop
 lowest-in-requires c κs = let left : Place tie.After-without-lowest = search in left .without-lowest .ensures
@@ -265,31 +270,40 @@ loop-again-3 c d =
     let t : Place tie.After-lowest-in = search in
     let else4 : Place tie.Else4 = search in
     let extended : Place tie.After-extended = search in
+    let added : Place tie.After-plan-added = search in
     extends d (loop (here t) .loop .inv d) (tries t)
-    (closes t ∙ else4 .if4 .left) (c .plan-added .ensures) (extended .extended .ensures)
+    (closes t ∙ else4 .if4 .left) (added .plan-added .ensures) (extended .extended .ensures)
 
 -- ---- the ways out
 
 same-length : tie.Need-same-length Inv-loop μ-loop
-same-length c = listed-length (diving (search) .listing)
-
-returns : tie.Need-returns Inv-loop μ-loop
-returns c = let loop : Place tie.At-loop = search in (diving-left _ (diving loop), diving loop .size)
+same-length c = diving (search) .size
 
 same-length-2 : tie.Need-same-length-2 Inv-loop μ-loop
 same-length-2 c = listed-length (diving (search) .listing)
 
-returns-2 : tie.Need-returns-2 Inv-loop μ-loop
-returns-2 c = let loop : Place tie.At-loop = search in (diving-left _ (diving loop), diving loop .size)
+returns : tie.Need-returns Inv-loop μ-loop
+returns c = diving-left _ (diving (search))
 
 same-length-3 : tie.Need-same-length-3 Inv-loop μ-loop
-same-length-3 c = listed-length (diving (search) .listing)
+same-length-3 c = diving (search) .size
+
+same-length-4 : tie.Need-same-length-4 Inv-loop μ-loop
+same-length-4 c = listed-length (diving (search) .listing)
+
+returns-2 : tie.Need-returns-2 Inv-loop μ-loop
+returns-2 c = diving-left _ (diving (search))
+
+same-length-5 : tie.Need-same-length-5 Inv-loop μ-loop
+same-length-5 c =
+    let t : Place tie.After-lowest-in = search in
+    kept-size _ (diving (loop (here t))) (tries t)
+
+same-length-6 : tie.Need-same-length-6 Inv-loop μ-loop
+same-length-6 c = listed-length (diving (search) .listing)
 
 returns-3 : tie.Need-returns-3 Inv-loop μ-loop
-returns-3 c =
-    let t : Place tie.After-lowest-in = search in
-    let now = loop (here t) in
-    (diving-left _ (diving now), kept-size _ (diving now) (tries t))
+returns-3 c = diving-left _ (diving (search))
 
 pub dive-spec : {M : Type 1} → statement M
 dive-spec =
@@ -300,4 +314,5 @@ dive-spec =
     without-lowest-requires keep-rest-requires aim-in-requires lowest-in-requires sub-if5 add-if5 sub-put-record
     part-put-record-start (λ c. omega arith) put-record-requires add-used add-used-2 listed-requires loop-less-2
     loop-again-2 cast-prefix element-write-prefix-2 extended-requires add-plan-added plan-added-requires loop-less-3
-    loop-again-3 same-length returns same-length-2 returns-2 same-length-3 returns-3)
+    loop-again-3 same-length same-length-2 returns same-length-3 same-length-4 returns-2 same-length-5 same-length-6
+    returns-3)
