@@ -4,7 +4,6 @@ use Prim.Native.Nat.{ℕ, _≤_, _<_}
 use mathlib.Core.Path.{_≡_}
 use mathlib.Core.Bool.{true, false, _&&_}
 use mathlib.Core.List.{List, [], _∷_}
-use lib.Dec.{leb, ltb}
 use Rattle.graph.specs.Chordless.{Adjacency}
 use Rattle.enumeration.specs.Words.{Family, isOpen}
 use Rattle.chordless.specs.Families.{rings, paths}
@@ -31,10 +30,6 @@ pub record TwoAtoms (n : ℕ) (table : List ℕ) (s v : ℕ) : Type 0 where
 pub record TwoEnds (n : ℕ) (table : List ℕ) (s t : ℕ) : Type 0 where
   pub words : Words n table
   pub ends : endsKept n s t ≡ true
-
--- the atoms above s that are bonded to it
-abbrev pub Seconds : ℕ → List ℕ → ℕ → List ℕ → Type 0
-Seconds n table s set = (v : ℕ) → has set v ≡ (ltb s v && leb v n && linkedBy table s v)
 
 -- a beginning that the sets steer, the sets handed on, its members and its candidates
 pub record Stepping (F : Family) (adj : Adjacency) (p : List ℕ) (x : ℕ) (aim next : Aim) (members want : List ℕ)

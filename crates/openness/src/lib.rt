@@ -13,7 +13,7 @@ ghost use Rattle.atomset.specs.Set.{has, linkedBy};
 ghost use Rattle.sweep.specs.Swept.{Symmetric};
 ghost use Rattle.search.specs.Place.{kindKept};
 ghost use Rattle.openness.specs.Plan.{familyBy, Words, Planned, Beginning, Everywhere, Steered, HandedOn, firstLength};
-ghost use Rattle.openness.specs.Parts.{OneAtom, TwoAtoms, TwoEnds, Stepping, Seconds, FirstAhead, PathFirsts};
+ghost use Rattle.openness.specs.Parts.{OneAtom, TwoAtoms, TwoEnds, Stepping, FirstAhead, PathFirsts};
 
 // The atoms that make a member of a beginning, and those that open it.
 pub struct Plan {
@@ -242,14 +242,31 @@ fn pair_opens(table: &[u64; 256], n: usize, s: usize, v: usize) -> bool
     atomset::contains(swept, v)
 }
 
-// The atoms above s that are bonded to it: those that may come second in a ring.
-fn seconds(table: &[u64; 256], n: usize, s: usize) -> [u64; 2]
+// The atoms that open the ring beginning s: those above s, bonded to it, from which a higher one is reached through
+// the atoms above s that are not bonded to it. Each of them is taken as the last atom of a ring, from the lowest on.
+fn second_atoms(table: &[u64; 256], n: usize, s: usize) -> [u64; 2]
     requires { ⌜ OneAtom n (now table) s ⌝ }
-    ensures { λ r. ⌜ Seconds n (now (table .entry)) s r ⌝ }
+    ensures { λ r. ⌜ ((v : ℕ) → has r v ≡ isOpen (rings n (linkedBy (now (table .entry)))) (s ∷ v ∷ [])) ⌝ }
 {
     let row = atomset::row(table, s);
-    let above = atomset::range(s, n);
-    atomset::intersection(above, row)
+    let low = atomset::range(s, n);
+    let free = atomset::minus(low, row);
+    // those not yet taken, the lower ones that no atom taken has opened, and those that one has
+    let mut left = atomset::intersection(low, row);
+    let mut shut = atomset::empty();
+    let mut found = atomset::empty();
+    while !atomset::is_empty(left) {
+        let last = atomset::single(atomset::lowest(left));
+        let more = sweep::reached(table, free, last, shut);
+        let opened = atomset::union(found, more);
+        found = opened;
+        let fewer = atomset::minus(shut, more);
+        let with_last = atomset::union(fewer, last);
+        shut = with_last;
+        let rest = atomset::without_lowest(left);
+        left = rest;
+    }
+    found
 }
 
 // Whether some ring begins with c.
@@ -257,34 +274,7 @@ fn ring_starts(table: &[u64; 256], n: usize, c: usize) -> bool
     requires { ⌜ OneAtom n (now table) c ⌝ }
     ensures { λ r. ⌜ r ≡ isOpen (rings n (linkedBy (now (table .entry)))) (c ∷ []) ⌝ }
 {
-    let mut left = seconds(table, n, c);
-    while !atomset::is_empty(left) {
-        if pair_opens(table, n, c, atomset::lowest(left)) {
-            return true;
-        }
-        let rest = atomset::without_lowest(left);
-        left = rest;
-    }
-    false
-}
-
-// The atoms that open the ring beginning s.
-fn second_atoms(table: &[u64; 256], n: usize, s: usize) -> [u64; 2]
-    requires { ⌜ OneAtom n (now table) s ⌝ }
-    ensures { λ r. ⌜ ((v : ℕ) → has r v ≡ isOpen (rings n (linkedBy (now (table .entry)))) (s ∷ v ∷ [])) ⌝ }
-{
-    let mut left = seconds(table, n, s);
-    let mut found = left;
-    while !atomset::is_empty(left) {
-        let v = atomset::lowest(left);
-        if !pair_opens(table, n, s, v) {
-            let fewer = atomset::without_atom(found, v);
-            found = fewer;
-        }
-        let rest = atomset::without_lowest(left);
-        left = rest;
-    }
-    found
+    !atomset::is_empty(second_atoms(table, n, c))
 }
 
 // The atom from c on that is the first to begin a ring; none where no such atom does.
