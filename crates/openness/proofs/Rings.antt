@@ -18,11 +18,13 @@ use Rattle.chordless.specs.Families.{rings}
 use Rattle.chordless.specs.Reach.{Walk, clear, free}
 use Rattle.chordless.proofs.Touch.{touches-facts, touches-of, closing-facts, closing-of}
 use Rattle.chordless.proofs.Lawful.{rings-lawful}
-use Rattle.chordless.proofs.Rings.{ring-opens-one, ring-opens-none}
+use Rattle.chordless.proofs.Rings.{ring-opens-one, ring-opens-none, ring-not-short}
 use Rattle.atomset.specs.Set.{has, linkedBy, Lowest, Emptiness}
 use Rattle.sweep.specs.Swept.{Reached}
 use Rattle.sweep.proofs.Walks.{reached-same}
 use Rattle.search.proofs.Readings.{open-range}
+use Rattle.openness.specs.declared.Plan.{Plan}
+use Rattle.openness.specs.Plan.{Everywhere}
 use Rattle.openness.specs.Parts.{OneAtom, TwoAtoms, FirstAhead}
 use Rattle.openness.proofs.Counts.{TakesLowest, taken-off, taken-within}
 
@@ -320,6 +322,17 @@ sifted-end {left = left} {found = found} b k none v =
     (λ e. let (last, r) = opens-reaching b e in
     true-of (has found v) (λ not-found. clash (has left last) (k .others v last r not-found .0) (none last)))
 
+-- they are the plan of the beginning s
+pub seconds-tell :
+    {n : ℕ} (table : List ℕ) {s : ℕ} {members opens : List ℕ} → ((v : ℕ) → has members v ≡ false) →
+    ((v : ℕ) → has opens v ≡ isOpen (rings n (linkedBy table)) (s ∷ v ∷ [])) →
+    Everywhere (rings n (linkedBy table)) (s ∷ []) (record { members = members; opens = opens })
+seconds-tell {n} table {s} members-none opens-is v =
+    record {
+      members = members-none v ∙ sym (ring-not-short n (linkedBy table) (s ∷ []) v (omega arith));
+      opens = opens-is v;
+    }
+
 -- whether there is one tells whether some ring begins with s
 pub starts-told :
     {n : ℕ} {table : List ℕ} {s : ℕ} {opens : List ℕ} {empty : Bool} → OneAtom n table s →
@@ -350,24 +363,33 @@ module _ {n : ℕ} {table : List ℕ} {c a : ℕ} (k : NoneBefore n table c a) w
 
   -- the atom a begins one
   pub ahead-first :
-      (one : List ℕ) → isOpen (rings n (linkedBy table)) (a ∷ []) ≡ true → ((v : ℕ) → has one v ≡ eqb v a) →
-      FirstAhead n table c one
-  ahead-first one e is v l none = is v ∙ go (decLt v a) (decLt a v)
-    where
-      go : Dec (v < a) → Dec (a < v) → eqb v a ≡ isOpen (rings n (linkedBy table)) (v ∷ [])
-      go (yes below) d = ne-eqb v a (λ q. omega arith) ∙ sym (k .shut v l below)
-      go (no other) (yes above) =
-          let in-one : has one a ≡ true = is a ∙ eq-eqb a a refl in
-          absurd (clash (has one a) in-one (none a (k .from) above))
-      go (no other) (no past) = let same : v ≡ a = omega arith in rw same (eq-eqb a a refl ∙ sym e)
+      {plan : Plan} → OneAtom n table a → isOpen (rings n (linkedBy table)) (a ∷ []) ≡ true →
+      Everywhere (rings n (linkedBy table)) (a ∷ []) plan → FirstAhead n table c (record { plan = plan; atom = a })
+  ahead-first b e tells =
+      record {
+        tells = λ low. tells;
+        high = b .high;
+        from = λ low. k .from;
+        begins = λ low. e;
+        before = k .shut;
+        none = λ zero v l. absurd (omega (arith, b .low));
+      }
 
   -- a is past the last atom: none begins one
-  pub ahead-none : (set : List ℕ) → n < a → ((v : ℕ) → has set v ≡ false) → FirstAhead n table c set
-  ahead-none set end is v l none = is v ∙ sym (go (decLt v a))
+  pub ahead-none : {plan : Plan} → n < a → FirstAhead n table c (record { plan = plan; atom = 0 })
+  ahead-none end =
+      record {
+        tells = λ low. absurd (omega arith);
+        high = omega arith;
+        from = λ low. absurd (omega arith);
+        begins = λ low. absurd (omega arith);
+        before = λ v l h. absurd (omega arith);
+        none = λ zero v l. go v l (decLt v a);
+      }
     where
-      go : Dec (v < a) → isOpen (rings n (linkedBy table)) (v ∷ []) ≡ false
-      go (yes below) = k .shut v l below
-      go (no other) =
+      go : (v : ℕ) → c ≤ v → Dec (v < a) → isOpen (rings n (linkedBy table)) (v ∷ []) ≡ false
+      go v l (yes below) = k .shut v l below
+      go v l (no other) =
           false-of (isOpen (rings n (linkedBy table)) (v ∷ []))
           (λ o. let range = open-range (rings n (linkedBy table)) (rings-lawful n (linkedBy table)) (v ∷ []) o 0
           (omega arith) in omega (arith, range))
