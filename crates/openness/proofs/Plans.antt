@@ -132,7 +132,8 @@ first-alone {n} {table} {c} {a} opens k low opens-is v l shut =
         let same : v ≡ a = omega arith in
         eq-eqb v a same ∙ sym (rw same (k .begins (omega arith)))
 
-module _ {n : ℕ} {table prefix : List ℕ} {len c : ℕ} {first : FirstPlan} (q : ShortRing n table prefix len c first) where
+module _ {n : ℕ} {table prefix : List ℕ} {len c : ℕ} {first : FirstPlan}
+    (q : ShortRing n table prefix len c first) where
   abbrev FoundHere : Found → Type 0
   FoundHere found = FoundAt (rings n (linkedBy table)) (take len prefix) c found
 

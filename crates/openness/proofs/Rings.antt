@@ -1,6 +1,6 @@
--- Openness of a beginning of one atom or two of a ring, from what a sweep and the tests of a second atom tell.
--- By `ring-opens-one` and `ring-opens-none`; a loop over the second atoms takes the lowest one each time, and one over
--- the first atoms stops at the first that begins a ring.
+-- Openness of a beginning of one atom or two of a ring, from what sweeps tell: a second atom opens when it reaches a
+-- higher one. By `ring-opens-one` and `ring-opens-none`; a loop over the second atoms takes each as the last one, from
+-- the lowest on, and one over the first atoms stops at the first that begins a ring.
 use Prim.Native.Nat.{ℕ, _+_, _≤_, _<_}
 use native.Mathlib.Decide.{decLt}
 use native.Mathlib.Omega.{arith}
@@ -159,8 +159,8 @@ module _ {n : ℕ} {table : List ℕ} {s v : ℕ} {targets between want swept : 
 
 -- ---- the second atoms
 
--- Of the atoms that may come second: `left` are not yet taken as the last one. Those in `shut` and `found` are; those
--- in `found` open, and one in `shut` reaches none but atoms that are left, which are higher
+-- Of the atoms that may come second, those in `left` are not yet taken as the last one. Of the others, those in `found`
+-- open, and one in `shut` reaches no higher one but those that are left
 pub record Sifted (n : ℕ) (table : List ℕ) (s : ℕ) (left shut found : List ℕ) : Type 0 where
   pub left-second : (v : ℕ) → has left v ≡ true → Second n table s v
   pub shut-second : (v : ℕ) → has shut v ≡ true → Second n table s v
@@ -182,14 +182,13 @@ sifted-start {n} {table} {s} {all} {shut} {found} all-is shut-none found-none =
       shut-second = λ v e. absurd (clash (has shut v) e (shut-none v));
       shut-lower = λ v w e l. absurd (clash (has shut v) e (shut-none v));
       found-opens = λ v e. absurd (clash (has found v) e (found-none v));
-      others = λ v last k not-found.
-          (listed last (k .closing), rw (listed v (k .second)));
+      others = λ v last k not-found. (listed last (k .closing), rw (listed v (k .second)));
     }
   where
     listed : (v : ℕ) → Second n table s v → has all v ≡ true
     listed v k = all-is v ∙ bonded-of table s (k .above) (k .range) (k .bond)
 
--- a turn: the lowest atom that is left is taken as the last one, and `more` are those of `shut` from which it is reached
+-- a turn: the lowest atom that is left is taken as the last one; `more` are those of `shut` from which it is reached
 pub record SiftingTurn (n : ℕ) (table : List ℕ) (s : ℕ) (left shut found rest closed opened : List ℕ) : Type 0 where
   pub atom : OneAtom n table s
   pub sifted : Sifted n table s left shut found

@@ -1,7 +1,6 @@
 -- `openness::atom_alone` meets its contract: no set holds 0, and another atom makes the set of it alone.
 -- By `alone-none` and `alone-one`.
 use native.Mathlib.Omega.{arith}
-use borrow.Author.Needs.{needs}
 use Rattle.openness.proofs.Plans.{alone-none, alone-one}
 use Rattle.openness.proofs.atom_alone.Statement.{statement}
 use Rattle.openness.proofs.atom_alone.Tie as tie

@@ -9,7 +9,8 @@ use Rattle.enumeration.specs.Words.{isOpen}
 use Rattle.chordless.specs.Families.{rings}
 use Rattle.atomset.specs.Set.{linkedBy}
 use Rattle.openness.specs.Parts.{OneAtom}
-use Rattle.openness.proofs.Rings.{seconds-tell, starts-told, NoneBefore, none-before, none-more, ahead-first, ahead-none}
+use Rattle.openness.proofs.Rings.{seconds-tell, starts-told}
+use Rattle.openness.proofs.Rings.{NoneBefore, none-before, none-more, ahead-first, ahead-none}
 use Rattle.openness.proofs.first_ahead.Statement.{statement}
 use Rattle.openness.proofs.first_ahead.Tie as tie
 
@@ -44,14 +45,15 @@ atom c =
       high = c .loop-test .taken;
     }
 
--- ---- the needs
-
--- the second atoms of a turn, and whether they tell of a ring
+-- its second atoms tell whether it begins a ring
 begins :
     (c : Place tie.After-is-empty) →
-    let args = start (turn (c .before .before)) .args in
-    not (c .is-empty .result) ≡ isOpen (rings (args .n) (linkedBy (args .table .now))) (turn (c .before .before) .loop .a ∷ [])
+    let loop = turn (c .before .before) in
+    let args = start loop .args in
+    not (c .is-empty .result) ≡ isOpen (rings (args .n) (linkedBy (args .table .now))) (loop .loop .a ∷ [])
 begins c = starts-told (atom (search)) (c .before .second-atoms .ensures) (c .is-empty .ensures)
+
+-- ---- the needs
 
 cast-atom : tie.Need-cast-t10 Inv-loop μ-loop
 cast-atom c = let a = atom (search) in omega (arith, a .high, a .words .few)

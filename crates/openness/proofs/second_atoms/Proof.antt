@@ -59,6 +59,37 @@ takes :
     TakesLowest (turn (taken c) .loop .left) (c .without-lowest .result) (taken c .lowest .result)
 takes c = record { lowest = taken c .lowest .ensures; rest-is = c .without-lowest .ensures }
 
+-- what the turn finds
+turned :
+    (c : Place tie.After-without-lowest) →
+    let loop = turn (taken c) .loop in
+    let args = start (sets (turn (taken c))) .args in
+    SiftingTurn (args .n) (args .table .now) (args .s) (loop .left) (loop .shut) (loop .found)
+    (c .without-lowest .result) (c .before .union2 .result) (c .before .before .before .union .result)
+turned c =
+    let loop = turn (taken c) in
+    let alone : Place tie.After-single = search in
+    let swept : Place tie.After-reached = search in
+    let opened : Place tie.After-union = search in
+    let fewer : Place tie.After-minus2 = search in
+    let closed : Place tie.After-union2 = search in
+    record {
+      atom = start (sets loop) .pre;
+      sifted = loop .loop .inv;
+      last = taken c .lowest .result;
+      alone = alone .single .result;
+      between = sets loop .before .minus .result;
+      more = swept .reached .result;
+      fewer = fewer .minus2 .result;
+      takes = takes c;
+      alone-is = alone .single .ensures;
+      between-is = between-is (sets loop);
+      more-is = swept .reached .ensures;
+      opened-is = opened .union .ensures;
+      fewer-is = fewer .minus2 .ensures;
+      closed-is = closed .union2 .ensures;
+    }
+
 -- ---- the needs
 
 row-requires : tie.Need-row-requires Inv-loop μ-loop
@@ -81,32 +112,6 @@ loop-holds c =
 single-requires : tie.Need-single-requires Inv-loop μ-loop
 single-requires c κs = let low = c .lowest .ensures in (low .low, low .high)
 
-loop-again : tie.Need-loop-again Inv-loop μ-loop
-loop-again c =
-    let loop = turn (taken c) in
-    let alone : Place tie.After-single = search in
-    let swept : Place tie.After-reached = search in
-    let opened : Place tie.After-union = search in
-    let fewer : Place tie.After-minus2 = search in
-    let closed : Place tie.After-union2 = search in
-    sifted-turn
-    (record {
-      atom = start (sets loop) .pre;
-      sifted = loop .loop .inv;
-      last = taken c .lowest .result;
-      alone = alone .single .result;
-      between = sets loop .before .minus .result;
-      more = swept .reached .result;
-      fewer = fewer .minus2 .result;
-      takes = takes c;
-      alone-is = alone .single .ensures;
-      between-is = between-is (sets loop);
-      more-is = swept .reached .ensures;
-      opened-is = opened .union .ensures;
-      fewer-is = fewer .minus2 .ensures;
-      closed-is = closed .union2 .ensures;
-    })
-
 returns : tie.Need-returns Inv-loop μ-loop
 returns c =
     let none = c .before .is-empty .ensures .none (not-false _ (c .if1 .left)) in
@@ -119,4 +124,4 @@ second-atoms-spec =
     (tie.spec
     Inv-loop μ-loop row-requires range-requires (λ c κs. tt) (λ c κs. tt) (λ c κs. tt) (λ c κs. tt) loop-holds
     (λ c κs. tt) (λ c κs. some c) single-requires (λ c κs. search needs) (λ c κs. tt) (λ c κs. tt) (λ c κs. tt)
-    (λ c κs. some (search)) (λ c. taken-fewer (takes c)) loop-again returns)
+    (λ c κs. some (search)) (λ c. taken-fewer (takes c)) (λ c. sifted-turn (turned c)) returns)

@@ -1,6 +1,5 @@
 -- `openness::short_ring` meets its contract, by the length of the beginning and its atom.
 -- Each answer is that of the function it calls, or the plan that is kept.
-use Prim.Native.Nat.{_≤_}
 use native.Mathlib.Omega.{arith}
 use borrow.Author.Needs.{needs}
 use Rattle.openness.proofs.Plans.{next-atom, start-found, first-atom, kept-found, made-found}
