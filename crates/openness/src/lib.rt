@@ -257,14 +257,14 @@ fn second_atoms(table: &[u64; 256], n: usize, s: usize) -> [u64; 2]
 {
     let row = atomset::row(table, s);
     let low = atomset::range(s, n);
-    let free = atomset::minus(low, row);
+    let between = atomset::minus(low, row);
     // those not yet taken, the lower ones that no atom taken has opened, and those that one has
     let mut left = atomset::intersection(low, row);
     let mut shut = atomset::empty();
     let mut found = atomset::empty();
     while !atomset::is_empty(left) {
         let last = atomset::single(atomset::lowest(left));
-        let more = sweep::reached(table, free, last, shut);
+        let more = sweep::reached(table, between, last, shut);
         let opened = atomset::union(found, more);
         found = opened;
         let fewer = atomset::minus(shut, more);

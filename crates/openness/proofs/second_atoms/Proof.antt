@@ -15,10 +15,10 @@ use Rattle.openness.proofs.second_atoms.Statement.{statement}
 use Rattle.openness.proofs.second_atoms.Tie as tie
 
 abbrev Inv-loop : tie.InvT-loop
-Inv-loop table n s free left₀ shut₀ found₀ left shut found = Sifted n table s left shut found
+Inv-loop table n s between left₀ shut₀ found₀ left shut found = Sifted n table s left shut found
 
 abbrev μ-loop : tie.MeasureT-loop
-μ-loop table n s free left₀ shut₀ found₀ left shut found = size (has left) 128
+μ-loop table n s between left₀ shut₀ found₀ left shut found = size (has left) 128
 
 -- ---- the places (in a proof, `search` finds a place in c by its type)
 
