@@ -19,7 +19,8 @@ use Rattle.atomset.proofs.Bonds.{linked-bonded, linked-symmetric}
 use Rattle.search.specs.declared.Search.{Search}
 use Rattle.search.specs.Place.{familyOf, family, beginning, kindKept}
 use Rattle.openness.specs.declared.Plan.{Plan}
-use Rattle.openness.specs.Plan.{familyBy, Words, Tells, Planned, Beginning}
+use Rattle.openness.specs.declared.FirstPlan.{FirstPlan}
+use Rattle.openness.specs.Plan.{familyBy, Words, Tells, Planned, FirstTells, Beginning, Planning}
 use Rattle.openness.proofs.Arrays.{taken-length}
 
 module _ (mol : Molecule) (ok : wellFormed mol ≡ true) (table : List ℕ) (words : WordsOf (mol .rows) table) where
@@ -66,10 +67,12 @@ pub record AnswersAsDefined (mol : Molecule) (kind s t : ℕ) (p : List ℕ) (pl
   pub members : has (plan .members) v ≡ familyOf mol kind s t .member (p ++ v ∷ [])
   pub opens : has (plan .opens) v ≡ isOpen (familyOf mol kind s t) (p ++ v ∷ [])
 
--- `plan_at` may be called, and what it ensures of its answer is that this answers as defined: for the atom c, and for
--- every atom where the beginning has an atom or more
+-- `plan_at` may be called, with any first plan that tells, and what it ensures of the plan that it finds is that this
+-- answers as defined: for the atom c, and for every atom where the beginning has an atom or more
 pub record PlanAnswers (mol : Molecule) (table : List ℕ) (kind s t : ℕ) (prefix : List ℕ) (len c : ℕ) : Type 0 where
-  pub may-call : Beginning (mol .atoms) table kind s t prefix len × (1 ≤ c) × (c ≤ mol .atoms)
+  pub may-call :
+      (first : FirstPlan) → FirstTells (familyBy (mol .atoms) table kind s t) first →
+      Planning (mol .atoms) table kind s t prefix len c first
   pub next :
       (plan : Plan) → Planned (familyBy (mol .atoms) table kind s t) (take len prefix) c plan →
       AnswersAsDefined mol kind s t (take len prefix) plan c
@@ -84,7 +87,7 @@ pub words-answer-openness :
     Asked mol table kind s t prefix len c → PlanAnswers mol table kind s t prefix len c
 words-answer-openness {mol} {table} {kind} {s} {t} {prefix} {len} {c} q =
     record {
-      may-call = (begun, q .low, q .high);
+      may-call = λ first tells. record { begun = begun; low = q .low; high = q .high; tells = tells };
       next = λ plan k. defined plan c (k .next);
       every = λ plan k some v. defined plan v (k .every (rw length-is some) v);
     }

@@ -1,15 +1,18 @@
 -- The plan of a beginning, from what is found at each kind and length.
--- The empty beginning of a ring search has the atoms up to the first that opens; every other beginning has every atom.
-use Prim.Native.Nat.{ℕ, _≤_, _<_}
+-- The empty beginning of a ring search has the atoms up to the first that opens, and one of one atom may have the plan
+-- that is kept; every other beginning has every atom.
+use Prim.Native.Nat.{ℕ, zero, suc, _≤_, _<_}
+use native.Mathlib.Decide.{decLt, ℕ-discrete}
 use native.Mathlib.Omega.{arith}
 use mathlib.Core.Path.{_≡_, refl, sym, _∙_}
-use mathlib.Core.Bool.{Bool, true, false, cond}
+use mathlib.Core.Bool.{Bool, true, false, _&&_, cond}
 use mathlib.Core.List.{List, [], _∷_}
 use mathlib.Core.Logic.{inl, inr}
 use lib.ListN.{take}
-use lib.Dec.{eqb}
-use borrow.Author.Tests.{eq-eqb, ne-eqb}
+use lib.Dec.{leb, eqb}
+use borrow.Author.Tests.{eq-eqb, ne-eqb, le-leb}
 use Rattle.graph.specs.Chordless.{atomAt}
+use Rattle.graph.proofs.Below.{clash}
 use Rattle.enumeration.specs.Words.{Family, isOpen}
 use Rattle.enumeration.specs.Lawful.{Lawful}
 use Rattle.chordless.specs.Families.{rings, paths}
@@ -20,8 +23,10 @@ use Rattle.atomset.specs.Set.{has, linkedBy}
 use Rattle.search.specs.Place.{kindKept, endsKept}
 use Rattle.search.proofs.Readings.{kind-facts, KindFacts, ends-facts, ends-of}
 use Rattle.openness.specs.declared.Plan.{Plan}
-use Rattle.openness.specs.Plan.{familyBy, firstLength, Planned, Ahead, Everywhere, Beginning}
-use Rattle.openness.specs.Parts.{OneAtom, TwoEnds, FirstAhead, PathFirsts}
+use Rattle.openness.specs.declared.FirstPlan.{FirstPlan}
+use Rattle.openness.specs.declared.Found.{Found}
+use Rattle.openness.specs.Plan.{familyBy, firstLength, Planned, Ahead, Everywhere, Beginning, Planning, FoundAt}
+use Rattle.openness.specs.Parts.{OneAtom, TwoEnds, FirstAhead, ShortRing, PathFirsts}
 use Rattle.openness.proofs.Arrays.{one-taken, open-atoms}
 
 -- ---- the family of a kind
@@ -86,69 +91,144 @@ planned-ahead {c = c} f =
       every = λ g. absurd (omega arith);
     }
 
+none-taken : (prefix : List ℕ) {len : ℕ} → len ≡ 0 → take len prefix ≡ []
+none-taken prefix e = rw e
+
+-- ---- a ring beginning of one atom or none
+
+-- the set of an atom alone
+module _ {atom : ℕ} {set : ℕ → Bool} where
+  pub alone-none : ((v : ℕ) → set v ≡ false) → atom ≡ 0 → (v : ℕ) → set v ≡ (leb 1 v && eqb v atom)
+  alone-none none e v = none v ∙ rw e (go v)
+    where
+      go : (v : ℕ) → false ≡ (leb 1 v && eqb v 0)
+      go zero = refl
+      go (suc v) = rw (ne-eqb (suc v) 0 (λ e. omega arith), le-leb 1 (suc v) (omega arith))
+
+  pub alone-one :
+      {a : ℕ} → ((v : ℕ) → set v ≡ eqb v a) → a ≡ atom → (atom ≡ 0 → ⊥) → (v : ℕ) → set v ≡ (leb 1 v && eqb v atom)
+  alone-one one same some v = one v ∙ rw same (go v)
+    where
+      go : (v : ℕ) → eqb v atom ≡ (leb 1 v && eqb v atom)
+      go zero = rw (ne-eqb 0 atom (λ e. some (sym e)))
+      go (suc v) = rw (le-leb 1 (suc v) (omega arith))
+
+-- the first atom ahead is the first that opens
+first-alone :
+    {n : ℕ} {table : List ℕ} {c a : ℕ} {plan : Plan} (opens : List ℕ) →
+    FirstAhead n table c (record { plan = plan; atom = a }) → 1 ≤ c →
+    ((v : ℕ) → has opens v ≡ (leb 1 v && eqb v a)) → (v : ℕ) → c ≤ v →
+    ((u : ℕ) → c ≤ u → u < v → has opens u ≡ false) → has opens v ≡ isOpen (rings n (linkedBy table)) (v ∷ [])
+first-alone {n} {table} {c} {a} opens k low opens-is v l shut =
+    opens-is v ∙ rw (le-leb 1 v (omega arith)) (go (ℕ-discrete a 0) (decLt v a) (decLt a v))
+  where
+    go : Dec (a ≡ 0) → Dec (v < a) → Dec (a < v) → eqb v a ≡ isOpen (rings n (linkedBy table)) (v ∷ [])
+    go (yes none) d e = ne-eqb v a (λ q. omega arith) ∙ sym (k .none none v l)
+    go (no some) (yes below) e = ne-eqb v a (λ q. omega arith) ∙ sym (k .before v l below)
+    go (no some) (no other) (yes above) =
+        let in-it : has opens a ≡ true = opens-is a ∙ rw (le-leb 1 a (omega arith), eq-eqb a a refl) in
+        absurd (clash (has opens a) in-it (shut a (k .from (omega arith)) above))
+    go (no some) (no other) (no past) =
+        let same : v ≡ a = omega arith in
+        eq-eqb v a same ∙ sym (rw same (k .begins (omega arith)))
+
+module _ {n : ℕ} {table prefix : List ℕ} {len c : ℕ} {first : FirstPlan}
+    (q : ShortRing n table prefix len c first) where
+  abbrev FoundHere : Found → Type 0
+  FoundHere found = FoundAt (rings n (linkedBy table)) (take len prefix) c found
+
+  pub next-atom : OneAtom n table c
+  next-atom = record { words = q .words; low = q .low; high = q .high }
+
+  -- at the empty beginning
+  pub start-found :
+      {none opens : List ℕ} {ahead : FirstPlan} → len ≡ 0 → ((v : ℕ) → has none v ≡ false) →
+      FirstAhead n table c ahead → ((v : ℕ) → has opens v ≡ (leb 1 v && eqb v (ahead .atom))) →
+      FoundHere (record { plan = record { members = none; opens = opens }; first = ahead })
+  start-found {opens = opens} empty none-is k opens-is =
+      record {
+        planned = rw (none-taken prefix empty)
+            (planned-ahead (λ v l shut. record {
+              members = none-is v ∙ sym (ring-not-short n (linkedBy table) [] v (omega arith));
+              opens = first-alone opens k (q .low) opens-is v l shut;
+            }));
+        tells = k .tells;
+      }
+
+  -- at one atom
+  module _ (some : len ≡ 0 → ⊥) where
+    one-atom : take len prefix ≡ atomAt prefix 0 ∷ []
+    one-atom = let one : len ≡ 1 = omega (arith, q .short) in rw one (one-taken prefix (q .size))
+
+    pub first-atom : {a : ℕ} → a ≡ atomAt prefix 0 → OneAtom n table a
+    first-atom e =
+        let short : len ≤ 128 = omega (arith, q .short) in
+        let (low, high) =
+        open-atoms prefix len (rings-lawful n (linkedBy table)) refl (q .size) short (q .isOpened) 0 (omega arith) in
+        record { words = q .words; low = rw e low; high = rw e high }
+
+    -- the plan that is kept is of this atom
+    pub kept-found : atomAt prefix 0 ≡ first .atom → FoundHere (record { plan = first .plan; first = first })
+    kept-found same =
+        let low = first-atom (sym same) .low in
+        record { planned = rw (one-atom, same) (planned-every (q .tells low)); tells = q .tells }
+
+    -- a new plan
+    pub made-found :
+        {a : ℕ} {plan : Plan} → a ≡ atomAt prefix 0 → Everywhere (rings n (linkedBy table)) (a ∷ []) plan →
+        FoundHere (record { plan = plan; first = record { plan = plan; atom = atomAt prefix 0 } })
+    made-found e k = record { planned = rw (one-atom, ← e) (planned-every k); tells = λ low. rw (← e) k }
+
 -- ---- at an open beginning
 
-module _ {n : ℕ} {table : List ℕ} {kind s t : ℕ} {prefix : List ℕ} {len : ℕ}
-    (b : Beginning n table kind s t prefix len) where
-  abbrev PlannedHere : ℕ → Plan → Type 0
-  PlannedHere c plan = Planned (familyBy n table kind s t) (take len prefix) c plan
+pub path-ends :
+    {n : ℕ} {table : List ℕ} {kind s t : ℕ} {prefix : List ℕ} {len : ℕ} → Beginning n table kind s t prefix len →
+    (kind ≡ 0 → ⊥) → TwoEnds n table s t
+path-ends {n} {table} {kind} {s} {t} b d =
+    record { words = b .words; ends = kind-ends n table kind s t d (b .kinds) }
 
-  none-taken : len ≡ 0 → take len prefix ≡ []
-  none-taken e = rw e
+module _ {n : ℕ} {table : List ℕ} {kind s t : ℕ} {prefix : List ℕ} {len c : ℕ} {first : FirstPlan}
+    (q : Planning n table kind s t prefix len c first) where
+  abbrev FoundBy : Found → Type 0
+  FoundBy found = FoundAt (familyBy n table kind s t) (take len prefix) c found
+
+  -- that the sets steer
+  pub steered-found :
+      {plan : Plan} → Everywhere (familyBy n table kind s t) (take len prefix) plan →
+      FoundBy (record { plan = plan; first = first })
+  steered-found k = record { planned = planned-every k; tells = q .tells }
 
   -- a ring search
-  module _ (e : kind ≡ 0) where
-    pub planned-ring-start :
-        {c : ℕ} {none opens : List ℕ} → len ≡ 0 → ((v : ℕ) → has none v ≡ false) → FirstAhead n table c opens →
-        PlannedHere c (record { members = none; opens = opens })
-    planned-ring-start z none-is opens-is =
-        rw (family-rings n table kind s t e, none-taken z)
-        (planned-ahead
-        (λ v l shut. record {
-          members = none-is v ∙ sym (ring-not-short n (linkedBy table) [] v (omega arith));
-          opens = opens-is v l shut;
-        }))
+  module _ (short : len < firstLength kind) (e : kind ≡ 0) where
+    pub ring-asked : ShortRing n table prefix len c first
+    ring-asked =
+        let same = family-rings n table kind s t e in
+        record {
+          words = q .begun .words;
+          size = q .begun .size;
+          short = omega (arith, first-few kind);
+          isOpened = rw same at (q .begun .isOpened);
+          low = q .low;
+          high = q .high;
+          tells = rw same at (q .tells);
+        }
 
-    -- at a beginning of one atom
-    module _ (before : len < firstLength kind) (d : len ≡ 0 → ⊥) {a : ℕ} (f : a ≡ atomAt prefix 0) where
-      one : len ≡ 1
-      one = omega (arith, first-few kind)
-
-      pub first-atom : OneAtom n table a
-      first-atom =
-          let L = family-by-lawful n table kind s t in
-          let short : len ≤ 128 = omega (arith, b .short) in
-          let first : 0 < len = omega (arith, one) in
-          let (low, high) =
-          open-atoms prefix len L (family-by-atoms n table kind s t) (b .size) short (b .isOpened) 0 first in
-          record { words = b .words; low = rw f low; high = rw f high }
-
-      pub planned-seconds :
-          {c : ℕ} {none opens : List ℕ} → ((v : ℕ) → has none v ≡ false) →
-          ((v : ℕ) → has opens v ≡ isOpen (rings n (linkedBy table)) (a ∷ v ∷ [])) →
-          PlannedHere c (record { members = none; opens = opens })
-      planned-seconds none-is opens-is =
-          rw (family-rings n table kind s t e, one, one-taken prefix (b .size), sym f)
-          (planned-every
-          (λ v. record {
-            members = none-is v ∙ sym (ring-not-short n (linkedBy table) (a ∷ []) v (omega arith));
-            opens = opens-is v;
-          }))
+    pub ring-found : {found : Found} → FoundAt (rings n (linkedBy table)) (take len prefix) c found → FoundBy found
+    ring-found k = rw (family-rings n table kind s t e) k
 
   -- a path search, at the empty beginning
-  module _ (d : kind ≡ 0 → ⊥) where
-    pub path-ends : TwoEnds n table s t
-    path-ends = record { words = b .words; ends = kind-ends n table kind s t d (b .kinds) }
-
-    pub planned-path-start :
-        {c : ℕ} {none opens : List ℕ} → len < firstLength kind → ((v : ℕ) → has none v ≡ false) →
-        PathFirsts n table s t opens → PlannedHere c (record { members = none; opens = opens })
-    planned-path-start before none-is opens-is =
-        let empty : len ≡ 0 = omega (arith, first-of-paths kind d) in
-        let differ = ends-facts n s t (path-ends .ends) .differ in
-        rw (family-paths n table kind s t d, none-taken empty)
-        (planned-every
-        (λ v. record {
-          members = none-is v ∙ sym (path-not-one n (linkedBy table) s t v differ);
-          opens = opens-is v;
-        }))
+  pub path-found :
+      {none opens : List ℕ} → (kind ≡ 0 → ⊥) → len < firstLength kind → ((v : ℕ) → has none v ≡ false) →
+      PathFirsts n table s t opens → FoundBy (record { plan = record { members = none; opens = opens }; first = first })
+  path-found {none} {opens} d before none-is opens-is = record { planned = planned; tells = q .tells }
+    where
+      planned : Planned (familyBy n table kind s t) (take len prefix) c (record { members = none; opens = opens })
+      planned =
+          let empty : len ≡ 0 = omega (arith, first-of-paths kind d) in
+          let differ = ends-facts n s t (path-ends (q .begun) d .ends) .differ in
+          rw (family-paths n table kind s t d, none-taken prefix empty)
+          (planned-every
+          (λ v. record {
+            members = none-is v ∙ sym (path-not-one n (linkedBy table) s t v differ);
+            opens = opens-is v;
+          }))

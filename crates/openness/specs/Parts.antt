@@ -4,14 +4,15 @@ use Prim.Native.Nat.{ℕ, _≤_, _<_}
 use mathlib.Core.Path.{_≡_}
 use mathlib.Core.Bool.{true, false, _&&_}
 use mathlib.Core.List.{List, [], _∷_}
-use lib.Dec.{leb, ltb}
+use lib.ListN.{length, take}
 use Rattle.graph.specs.Chordless.{Adjacency}
 use Rattle.enumeration.specs.Words.{Family, isOpen}
 use Rattle.chordless.specs.Families.{rings, paths}
 use Rattle.atomset.specs.Set.{has, linkedBy}
 use Rattle.search.specs.Place.{endsKept}
 use Rattle.openness.specs.declared.Aim.{Aim}
-use Rattle.openness.specs.Plan.{Words, HandedOn, Steered}
+use Rattle.openness.specs.declared.FirstPlan.{FirstPlan}
+use Rattle.openness.specs.Plan.{Words, HandedOn, Steered, FirstTells}
 
 -- an atom that may begin a ring
 pub record OneAtom (n : ℕ) (table : List ℕ) (c : ℕ) : Type 0 where
@@ -32,10 +33,6 @@ pub record TwoEnds (n : ℕ) (table : List ℕ) (s t : ℕ) : Type 0 where
   pub words : Words n table
   pub ends : endsKept n s t ≡ true
 
--- the atoms above s that are bonded to it
-abbrev pub Seconds : ℕ → List ℕ → ℕ → List ℕ → Type 0
-Seconds n table s set = (v : ℕ) → has set v ≡ (ltb s v && leb v n && linkedBy table s v)
-
 -- a beginning that the sets steer, the sets handed on, its members and its candidates
 pub record Stepping (F : Family) (adj : Adjacency) (p : List ℕ) (x : ℕ) (aim next : Aim) (members want : List ℕ)
     : Type 0 where
@@ -44,11 +41,24 @@ pub record Stepping (F : Family) (adj : Adjacency) (p : List ℕ) (x : ℕ) (aim
   pub members-is : (v : ℕ) → has members v ≡ (has (aim .goal) v && adj x v)
   pub want-is : (v : ℕ) → has want v ≡ (has (aim .free) v && adj x v)
 
--- of the atoms from c on, the set has the first that begins a ring, and up to it no other
-abbrev pub FirstAhead : ℕ → List ℕ → ℕ → List ℕ → Type 0
-FirstAhead n table c set =
-    (v : ℕ) → c ≤ v → ((u : ℕ) → c ≤ u → u < v → has set u ≡ false) →
-    has set v ≡ isOpen (rings n (linkedBy table)) (v ∷ [])
+-- of the atoms from c on, the first that begins a ring, and its plan; the atom is 0 where none does
+pub record FirstAhead (n : ℕ) (table : List ℕ) (c : ℕ) (first : FirstPlan) : Type 0 where
+  pub tells : FirstTells (rings n (linkedBy table)) first
+  pub high : first .atom ≤ n
+  pub from : 1 ≤ first .atom → c ≤ first .atom
+  pub begins : 1 ≤ first .atom → isOpen (rings n (linkedBy table)) (first .atom ∷ []) ≡ true
+  pub before : (v : ℕ) → c ≤ v → v < first .atom → isOpen (rings n (linkedBy table)) (v ∷ []) ≡ false
+  pub none : first .atom ≡ 0 → (v : ℕ) → c ≤ v → isOpen (rings n (linkedBy table)) (v ∷ []) ≡ false
+
+-- an open ring beginning of one atom or none, and the first plan that is kept
+pub record ShortRing (n : ℕ) (table prefix : List ℕ) (len c : ℕ) (first : FirstPlan) : Type 0 where
+  pub words : Words n table
+  pub size : length prefix ≡ 128
+  pub short : len ≤ 1
+  pub isOpened : isOpen (rings n (linkedBy table)) (take len prefix) ≡ true
+  pub low : 1 ≤ c
+  pub high : c ≤ n
+  pub tells : FirstTells (rings n (linkedBy table)) first
 
 -- the set has the atoms that begin a path from s to t
 abbrev pub PathFirsts : ℕ → List ℕ → ℕ → ℕ → List ℕ → Type 0

@@ -17,6 +17,7 @@ use Rattle.search.specs.Place.{kindKept}
 use Rattle.openness.specs.declared.Plan.{Plan}
 use Rattle.openness.specs.declared.Aim.{Aim}
 use Rattle.openness.specs.declared.FirstPlan.{FirstPlan}
+use Rattle.openness.specs.declared.Found.{Found}
 
 -- The family of a kind over a word table
 unfoldable pub familyBy : ℕ → List ℕ → ℕ → ℕ → ℕ → Family
@@ -58,6 +59,19 @@ pub record Beginning (n : ℕ) (table : List ℕ) (kind s t : ℕ) (prefix : Lis
   pub size : length prefix ≡ 128
   pub short : len ≤ 127
   pub isOpened : isOpen (familyBy n table kind s t) (take len prefix) ≡ true
+
+-- an open beginning that is to be planned from the next atom c on, and the first plan that is kept
+pub record Planning (n : ℕ) (table : List ℕ) (kind s t : ℕ) (prefix : List ℕ) (len c : ℕ) (first : FirstPlan) : Type 0
+  where
+    pub begun : Beginning n table kind s t prefix len
+    pub low : 1 ≤ c
+    pub high : c ≤ n
+    pub tells : FirstTells (familyBy n table kind s t) first
+
+-- what is found there, and the first plan that is kept from then on
+pub record FoundAt (F : Family) (p : List ℕ) (c : ℕ) (found : Found) : Type 0 where
+  pub planned : Planned F p c (found .plan)
+  pub tells : FirstTells F (found .first)
 
 -- the length of the shortest beginnings that two sets steer, by the kind
 abbrev pub firstLength : ℕ → ℕ

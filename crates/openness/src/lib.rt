@@ -3,17 +3,18 @@
 use widen::u8_usize;
 ghost use Prim.Native.Nat.{ℕ, _≤_, _-_};
 ghost use mathlib.Core.Path.{_≡_};
-ghost use mathlib.Core.Bool.{true};
+ghost use mathlib.Core.Bool.{true, _&&_};
 ghost use mathlib.Core.List.{List, [], _∷_, _++_};
 ghost use lib.ListN.{length, take, getD};
+ghost use lib.Dec.{leb, eqb};
 ghost use Rattle.enumeration.specs.Words.{Family, isOpen};
 ghost use Rattle.chordless.specs.Families.{rings, paths};
 ghost use Rattle.chordless.specs.Steers.{Steers};
 ghost use Rattle.atomset.specs.Set.{has, linkedBy};
 ghost use Rattle.sweep.specs.Swept.{Symmetric};
 ghost use Rattle.search.specs.Place.{kindKept};
-ghost use Rattle.openness.specs.Plan.{familyBy, Words, Planned, Beginning, Everywhere, Steered, HandedOn, firstLength};
-ghost use Rattle.openness.specs.Parts.{OneAtom, TwoAtoms, TwoEnds, Stepping, Seconds, FirstAhead, PathFirsts};
+ghost use Rattle.openness.specs.Plan.{familyBy, Words, Beginning, Planning, FoundAt, Everywhere, Steered, HandedOn, firstLength};
+ghost use Rattle.openness.specs.Parts.{OneAtom, TwoAtoms, TwoEnds, Stepping, FirstAhead, ShortRing, PathFirsts};
 
 // The atoms that make a member of a beginning, and those that open it.
 pub struct Plan {
@@ -25,6 +26,12 @@ pub struct Plan {
 pub struct FirstPlan {
     pub plan: Plan,
     pub atom: u8,
+}
+
+// What a trial finds at a beginning, and the plan of a beginning of one atom that is kept.
+pub struct Found {
+    pub plan: Plan,
+    pub first: FirstPlan,
 }
 
 // The two sets that steer a search below a beginning, but for what is bonded to its last atom: the atoms that may close
@@ -242,14 +249,31 @@ fn pair_opens(table: &[u64; 256], n: usize, s: usize, v: usize) -> bool
     atomset::contains(swept, v)
 }
 
-// The atoms above s that are bonded to it: those that may come second in a ring.
-fn seconds(table: &[u64; 256], n: usize, s: usize) -> [u64; 2]
+// The atoms that open the ring beginning s: those above s, bonded to it, from which a higher one is reached through
+// the atoms above s that are not bonded to it. Each of them is taken as the last atom of a ring, from the lowest on.
+fn second_atoms(table: &[u64; 256], n: usize, s: usize) -> [u64; 2]
     requires { ⌜ OneAtom n (now table) s ⌝ }
-    ensures { λ r. ⌜ Seconds n (now (table .entry)) s r ⌝ }
+    ensures { λ r. ⌜ ((v : ℕ) → has r v ≡ isOpen (rings n (linkedBy (now (table .entry)))) (s ∷ v ∷ [])) ⌝ }
 {
     let row = atomset::row(table, s);
-    let above = atomset::range(s, n);
-    atomset::intersection(above, row)
+    let low = atomset::range(s, n);
+    let between = atomset::minus(low, row);
+    // those not yet taken, the lower ones that no atom taken has opened, and those that one has
+    let mut left = atomset::intersection(low, row);
+    let mut shut = atomset::empty();
+    let mut found = atomset::empty();
+    while !atomset::is_empty(left) {
+        let last = atomset::single(atomset::lowest(left));
+        let more = sweep::reached(table, between, last, shut);
+        let opened = atomset::union(found, more);
+        found = opened;
+        let fewer = atomset::minus(shut, more);
+        let with_last = atomset::union(fewer, last);
+        shut = with_last;
+        let rest = atomset::without_lowest(left);
+        left = rest;
+    }
+    found
 }
 
 // Whether some ring begins with c.
@@ -257,49 +281,47 @@ fn ring_starts(table: &[u64; 256], n: usize, c: usize) -> bool
     requires { ⌜ OneAtom n (now table) c ⌝ }
     ensures { λ r. ⌜ r ≡ isOpen (rings n (linkedBy (now (table .entry)))) (c ∷ []) ⌝ }
 {
-    let mut left = seconds(table, n, c);
-    while !atomset::is_empty(left) {
-        if pair_opens(table, n, c, atomset::lowest(left)) {
-            return true;
-        }
-        let rest = atomset::without_lowest(left);
-        left = rest;
-    }
-    false
+    !atomset::is_empty(second_atoms(table, n, c))
 }
 
-// The atoms that open the ring beginning s.
-fn second_atoms(table: &[u64; 256], n: usize, s: usize) -> [u64; 2]
-    requires { ⌜ OneAtom n (now table) s ⌝ }
-    ensures { λ r. ⌜ ((v : ℕ) → has r v ≡ isOpen (rings n (linkedBy (now (table .entry)))) (s ∷ v ∷ [])) ⌝ }
-{
-    let mut left = seconds(table, n, s);
-    let mut found = left;
-    while !atomset::is_empty(left) {
-        let v = atomset::lowest(left);
-        if !pair_opens(table, n, s, v) {
-            let fewer = atomset::without_atom(found, v);
-            found = fewer;
-        }
-        let rest = atomset::without_lowest(left);
-        left = rest;
-    }
-    found
-}
-
-// The atom from c on that is the first to begin a ring; none where no such atom does.
-fn first_ahead(table: &[u64; 256], n: usize, c: usize) -> [u64; 2]
+// The atom from c on that is the first to begin a ring, and its plan; the atom is 0 where there is none.
+fn first_ahead(table: &[u64; 256], n: usize, c: usize) -> FirstPlan
     requires { ⌜ OneAtom n (now table) c ⌝ }
     ensures { λ r. ⌜ FirstAhead n (now (table .entry)) c r ⌝ }
 {
+    let none = atomset::empty();
     let mut a = c;
     while a <= n {
-        if ring_starts(table, n, a) {
-            return atomset::single(a);
+        let opens = second_atoms(table, n, a);
+        if !atomset::is_empty(opens) {
+            return FirstPlan {
+                plan: Plan {
+                    members: none,
+                    opens: opens,
+                },
+                atom: a as u8,
+            };
         }
         a += 1;
     }
-    atomset::empty()
+    FirstPlan {
+        plan: Plan {
+            members: none,
+            opens: none,
+        },
+        atom: 0,
+    }
+}
+
+// The atom as a set; without atoms where it is 0.
+fn atom_alone(atom: u8) -> [u64; 2]
+    requires { ⌜ atom ≤ 128 ⌝ }
+    ensures { λ r. ⌜ ((v : ℕ) → has r v ≡ (leb 1 v && eqb v atom)) ⌝ }
+{
+    if atom == 0 {
+        return atomset::empty();
+    }
+    atomset::single(u8_usize(atom))
 }
 
 // The atom that begins a path from s to t: s where t is reached from it, otherwise none.
@@ -324,6 +346,53 @@ fn path_starts(table: &[u64; 256], n: usize, s: usize, t: usize, c: usize) -> bo
     atomset::contains(path_firsts(table, n, s, t), s)
 }
 
+// What a trial finds at an open ring beginning of one atom or none: the plan of one atom is made anew only where the
+// kept one is not of this atom.
+fn short_ring(
+    table: &[u64; 256],
+    n: usize,
+    prefix: &[u8; 128],
+    len: usize,
+    c: usize,
+    first: FirstPlan,
+) -> Found
+    requires { ⌜ ShortRing n (now table) (now prefix) len c first ⌝ }
+    ensures { λ r. ⌜ FoundAt (rings n (linkedBy (now (table .entry)))) (take len (now (prefix .entry))) c r ⌝ }
+{
+    let none = atomset::empty();
+    if len == 0 {
+        let ahead = first_ahead(table, n, c);
+        let opens = atom_alone(ahead.atom);
+        return Found {
+            plan: Plan {
+                members: none,
+                opens: opens,
+            },
+            first: ahead,
+        };
+    }
+    if prefix[0] == first.atom {
+        let kept = first.plan;
+        return Found {
+            plan: kept,
+            first: first,
+        };
+    }
+    let opens = second_atoms(table, n, u8_usize(prefix[0]));
+    let plan = Plan {
+        members: none,
+        opens: opens,
+    };
+    let made = FirstPlan {
+        plan: plan,
+        atom: prefix[0],
+    };
+    Found {
+        plan: plan,
+        first: made,
+    }
+}
+
 // What a trial finds at an open beginning: of every atom from the next atom c up to the first that opens, and of every
 // atom where the beginning has an atom or more.
 pub fn plan_at(
@@ -335,32 +404,29 @@ pub fn plan_at(
     prefix: &[u8; 128],
     len: usize,
     c: usize,
-) -> Plan
-    requires { ⌜ Beginning n (now table) kind s t (now prefix) len × (1 ≤ c) × (c ≤ n) ⌝ }
-    ensures { λ r. ⌜ Planned (familyBy n (now (table .entry)) kind s t) (take len (now (prefix .entry))) c r ⌝ }
+    first: FirstPlan,
+) -> Found
+    requires { ⌜ Planning n (now table) kind s t (now prefix) len c first ⌝ }
+    ensures { λ r. ⌜ FoundAt (familyBy n (now (table .entry)) kind s t) (take len (now (prefix .entry))) c r ⌝ }
 {
     if first_length(kind) <= len {
-        return steered_plan(table, n, kind, s, t, prefix, len);
+        let steered = steered_plan(table, n, kind, s, t, prefix, len);
+        return Found {
+            plan: steered,
+            first: first,
+        };
+    }
+    if kind == 0 {
+        return short_ring(table, n, prefix, len, c, first);
     }
     let none = atomset::empty();
-    if kind != 0 {
-        let firsts = path_firsts(table, n, s, t);
-        return Plan {
+    let firsts = path_firsts(table, n, s, t);
+    Found {
+        plan: Plan {
             members: none,
             opens: firsts,
-        };
-    }
-    if len == 0 {
-        let first = first_ahead(table, n, c);
-        return Plan {
-            members: none,
-            opens: first,
-        };
-    }
-    let opens = second_atoms(table, n, u8_usize(prefix[0]));
-    Plan {
-        members: none,
-        opens: opens,
+        },
+        first: first,
     }
 }
 

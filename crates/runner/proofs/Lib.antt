@@ -1,5 +1,4 @@
 pub mod Turns
-pub mod Firsts
 pub mod Trials
 pub mod Skips
 pub mod Dives

@@ -86,6 +86,10 @@ pub record Looping (T : Task) (out prefix : List ℕ) (at : Spot) (found : Plan)
   pub tells : FirstTells (T .family) first
   pub sized : length kept ≡ 774
 
+-- there is no first plan
+pub none-tells : {F : Family} {first : FirstPlan} → first .atom ≡ 0 → FirstTells F first
+none-tells none low = absurd (omega arith)
+
 -- no test has stopped it: a trial follows
 pub record Trying (T : Task) (out prefix : List ℕ) (at : Spot) (found : Plan) (stale : Bool) (used made : ℕ) : Type 0
   where

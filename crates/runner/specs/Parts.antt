@@ -1,11 +1,10 @@
 -- What the run over a word table asks and promises.
 -- Nothing to believe: the contract of `run_checked` is the definition of a run.
-use Prim.Native.Nat.{ℕ, _≤_}
+use Prim.Native.Nat.{ℕ}
 use mathlib.Core.Path.{_≡_}
 use mathlib.Core.Bool.{true}
-use mathlib.Core.List.{List, [], _∷_, _++_}
+use mathlib.Core.List.{List, _++_}
 use lib.ListN.{length, drop}
-use Rattle.enumeration.specs.Words.{Family}
 use Rattle.enumeration.specs.Run.{Outcome, run}
 use Rattle.enumeration.specs.Trials.{Valid}
 use Rattle.enumeration.specs.RunFacts.{Bounded}
@@ -15,11 +14,9 @@ use Rattle.search.specs.declared.Ended.the-variants.{Stopped}
 use Rattle.search.specs.declared.Ran.{Ran}
 use Rattle.search.specs.Place.{stateOf, kindKept}
 use Rattle.search.specs.Entries.{ran}
-use Rattle.openness.specs.declared.Plan.{Plan}
-use Rattle.openness.specs.Plan.{familyBy, Words, Planned, FirstTells, Beginning}
+use Rattle.openness.specs.Plan.{familyBy, Words}
 use Rattle.trial.specs.declared.Spot.{Spot}
 use Rattle.trial.specs.Parts.{searchHeld, HeldWithRoom}
-use Rattle.openness.specs.declared.FirstPlan.{FirstPlan}
 
 -- the answer of a run of q that has stopped there
 abbrev pub stoppedAt : Search → List ℕ → Spot → Stop → ℕ → ℕ → Ran
@@ -46,15 +43,3 @@ runOnto o out = o .bytes ++ drop (length (o .bytes)) out
 pub record Yields (q : Search) (o : Outcome) (before : List ℕ) (r : Ran) (after : List ℕ) : Type 0 where
   pub result : r ≡ ran q o
   pub output : after ≡ runOnto o before
-
--- an open beginning that is to be planned, and a first plan
-pub record Planning (n : ℕ) (table : List ℕ) (q : Search) (prefix : List ℕ) (at : Spot) (first : FirstPlan) : Type 0
-  where
-    pub begun : Beginning n table (q .kind) (q .s) (q .t) prefix (at .len)
-    pub low : 1 ≤ at .next
-    pub high : at .next ≤ n
-    pub tells : FirstTells (familyBy n table (q .kind) (q .s) (q .t)) first
-
--- the first plan r after the beginning p was planned tells of the family of both plans
-abbrev pub FirstAfter : FirstPlan → Plan → List ℕ → FirstPlan → Type 0
-FirstAfter first found p r = (F : Family) (c : ℕ) → FirstTells F first → Planned F p c found → FirstTells F r

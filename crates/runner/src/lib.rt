@@ -3,13 +3,11 @@
 ghost use mathlib.Core.Path.{_≡_};
 ghost use mathlib.Core.Bool.{true};
 ghost use Prim.Native.Nat.{_≤_};
-ghost use lib.ListN.{length, take};
 ghost use Rattle.atomset.specs.Set.{has};
 ghost use Rattle.molecule.specs.Record.{wellFormed};
 ghost use Rattle.search.specs.Place.{restorable};
 ghost use Rattle.search.specs.Entries.{runSearch, runOutput};
-ghost use Rattle.openness.specs.Plan.{familyBy, Planned};
-ghost use Rattle.runner.specs.Parts.{stoppedAt, Ready, outcomeBy, Yields, Planning, FirstAfter};
+ghost use Rattle.runner.specs.Parts.{stoppedAt, Ready, outcomeBy, Yields};
 use enumeration::Stop;
 use molecule::Molecule;
 use openness::FirstPlan;
@@ -55,43 +53,6 @@ fn opens_at(found: Plan, c: usize) -> bool
 {
     let opens = found.opens;
     atomset::contains(opens, c)
-}
-
-// The plan of the present beginning: the first one where the beginning is its one atom, otherwise a new one.
-fn plan_of(
-    table: &[u64; 256],
-    n: usize,
-    q: Search,
-    prefix: &[u8; 128],
-    at: Spot,
-    first: FirstPlan,
-) -> Plan
-    requires { ⌜ Planning n (now table) q (now prefix) at first ⌝ }
-    ensures { λ r. ⌜
-        Planned (familyBy n (now (table .entry)) (q .kind) (q .s) (q .t))
-        (take (at .len) (now (prefix .entry))) (at .next) r ⌝ }
-{
-    if at.len == 1 {
-        if prefix[0] == first.atom {
-            let plan = first.plan;
-            return plan;
-        }
-    }
-    openness::plan_at(table, n, q.kind, q.s, q.t, prefix, at.len, at.next)
-}
-
-// The first plan after the present beginning was planned: the plan found, where the beginning has one atom.
-fn first_after(first: FirstPlan, found: Plan, prefix: &[u8; 128], len: usize) -> FirstPlan
-    requires { ⌜ length (now prefix) ≡ 128 ⌝ }
-    ensures { λ r. ⌜ FirstAfter first found (take len (now (prefix .entry))) r ⌝ }
-{
-    if len == 1 {
-        return FirstPlan {
-            plan: found,
-            atom: prefix[0],
-        };
-    }
-    first
 }
 
 // The answer of a run of q that has stopped at a place.
@@ -148,8 +109,9 @@ fn run_trials(table: &[u64; 256], n: usize, q: Search, budget: u64, out: &mut [u
             break Stop::Spent;
         }
         if stale {
-            found = plan_of(table, n, q, &prefix, at, first);
-            first = first_after(first, found, &prefix, len);
+            let at_hand = openness::plan_at(table, n, q.kind, q.s, q.t, &prefix, len, c, first);
+            found = at_hand.plan;
+            first = at_hand.first;
         }
         let lists = lists_at(found, c);
         if lists {

@@ -2,17 +2,23 @@
 -- The measure is the atoms from a on.
 use Prim.Native.Nat.{_+_, _-_}
 use native.Mathlib.Omega.{arith}
-use mathlib.Core.Path.{sym, _∙_}
+use mathlib.Core.Path.{_≡_, sym, _∙_}
+use mathlib.Core.Bool.{not}
+use mathlib.Core.List.{[], _∷_}
+use Rattle.enumeration.specs.Words.{isOpen}
+use Rattle.chordless.specs.Families.{rings}
+use Rattle.atomset.specs.Set.{linkedBy}
 use Rattle.openness.specs.Parts.{OneAtom}
+use Rattle.openness.proofs.Rings.{seconds-tell, starts-told}
 use Rattle.openness.proofs.Rings.{NoneBefore, none-before, none-more, ahead-first, ahead-none}
 use Rattle.openness.proofs.first_ahead.Statement.{statement}
 use Rattle.openness.proofs.first_ahead.Tie as tie
 
 abbrev Inv-loop : tie.InvT-loop
-Inv-loop table n c a₀ a = NoneBefore n table c a
+Inv-loop table n c none a₀ a = NoneBefore n table c a
 
 abbrev μ-loop : tie.MeasureT-loop
-μ-loop table n c a₀ a = n + 1 - a
+μ-loop table n c none a₀ a = n + 1 - a
 
 -- ---- the places (in a proof, `search` finds a place in c by its type)
 
@@ -23,7 +29,7 @@ abbrev turn : Place tie.In-loop → Place tie.At-loop
 turn c = c .before
 
 abbrev start : Place tie.At-loop → Place tie.Start
-start c = c .before
+start c = c .before .before
 
 -- ---- the atom of a turn
 
@@ -39,17 +45,26 @@ atom c =
       high = c .loop-test .taken;
     }
 
+-- its second atoms tell whether it begins a ring
+begins :
+    (c : Place tie.After-is-empty) →
+    let loop = turn (c .before .before) in
+    let args = start loop .args in
+    not (c .is-empty .result) ≡ isOpen (rings (args .n) (linkedBy (args .table .now))) (loop .loop .a ∷ [])
+begins c = starts-told (atom (search)) (c .before .second-atoms .ensures) (c .is-empty .ensures)
+
 -- ---- the needs
 
-single-requires : tie.Need-single-requires Inv-loop μ-loop
-single-requires c κs = let a = atom (search) in (a .low, omega (arith, a .high, a .words .few))
+cast-atom : tie.Need-cast-t10 Inv-loop μ-loop
+cast-atom c = let a = atom (search) in omega (arith, a .high, a .words .few)
 
 returns : tie.Need-returns Inv-loop μ-loop
 returns c =
     let loop : Place tie.At-loop = search in
-    let begins : Place tie.Then1 = search in
-    ahead-first (loop .loop .inv) _ (sym (begins .before .ring-starts .ensures) ∙ begins .if1 .taken)
-    (c .single .ensures)
+    let empty : Place tie.After-empty = search in
+    let found : Place tie.After-second-atoms = search in
+    ahead-first (loop .loop .inv) (atom (search)) (sym (begins (search)) ∙ c .if1 .taken)
+    (seconds-tell _ (empty .empty .ensures) (found .second-atoms .ensures))
 
 add-a : tie.Need-add-a Inv-loop μ-loop
 add-a c = let a = atom (search) in omega (arith, a .high, a .words .few)
@@ -58,17 +73,16 @@ loop-again : tie.Need-loop-again Inv-loop μ-loop
 loop-again c =
     let loop : Place tie.At-loop = search in
     let other : Place tie.Else1 = search in
-    none-more (loop .loop .inv) (sym (other .before .ring-starts .ensures) ∙ other .if1 .left)
+    none-more (loop .loop .inv) (sym (begins (search)) ∙ other .if1 .left)
 
 returns-2 : tie.Need-returns-2 Inv-loop μ-loop
 returns-2 c =
     let loop : Place tie.At-loop = search in
-    let end : Place tie.After-loop = search in
-    ahead-none (loop .loop .inv) _ (end .loop-test .left) (c .empty .ensures)
+    ahead-none (loop .loop .inv) (c .loop-test .left)
 
 pub first-ahead-spec : {M : Type 1} → statement M
 first-ahead-spec =
     tie.close
     (tie.spec
-    Inv-loop μ-loop (λ c. none-before _) (λ c κs. atom c) single-requires returns add-a (λ c. omega arith) loop-again
-    (λ c κs. tt) returns-2)
+    Inv-loop μ-loop (λ c κs. tt) (λ c. none-before _) (λ c κs. atom c) (λ c κs. tt) cast-atom returns add-a
+    (λ c. omega arith) loop-again returns-2)

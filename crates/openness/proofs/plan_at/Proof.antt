@@ -2,10 +2,8 @@
 -- Each answer is that of the function it calls, carried to the family of the kind by the laws of `Plans`.
 use Prim.Native.Nat.{_<_}
 use native.Mathlib.Omega.{arith}
-use borrow.Author.Needs.{needs}
 use Rattle.openness.specs.Plan.{firstLength}
-use Rattle.openness.proofs.Plans.{planned-every, path-ends, planned-path-start}
-use Rattle.openness.proofs.Plans.{planned-ring-start, first-atom, planned-seconds}
+use Rattle.openness.proofs.Plans.{steered-found, ring-asked, ring-found, path-ends, path-found}
 use Rattle.openness.proofs.plan_at.Statement.{statement}
 use Rattle.openness.proofs.plan_at.Tie as tie
 
@@ -18,57 +16,42 @@ start c = c .before .before
 short : (c : tie.Else1) → let args = start c .args in args .len < firstLength (args .kind)
 short c = omega (arith, c .if1 .left, c .before .first-length .ensures)
 
--- ---- a beginning that the sets steer
+-- ---- the needs
 
 steered-plan-requires : tie.Need-steered-plan-requires
 steered-plan-requires c κs =
     let start : tie.Start = search in
-    (start .pre .0, omega (arith, c .if1 .taken, c .before .first-length .ensures))
+    (start .pre .begun, omega (arith, c .if1 .taken, c .before .first-length .ensures))
 
--- ---- a path search
+returns : tie.Need-returns
+returns c = let start : tie.Start = search in steered-found (start .pre) (c .steered-plan .ensures)
 
-path-firsts-requires : tie.Need-path-firsts-requires
-path-firsts-requires c κs = let start : tie.Start = search in path-ends (start .pre .0) (c .if2 .taken)
+short-ring-requires : tie.Need-short-ring-requires
+short-ring-requires c κs =
+    let start : tie.Start = search in
+    ring-asked (start .pre) (short (search)) (c .if2 .taken)
 
 returns-2 : tie.Need-returns-2
 returns-2 c =
     let start : tie.Start = search in
-    let path : tie.Then2 = search in
-    let empty : tie.After-empty = search in
-    planned-path-start (start .pre .0) (path .if2 .taken) (short (search)) (empty .empty .ensures)
-    (c .path-firsts .ensures)
+    let ring : tie.Then2 = search in
+    ring-found (start .pre) (short (search)) (ring .if2 .taken) (c .short-ring .ensures)
 
--- ---- a ring search
+path-firsts-requires : tie.Need-path-firsts-requires
+path-firsts-requires c κs =
+    let start : tie.Start = search in
+    let path : tie.Else2 = search in
+    path-ends (start .pre .begun) (path .if2 .left)
 
 returns-3 : tie.Need-returns-3
 returns-3 c =
     let start : tie.Start = search in
-    let ring : tie.Else2 = search in
-    let none : tie.Then3 = search in
-    let empty : tie.After-empty = search in
-    planned-ring-start (start .pre .0) (ring .if2 .left) (none .if3 .taken) (empty .empty .ensures)
-    (c .first-ahead .ensures)
-
-second-atoms-requires : tie.Need-second-atoms-requires
-second-atoms-requires c κs =
-    let start : tie.Start = search in
-    let ring : tie.Else2 = search in
-    let one : tie.Else3 = search in
-    first-atom (start .pre .0) (ring .if2 .left) (short (search)) (one .if3 .left) (c .u8-usize .ensures .same)
-
-returns-4 : tie.Need-returns-4
-returns-4 c =
-    let start : tie.Start = search in
-    let ring : tie.Else2 = search in
-    let one : tie.Else3 = search in
-    let empty : tie.After-empty = search in
-    planned-seconds (start .pre .0) (ring .if2 .left) (short (search)) (one .if3 .left)
-    (c .before .u8-usize .ensures .same) (empty .empty .ensures) (c .second-atoms .ensures)
+    let path : tie.Else2 = search in
+    path-found (start .pre) (path .if2 .left) (short (search)) (c .before .empty .ensures) (c .path-firsts .ensures)
 
 pub plan-at-spec : {M : Type 1} → statement M
 plan-at-spec =
     tie.close
     (tie.spec
-    (λ c κs. tt) steered-plan-requires (λ c. planned-every (c .steered-plan .ensures)) (λ c κs. tt)
-    path-firsts-requires returns-2 (λ c κs. search needs) returns-3
-    (λ c. search needs) (λ c κs. search needs) second-atoms-requires returns-4)
+    (λ c κs. tt) steered-plan-requires returns short-ring-requires returns-2 (λ c κs. tt) path-firsts-requires
+    returns-3)

@@ -1,85 +1,127 @@
--- `openness::second_atoms` meets its contract. The invariant: `found` has the second atoms still left to try, and of
--- the others those that open. Each turn tries the lowest that is left.
+-- `openness::second_atoms` meets its contract. The invariant is `Sifted`: what is told of the atoms taken so far.
+-- Each turn takes the lowest atom that is left as the last one of a ring; the measure is what is left.
+use Prim.Native.Nat.{ℕ}
+use native.Mathlib.Omega.{arith}
 use mathlib.Core.Path.{_≡_, sym, _∙_}
-use mathlib.Core.Bool.{false}
-use mathlib.Core.Logic.{inl, inr}
+use mathlib.Core.Bool.{false, _&&_, not}
+use lib.Dec.{leb, ltb}
 use borrow.Author.Tests.{not-true, not-false}
-use Rattle.atomset.specs.Set.{has, holdsNone}
+use borrow.Author.Needs.{needs}
+use Rattle.atomset.specs.Set.{has, holdsNone, linkedBy}
 use Rattle.sweep.proofs.Size.{size}
 use Rattle.openness.proofs.Counts.{TakesLowest, taken-fewer}
-use Rattle.openness.proofs.Rings.{second-pair, Sifted, sifted-start, sifted-keeps, sifted-drops, sifted-end}
+use Rattle.openness.proofs.Rings.{Sifted, sifted-start, SiftingTurn, sifted-turn, sifted-end}
 use Rattle.openness.proofs.second_atoms.Statement.{statement}
 use Rattle.openness.proofs.second_atoms.Tie as tie
 
 abbrev Inv-loop : tie.InvT-loop
-Inv-loop table n s left₀ found₀ left found = Sifted n table s left found
+Inv-loop table n s between left₀ shut₀ found₀ left shut found = Sifted n table s left shut found
 
 abbrev μ-loop : tie.MeasureT-loop
-μ-loop table n s left₀ found₀ left found = size (has left) 128
+μ-loop table n s between left₀ shut₀ found₀ left shut found = size (has left) 128
 
--- ---- the places
+-- ---- the places (in a proof, `search` finds a place in c by its type)
 
 abbrev Place : (tie.InvT-loop → tie.MeasureT-loop → Type 0) → Type 0
 Place place = place Inv-loop μ-loop
 
-abbrev tries : Place tie.After-without-lowest → Place tie.After-lowest
-tries c = c .before .before .before
+-- from where the turn ends
+abbrev taken : Place tie.After-without-lowest → Place tie.After-lowest
+taken c = c .before .before .before .before .before .before
 
 abbrev turn : Place tie.After-lowest → Place tie.At-loop
 turn c = c .before .before .before
 
+-- from the head of the loop: the two sets are made
+abbrev sets : Place tie.At-loop → Place tie.After-intersection
+sets c = c .before .before .before
+
+abbrev start : Place tie.After-intersection → Place tie.Start
+start c = c .before .before .before .before
+
 -- ---- what is known there
 
--- an atom is left to try
+between-is :
+    (c : Place tie.After-intersection) (v : ℕ) →
+    let args = start c .args in
+    has (c .before .minus .result) v
+    ≡ (ltb (args .s) v && leb v (args .n) && not (linkedBy (args .table .now) (args .s) v))
+between-is c v =
+    rw (c .before .minus .ensures v, c .before .before .range .ensures v, c .before .before .before .row .ensures v)
+
+-- an atom is left
 some : (c : Place tie.Then1) → holdsNone (c .before .before .loop .left) ≡ false
 some c = sym (c .before .is-empty .ensures .test) ∙ not-true _ (c .if1 .taken)
 
 -- it is taken
 takes :
     (c : Place tie.After-without-lowest) →
-    TakesLowest (turn (tries c) .loop .left) (c .without-lowest .result) (tries c .lowest .result)
-takes c = record { lowest = tries c .lowest .ensures; rest-is = c .without-lowest .ensures }
+    TakesLowest (turn (taken c) .loop .left) (c .without-lowest .result) (taken c .lowest .result)
+takes c = record { lowest = taken c .lowest .ensures; rest-is = c .without-lowest .ensures }
 
--- ---- the needs (`search` finds a place in c by its type)
+-- what the turn finds
+turned :
+    (c : Place tie.After-without-lowest) →
+    let loop = turn (taken c) .loop in
+    let args = start (sets (turn (taken c))) .args in
+    SiftingTurn (args .n) (args .table .now) (args .s) (loop .left) (loop .shut) (loop .found)
+    (c .without-lowest .result) (c .before .union2 .result) (c .before .before .before .union .result)
+turned c =
+    let loop = turn (taken c) in
+    let alone : Place tie.After-single = search in
+    let swept : Place tie.After-reached = search in
+    let opened : Place tie.After-union = search in
+    let fewer : Place tie.After-minus2 = search in
+    let closed : Place tie.After-union2 = search in
+    record {
+      atom = start (sets loop) .pre;
+      sifted = loop .loop .inv;
+      last = taken c .lowest .result;
+      alone = alone .single .result;
+      between = sets loop .before .minus .result;
+      more = swept .reached .result;
+      fewer = fewer .minus2 .result;
+      takes = takes c;
+      alone-is = alone .single .ensures;
+      between-is = between-is (sets loop);
+      more-is = swept .reached .ensures;
+      opened-is = opened .union .ensures;
+      fewer-is = fewer .minus2 .ensures;
+      closed-is = closed .union2 .ensures;
+    }
 
-lowest-requires : tie.Need-lowest-requires Inv-loop μ-loop
-lowest-requires c κs = some c
+-- ---- the needs
 
-pair-opens-requires : tie.Need-pair-opens-requires Inv-loop μ-loop
-pair-opens-requires c κs =
+row-requires : tie.Need-row-requires Inv-loop μ-loop
+row-requires c κs = (c .pre .low, omega (arith, c .pre .words .few, c .pre .high))
+
+range-requires : tie.Need-range-requires Inv-loop μ-loop
+range-requires c κs =
     let start : Place tie.Start = search in
-    second-pair (start .pre) (turn c .loop .inv .within) (c .lowest .ensures)
+    let pre = start .pre in
+    (omega (arith, pre .words .few, pre .high), pre .words .few)
 
-without-atom-requires : tie.Need-without-atom-requires Inv-loop μ-loop
-without-atom-requires c κs = let low = c .before .before .lowest .ensures in (low .low, low .high)
+loop-holds : tie.Need-loop-holds Inv-loop μ-loop
+loop-holds c =
+    let row : Place tie.After-row = search in
+    let range : Place tie.After-range = search in
+    let all : Place tie.After-intersection = search in
+    sifted-start (λ v. rw (all .intersection .ensures v, range .range .ensures v, row .row .ensures v))
+    (c .before .empty .ensures) (c .empty2 .ensures)
 
-without-lowest-requires : tie.Need-without-lowest-requires Inv-loop μ-loop
-without-lowest-requires c κs = some (search)
-
-loop-less : tie.Need-loop-less Inv-loop μ-loop
-loop-less c = taken-fewer (takes c)
-
-loop-again : tie.Need-loop-again Inv-loop μ-loop
-loop-again c =
-    let told : Place tie.After-pair-opens = search in
-    let inv = turn (tries c) .loop .inv in
-    elim (c .before .if2 .came) [
-      | inl (shut, fewer, found) ↦
-          let answer = sym (told .pair-opens .ensures) ∙ not-true _ (shut .taken) in
-          rw found (sifted-drops inv (takes c) answer (fewer .ensures))
-      | inr (opens, found) ↦
-          let answer = sym (told .pair-opens .ensures) ∙ not-false _ (opens .left) in
-          rw found (sifted-keeps inv (takes c) answer)
-    ]
+single-requires : tie.Need-single-requires Inv-loop μ-loop
+single-requires c κs = let low = c .lowest .ensures in (low .low, low .high)
 
 returns : tie.Need-returns Inv-loop μ-loop
 returns c =
     let none = c .before .is-empty .ensures .none (not-false _ (c .if1 .left)) in
-    sifted-end (c .before .before .loop .inv) none
+    let loop = c .before .before in
+    sifted-end (start (sets loop) .pre) (loop .loop .inv) none
 
 pub second-atoms-spec : {M : Type 1} → statement M
 second-atoms-spec =
     tie.close
     (tie.spec
-    Inv-loop μ-loop (λ c κs. c .pre) (λ c. sifted-start (c .before .pre) (c .seconds .ensures)) (λ c κs. tt)
-    lowest-requires pair-opens-requires without-atom-requires without-lowest-requires loop-less loop-again returns)
+    Inv-loop μ-loop row-requires range-requires (λ c κs. tt) (λ c κs. tt) (λ c κs. tt) (λ c κs. tt) loop-holds
+    (λ c κs. tt) (λ c κs. some c) single-requires (λ c κs. search needs) (λ c κs. tt) (λ c κs. tt) (λ c κs. tt)
+    (λ c κs. some (search)) (λ c. taken-fewer (takes c)) (λ c. sifted-turn (turned c)) returns)

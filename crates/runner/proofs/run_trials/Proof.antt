@@ -8,11 +8,9 @@ use lib.ListN.{take, length-replicate}
 use Rattle.enumeration.specs.Machine.{State, isDone, tried}
 use Rattle.enumeration.specs.Run.{atLimit}
 use Rattle.openness.specs.declared.Plan.{Plan}
-use Rattle.openness.specs.Plan.{Ahead, FirstTells}
+use Rattle.openness.specs.Plan.{Ahead, FirstTells, Planning}
 use Rattle.trial.specs.Parts.{stateAt}
-use Rattle.runner.specs.Parts.{Planning}
-use Rattle.runner.proofs.Firsts.{none-tells}
-use Rattle.runner.proofs.Trials.{Task, taskOf, Turning, Looping, Trying, Written, StopsBy}
+use Rattle.runner.proofs.Trials.{Task, taskOf, Turning, Looping, none-tells, Trying, Written, StopsBy}
 use Rattle.runner.proofs.Trials.{starts, used-within, room-in-part, length-kept, next-most, done-test}
 use Rattle.runner.proofs.Trials.{next-range, next-in-set, counting, member-told}
 use Rattle.runner.proofs.Trials.{written-none, written-record, not-first, turn}
@@ -129,7 +127,9 @@ planning :
     (c : Place tie.Else3) →
     let loop = here c .loop in
     let args = start (here c) .args in
-    Planning (args .n) (args .table .now) (args .q) (loop .prefix) (loop .at) (loop .first)
+    let q = args .q in
+    Planning (args .n) (args .table .now) (q .kind) (q .s) (q .t) (loop .prefix) (loop .at .len) (loop .at .next)
+    (loop .first)
 planning c =
     let t = trying c in
     let start : Place tie.Start = search in
@@ -145,7 +145,7 @@ TellsAhead c plan = Ahead (task c .family) (take (c .loop .at .len) (c .loop .pr
 
 planned : (c : Place tie.Joined4) → TellsAhead (here (c .before)) (c .if4 .found)
 planned c = elim (c .if4 .came) [
-  | inl (stale, prefix, plan-of, prefix2, first-after, found, first) ↦ rw found (plan-of .ensures .ahead)
+  | inl (stale, prefix, plan-at, plan, kept, found, first) ↦ rw found (plan-at .ensures .planned .ahead)
   | inr (fresh, found, first) ↦ rw found (trying (search) .turning .told (fresh .left))
 ]
 
@@ -154,8 +154,7 @@ first-tells : (c : Place tie.Joined4) → FirstTells (task (here (c .before)) .f
 first-tells c =
     let tells = here (c .before) .loop .inv .tells in
     elim (c .if4 .came) [
-      | inl (stale, prefix, plan-of, prefix2, first-after, found, first) ↦
-          rw first (first-after .ensures _ _ tells (plan-of .ensures))
+      | inl (stale, prefix, plan-at, plan, kept, found, first) ↦ rw first (plan-at .ensures .tells)
       | inr (fresh, found, first) ↦ rw first tells
     ]
 
@@ -249,11 +248,8 @@ add-made c =
 is-done-requires : tie.Need-is-done-requires Inv-loop μ-loop
 is-done-requires c κs = turning (search) .few
 
-plan-of-requires : tie.Need-plan-of-requires Inv-loop μ-loop
-plan-of-requires c κs = planning (search)
-
-first-after-requires : tie.Need-first-after-requires Inv-loop μ-loop
-first-after-requires c κs = trying (search) .turning .standing .within .size
+plan-at-requires : tie.Need-plan-at-requires Inv-loop μ-loop
+plan-at-requires c κs = planning (search)
 
 lists-at-requires : tie.Need-lists-at-requires Inv-loop μ-loop
 lists-at-requires c κs = next-in-set (trying (search))
@@ -342,7 +338,7 @@ run-trials-spec =
     tie.close
     (tie.spec
     Inv-loop μ-loop (λ c κs. tt) (λ c κs. tt) (λ c κs. tt) loop-holds (λ c. omega arith) (λ c κs. omega arith)
-    skipped-requires add-made is-done-requires (λ c κs. tt) plan-of-requires first-after-requires lists-at-requires
-    sub-if6 add-if6 sub-put-record part-put-record-start (λ c. omega arith) put-record-requires add-used add-used-2
+    skipped-requires add-made is-done-requires (λ c κs. tt) plan-at-requires lists-at-requires sub-if6
+    add-if6 sub-put-record part-put-record-start (λ c. omega arith) put-record-requires add-used add-used-2
     opens-at-requires act-requires add-made-2 (λ c κs. tt) sub-left descend-requires sub-made add-made-3 loop-less
     loop-again (λ c κs. tt) same-length returns)
