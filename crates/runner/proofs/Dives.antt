@@ -13,6 +13,7 @@ use Rattle.openness.specs.declared.FirstPlan.{FirstPlan}
 use Rattle.openness.specs.Plan.{familyBy, FirstTells, Beginning}
 use Rattle.trial.specs.declared.Spot.{Spot}
 use Rattle.dive.specs.declared.Dived.{Dived}
+use Rattle.dive.specs.Levels.{LevelRoom}
 use Rattle.dive.specs.Parts.{Entering, Descended}
 use Rattle.runner.specs.Parts.{Ready}
 use Rattle.runner.proofs.Turns.{going-makes}
@@ -34,7 +35,7 @@ module _ {n : ℕ} {table : List ℕ} {q : Search} (ready : Ready n table q) {bu
 
   pub entering :
       {first : FirstPlan} {kept : List ℕ} → FirstTells (familyBy n table (q .kind) (q .s) (q .t)) first →
-      length kept ≡ 774 → Entering n table q at first used prefix kept out
+      LevelRoom n kept → Entering n table q at first used prefix kept out
   entering tells size = record {
     tells = tells;
     sized = size;

@@ -79,12 +79,12 @@ pub record Turning (T : Task) (out prefix : List ℕ) (at : Spot) (found : Plan)
     pub told : stale ≡ false → Ahead (T .family) (take (at .len) prefix) (at .next) found
     pub going : Going (T .family) (T .budget) (T .output) (T .from) out (stateAt prefix at) used made
 
--- with the plan of a beginning of one atom, and the array of the fast loop
-pub record Looping (T : Task) (out prefix : List ℕ) (at : Spot) (found : Plan) (stale : Bool) (first : FirstPlan)
-    (kept : List ℕ) (used made : ℕ) : Type 0 where
+-- with the plan of a beginning of one atom, and the slice of the fast loop, as long as at the start
+pub record Looping (T : Task) (kept₀ kept out prefix : List ℕ) (at : Spot) (found : Plan) (stale : Bool)
+    (first : FirstPlan) (used made : ℕ) : Type 0 where
   pub turning : Turning T out prefix at found stale used made
   pub tells : FirstTells (T .family) first
-  pub sized : length kept ≡ 774
+  pub sized : length kept ≡ length kept₀
 
 -- there is no first plan
 pub none-tells : {F : Family} {first : FirstPlan} → first .atom ≡ 0 → FirstTells F first

@@ -7,6 +7,7 @@ ghost use Rattle.atomset.specs.Set.{has};
 ghost use Rattle.molecule.specs.Record.{wellFormed};
 ghost use Rattle.search.specs.Place.{restorable};
 ghost use Rattle.search.specs.Entries.{runSearch, runOutput};
+ghost use Rattle.dive.specs.Levels.{LevelRoom};
 ghost use Rattle.runner.specs.Parts.{stoppedAt, Ready, outcomeBy, Yields};
 use enumeration::Stop;
 use molecule::Molecule;
@@ -78,9 +79,16 @@ fn stopped(q: Search, prefix: [u8; 128], at: Spot, stop: Stop, used: usize, made
     }
 }
 
-// The run of a search that rule 12 allows, over the word table of the molecule.
-fn run_trials(table: &[u64; 256], n: usize, q: Search, budget: u64, out: &mut [u8]) -> Ran
-    requires { ⌜ Ready n (now table) q ⌝ }
+// The run of a search that rule 12 allows, over the word table of the molecule; `kept` is for the sets of the fast loop.
+fn run_trials(
+    table: &[u64; 256],
+    n: usize,
+    q: Search,
+    budget: u64,
+    kept: &mut [u64],
+    out: &mut [u8],
+) -> Ran
+    requires { ⌜ Ready n (now table) q × LevelRoom n (now kept) ⌝ }
     ensures { λ r. ⌜
         Yields q (outcomeBy n (now (table .entry)) q budget (now (out .entry)))
         (now (out .entry)) r (now (out .exit)) ⌝ }
@@ -90,7 +98,6 @@ fn run_trials(table: &[u64; 256], n: usize, q: Search, budget: u64, out: &mut [u
     let mut found = no_plan();
     let mut stale = true;
     let mut first = no_first();
-    let mut kept = [0u64; 774];
     let mut used: usize = 0;
     let mut made: u64 = 0;
     let stop = loop {
@@ -121,25 +128,14 @@ fn run_trials(table: &[u64; 256], n: usize, q: Search, budget: u64, out: &mut [u
             trial::put_record(&mut out[used..], &prefix, len, c);
             used += len + 2;
         }
-        let tried = trial::act(&mut prefix, at, n, lists, opens_at(found, c));
+        let spot = trial::act(&mut prefix, at, n, lists, opens_at(found, c));
         made += 1;
-        stale = trial::is_stale(len, tried.len);
+        stale = trial::is_stale(len, spot.len);
         let left = budget - made;
-        let dived = dive::descend(
-            table,
-            n,
-            q,
-            tried,
-            left,
-            first,
-            used,
-            &mut prefix,
-            &mut kept,
-            out,
-        );
+        let dived = dive::descend(table, n, q, spot, left, first, used, &mut prefix, kept, out);
         at = dived.at;
         used = dived.used;
-        made += at.trials - tried.trials;
+        made += at.trials - spot.trials;
     };
     stopped(q, prefix, at, stop, used, made)
 }
@@ -151,7 +147,14 @@ pub fn run_checked(m: Molecule, q: Search, budget: u64, out: &mut [u8]) -> Ran
         (r ≡ runSearch m q budget (now (out .entry))) ×
         (now (out .exit) ≡ runOutput m q budget (now (out .entry))) ⌝ }
 {
+    let n = m.atoms;
     let rows = m.rows;
     let table = atomset::words_of(&rows);
-    run_trials(&table, m.atoms, q, budget, out)
+    // A small molecule needs a small array, which is cheaper to make.
+    if n < 32 {
+        let mut few = [0u64; 192];
+        return run_trials(&table, n, q, budget, &mut few, out);
+    }
+    let mut kept = [0u64; 774];
+    run_trials(&table, n, q, budget, &mut kept, out)
 }

@@ -2,9 +2,9 @@
 -- that is left. What the tests, the plan and the record tell is said once at each place.
 use Prim.Native.Nat.{ℕ, _+_, _-_}
 use native.Mathlib.Omega.{arith}
-use mathlib.Core.Path.{_≡_, sym, _∙_}
+use mathlib.Core.Path.{_≡_, refl, sym, _∙_}
 use mathlib.Core.Logic.{inl, inr}
-use lib.ListN.{take, length-replicate}
+use lib.ListN.{take}
 use Rattle.enumeration.specs.Machine.{State, isDone, tried}
 use Rattle.enumeration.specs.Run.{atLimit}
 use Rattle.openness.specs.declared.Plan.{Plan}
@@ -21,13 +21,13 @@ use Rattle.runner.proofs.run_trials.Statement.{statement}
 use Rattle.runner.proofs.run_trials.Tie as tie
 
 abbrev Inv-loop : tie.InvT-loop
-Inv-loop table n q budget out₀ prefix₀ at₀ found₀ stale₀ first₀ kept₀ used₀ made₀
-    out prefix at found stale first kept used made =
-    Looping (taskOf n table q budget out₀) out prefix at found stale first kept used made
+Inv-loop table n q budget kept₀ out₀ prefix₀ at₀ found₀ stale₀ first₀ used₀ made₀
+    kept out prefix at found stale first used made =
+    Looping (taskOf n table q budget out₀) kept₀ kept out prefix at found stale first used made
 
 abbrev μ-loop : tie.MeasureT-loop
-μ-loop table n q budget out₀ prefix₀ at₀ found₀ stale₀ first₀ kept₀ used₀ made₀
-    out prefix at found stale first kept used made =
+μ-loop table n q budget kept₀ out₀ prefix₀ at₀ found₀ stale₀ first₀ used₀ made₀
+    kept out prefix at found stale first used made =
     budget - made
 
 -- ---- the places of a turn: each name goes back from a later place to an earlier one
@@ -38,7 +38,7 @@ Place place = place Inv-loop μ-loop
 
 -- from the head of the loop
 abbrev start : Place tie.At-loop → Place tie.Start
-start c = c .before .before .before .before .before .before
+start c = c .before .before .before .before .before .before .before
 
 -- from the first test
 abbrev skipped : Place tie.After-is-done → Place tie.After-skipped
@@ -134,7 +134,7 @@ planning c =
     let t = trying c in
     let start : Place tie.Start = search in
     record {
-      begun = begun (start .pre) (t .turning);
+      begun = begun (start .pre .0) (t .turning);
       low = next-range t .0;
       high = next-range t .1;
       tells = here c .loop .inv .tells;
@@ -230,9 +230,9 @@ loop-holds c =
     let start : Place tie.Start = search in
     let spot : Place tie.After-spot-of = search in
     record {
-      turning = rw (spot .spot-of .ensures) (starts _ _ _ (start .pre));
+      turning = rw (spot .spot-of .ensures) (starts _ _ _ (start .pre .0));
       tells = none-tells (c .no-first .ensures);
-      sized = length-replicate {A = ℕ} 774 0;
+      sized = refl;
     }
 
 skipped-requires : tie.Need-skipped-requires Inv-loop μ-loop
@@ -278,10 +278,10 @@ add-used c = omega (arith, trying (search) .turning .standing .short)
 
 add-used-2 : tie.Need-add-used-2 Inv-loop μ-loop
 add-used-2 c =
-    let t = trying (search) .turning in
-    let start : Place tie.Start = search in
+    let tests : Place tie.Else3 = search in
+    let t = trying tests .turning in
     let else6 : Place tie.Else6 = search in
-    omega (arith, else6 .if6 .left, used-within t, length-kept t, start .good)
+    omega (arith, else6 .if6 .left, used-within t, length-kept t, start (here tests) .good)
 
 opens-at-requires : tie.Need-opens-at-requires Inv-loop μ-loop
 opens-at-requires c κs = next-in-set (trying (search))
@@ -300,16 +300,17 @@ sub-left c = turned c .going .in-budget
 descend-requires : tie.Need-descend-requires Inv-loop μ-loop
 descend-requires c κs =
     let after : Place tie.After-is-stale = search in
-    entering (start (stood after) .pre) (turned after) (first-tells (search)) (stood after .loop .inv .sized)
+    let begun = start (stood after) .pre in
+    entering (begun .0) (turned after) (first-tells (search)) (omega (arith, begun .1, stood after .loop .inv .sized))
 
 sub-made : tie.Need-sub-made Inv-loop μ-loop
-sub-made c = let dived : Place tie.After-descend = search in omega (arith, dived .descend .ensures .0 .more)
+sub-made c = let dived : Place tie.After-descend = search in omega (arith, dived .descend .ensures .more)
 
 add-made-3 : tie.Need-add-made-3 Inv-loop μ-loop
 add-made-3 c =
     let after : Place tie.After-is-stale = search in
     let dived : Place tie.After-descend = search in
-    omega (arith, further-paid (turned after) (dived .descend .ensures .0), start (stood after) .fits .budget)
+    omega (arith, further-paid (turned after) (dived .descend .ensures), start (stood after) .fits .budget)
 
 loop-less : tie.Need-loop-less Inv-loop μ-loop
 loop-less c = omega (arith, turned (search) .going .in-budget)
@@ -320,13 +321,16 @@ loop-again c =
     let dived : Place tie.After-descend = search in
     let raised = not-first (trying (search)) (after .before .act .ensures) (after .is-stale .ensures) in
     record {
-      turning = dives (turned after) (dived .descend .ensures .0) raised;
+      turning = dives (turned after) (dived .descend .ensures) raised;
       tells = first-tells (search);
-      sized = dived .descend .ensures .1;
+      sized = dived .descend .kept .1 .1 .1 .1 .1 .1 .1 .1 .0 ∙ stood after .loop .inv .sized;
     }
 
 same-length : tie.Need-same-length Inv-loop μ-loop
-same-length c = length-kept (turning (search))
+same-length c = let loop : Place tie.At-loop = search in loop .loop .inv .sized
+
+same-length-2 : tie.Need-same-length-2 Inv-loop μ-loop
+same-length-2 c = length-kept (turning (search))
 
 returns : tie.Need-returns Inv-loop μ-loop
 returns c =
@@ -341,4 +345,4 @@ run-trials-spec =
     skipped-requires add-made is-done-requires (λ c κs. tt) plan-at-requires lists-at-requires sub-if6
     add-if6 sub-put-record part-put-record-start (λ c. omega arith) put-record-requires add-used add-used-2
     opens-at-requires act-requires add-made-2 (λ c κs. tt) sub-left descend-requires sub-made add-made-3 loop-less
-    loop-again (λ c κs. tt) same-length returns)
+    loop-again (λ c κs. tt) same-length same-length-2 returns)
