@@ -69,6 +69,13 @@ module _ {F : Family} {adj : Adjacency} {p : List ℕ} {x : ℕ} {aim next : Aim
       sym (false-of (isOpen F (p ++ v ∷ []))
       (λ o. let (b, goal, walk) = opening-ahead v o in clash (has (next .goal) b) goal (none b)))
 
+  -- there is no candidate: nothing opens
+  pub nothing-wanted :
+      {empty : Bool} → Emptiness want empty → empty ≡ true → (v : ℕ) → has want v ≡ isOpen F (p ++ v ∷ [])
+  nothing-wanted told empties v =
+      let none = told .none empties in
+      none v ∙ sym (false-of (isOpen F (p ++ v ∷ [])) (λ o. clash (has want v) (opening-wanted v o) (none v)))
+
   -- no member, and one candidate at most: it opens
   pub sole-candidate :
       {empty sole : Bool} → Emptiness members empty → empty ≡ true → AtMostOne want sole → sole ≡ true → (v : ℕ) →

@@ -11,7 +11,7 @@ ghost use Rattle.enumeration.specs.Words.{Family, isOpen};
 ghost use Rattle.chordless.specs.Families.{rings, paths};
 ghost use Rattle.chordless.specs.Steers.{Steers};
 ghost use Rattle.atomset.specs.Set.{has, linkedBy};
-ghost use Rattle.sweep.specs.Swept.{Symmetric};
+ghost use Rattle.sweep.specs.Swept.{Symmetric, Reached};
 ghost use Rattle.search.specs.Place.{kindKept};
 ghost use Rattle.openness.specs.Plan.{familyBy, Words, Beginning, Planning, FoundAt, Everywhere, Steered, HandedOn, firstLength};
 ghost use Rattle.openness.specs.Parts.{OneAtom, TwoAtoms, TwoEnds, Stepping, FirstAhead, ShortRing, PathFirsts};
@@ -146,8 +146,9 @@ pub fn aim_at(
     aim
 }
 
-// Of the candidates `want` at an open beginning with these members, those that open it. Where it has no member, a sole
-// candidate opens it, in every family; otherwise one sweep tells.
+// Of the candidates `want` at an open beginning with these members, those that open it. Where nothing may close a member
+// later, or there is no candidate, none does; where it has no member, a sole candidate opens it, in every family;
+// otherwise one sweep tells.
 fn opening(table: &[u64; 256], next: Aim, members: [u64; 2], want: [u64; 2]) -> [u64; 2]
     requires { ⌜ Symmetric (linkedBy (now table)) ⌝ }
     ensures { λ r. ⌜
@@ -158,6 +159,9 @@ fn opening(table: &[u64; 256], next: Aim, members: [u64; 2], want: [u64; 2]) -> 
     let goal = next.goal;
     if atomset::is_empty(goal) {
         return goal;
+    }
+    if atomset::is_empty(want) {
+        return want;
     }
     if atomset::is_empty(members) {
         if atomset::at_most_one(want) {
@@ -249,6 +253,17 @@ fn pair_opens(table: &[u64; 256], n: usize, s: usize, v: usize) -> bool
     atomset::contains(swept, v)
 }
 
+// Of the atoms of `want`, those from which a target is reached through free atoms; no sweep where none is wanted.
+fn reached_from(table: &[u64; 256], free: [u64; 2], targets: [u64; 2], want: [u64; 2]) -> [u64; 2]
+    requires { ⌜ Symmetric (linkedBy (now table)) ⌝ }
+    ensures { λ r. ⌜ Reached (linkedBy (now (table .entry))) (has free) (has targets) (has want) (has r) ⌝ }
+{
+    if atomset::is_empty(want) {
+        return want;
+    }
+    sweep::reached(table, free, targets, want)
+}
+
 // The atoms that open the ring beginning s: those above s, bonded to it, from which a higher one is reached through
 // the atoms above s that are not bonded to it. Each of them is taken as the last atom of a ring, from the lowest on.
 fn second_atoms(table: &[u64; 256], n: usize, s: usize) -> [u64; 2]
@@ -264,7 +279,7 @@ fn second_atoms(table: &[u64; 256], n: usize, s: usize) -> [u64; 2]
     let mut found = atomset::empty();
     while !atomset::is_empty(left) {
         let last = atomset::single(atomset::lowest(left));
-        let more = sweep::reached(table, between, last, shut);
+        let more = reached_from(table, between, last, shut);
         let opened = atomset::union(found, more);
         found = opened;
         let fewer = atomset::minus(shut, more);
