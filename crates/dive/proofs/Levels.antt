@@ -52,39 +52,39 @@ length-kept-rest levels i rest = simp length-set
 
 -- a word at another place
 past-rest :
-    (levels : List ℕ) (i : ℕ) (rest : List ℕ) (k : ℕ) → (k ≡ 6 * i + 4 → ⊥) → (k ≡ 6 * i + 5 → ⊥) →
+    (levels : List ℕ) (i : ℕ) (rest : List ℕ) (k : ℕ) → (k ≡ 6 * i + 2 → ⊥) → (k ≡ 6 * i + 5 → ⊥) →
     getD (keptRest levels i rest) k 0 ≡ getD levels k 0
-past-rest levels i rest k d4 d5 =
-    getD-set-other (set levels (6 * i + 4) (getD rest 0 0)) (6 * i + 5) k (getD rest 1 0) 0 d5
-    ∙ getD-set-other levels (6 * i + 4) k (getD rest 0 0) 0 d4
+past-rest levels i rest k d2 d5 =
+    getD-set-other (set levels (6 * i + 2) (getD rest 0 0)) (6 * i + 5) k (getD rest 1 0) 0 d5
+    ∙ getD-set-other levels (6 * i + 2) k (getD rest 0 0) 0 d2
 
 pub rest-kept-same :
     (levels : List ℕ) (i : ℕ) (rest : List ℕ) → LevelRoom i levels → (u : ℕ) →
     has (restIn (keptRest levels i rest) i) u ≡ has rest u
 rest-kept-same levels i rest room =
     same-words (restIn (keptRest levels i rest) i) rest
-    (getD-set-other (set levels (6 * i + 4) (getD rest 0 0)) (6 * i + 5) (6 * i + 4) (getD rest 1 0) 0
+    (getD-set-other (set levels (6 * i + 2) (getD rest 0 0)) (6 * i + 5) (6 * i + 2) (getD rest 1 0) 0
     (λ e. omega arith)
-    ∙ getD-set-same levels (6 * i + 4) (getD rest 0 0) 0 (omega arith))
-    (getD-set-same (set levels (6 * i + 4) (getD rest 0 0)) (6 * i + 5) (getD rest 1 0) 0
-    (omega (arith, length-set levels (6 * i + 4) (getD rest 0 0))))
+    ∙ getD-set-same levels (6 * i + 2) (getD rest 0 0) 0 (omega arith))
+    (getD-set-same (set levels (6 * i + 2) (getD rest 0 0)) (6 * i + 5) (getD rest 1 0) 0
+    (omega (arith, length-set levels (6 * i + 2) (getD rest 0 0))))
 
 pub rest-kept-other :
     (levels : List ℕ) (i : ℕ) (rest : List ℕ) (j : ℕ) → (j ≡ i → ⊥) →
     restIn (keptRest levels i rest) j ≡ restIn levels j
 rest-kept-other levels i rest j d =
-    let word4 = past-rest levels i rest (6 * j + 4) (λ e. d (omega arith)) (λ e. d (omega arith)) in
+    let word2 = past-rest levels i rest (6 * j + 2) (λ e. d (omega arith)) (λ e. d (omega arith)) in
     let word5 = past-rest levels i rest (6 * j + 5) (λ e. d (omega arith)) (λ e. d (omega arith)) in
-    rw (word4, word5)
+    rw (word2, word5)
 
 pub aim-past-rest :
     (levels : List ℕ) (i : ℕ) (rest : List ℕ) (j : ℕ) → aimIn (keptRest levels i rest) j ≡ aimIn levels j
 aim-past-rest levels i rest j =
     let word0 = past-rest levels i rest (6 * j) (λ e. omega arith) (λ e. omega arith) in
     let word1 = past-rest levels i rest (6 * j + 1) (λ e. omega arith) (λ e. omega arith) in
-    let word2 = past-rest levels i rest (6 * j + 2) (λ e. omega arith) (λ e. omega arith) in
     let word3 = past-rest levels i rest (6 * j + 3) (λ e. omega arith) (λ e. omega arith) in
-    rw (word0, word1, word2, word3)
+    let word4 = past-rest levels i rest (6 * j + 4) (λ e. omega arith) (λ e. omega arith) in
+    rw (word0, word1, word3, word4)
 
 -- ---- the two sets that steer
 
@@ -97,61 +97,68 @@ module _ (levels : List ℕ) (i : ℕ) (aim : Aim) where
   kept1 = set levels (6 * i) (getD (aim .goal) 0 0)
 
   abbrev kept2 : List ℕ
-  kept2 = set kept1 (6 * i + 1) (getD (aim .goal) 1 0)
+  kept2 = set kept1 (6 * i + 3) (getD (aim .goal) 1 0)
 
   abbrev kept3 : List ℕ
-  kept3 = set kept2 (6 * i + 2) (getD (aim .free) 0 0)
+  kept3 = set kept2 (6 * i + 1) (getD (aim .free) 0 0)
 
   -- a word at another place
   past-aim :
-      (k : ℕ) → ((e : ℕ) → e ≤ 3 → k ≡ 6 * i + e → ⊥) → getD (keptAim levels i aim) k 0 ≡ getD levels k 0
-  past-aim k d =
-      getD-set-other kept3 (6 * i + 3) k (getD (aim .free) 1 0) 0 (d 3 (omega arith))
-      ∙ getD-set-other kept2 (6 * i + 2) k (getD (aim .free) 0 0) 0 (d 2 (omega arith))
-      ∙ getD-set-other kept1 (6 * i + 1) k (getD (aim .goal) 1 0) 0 (d 1 (omega arith))
-      ∙ getD-set-other levels (6 * i) k (getD (aim .goal) 0 0) 0 (λ e. d 0 (omega arith) (omega arith))
+      (k : ℕ) → (k ≡ 6 * i → ⊥) → (k ≡ 6 * i + 1 → ⊥) → (k ≡ 6 * i + 3 → ⊥) → (k ≡ 6 * i + 4 → ⊥) →
+      getD (keptAim levels i aim) k 0 ≡ getD levels k 0
+  past-aim k d0 d1 d3 d4 =
+      getD-set-other kept3 (6 * i + 4) k (getD (aim .free) 1 0) 0 d4
+      ∙ getD-set-other kept2 (6 * i + 1) k (getD (aim .free) 0 0) 0 d1
+      ∙ getD-set-other kept1 (6 * i + 3) k (getD (aim .goal) 1 0) 0 d3
+      ∙ getD-set-other levels (6 * i) k (getD (aim .goal) 0 0) 0 d0
+
+  -- a word of another length
+  past-aim-of : (j e : ℕ) → e ≤ 5 → (j ≡ i → ⊥) → getD (keptAim levels i aim) (6 * j + e) 0 ≡ getD levels (6 * j + e) 0
+  past-aim-of j e h d =
+      past-aim (6 * j + e) (λ q. d (omega arith)) (λ q. d (omega arith)) (λ q. d (omega arith)) (λ q. d (omega arith))
 
   pub aim-kept-other : (j : ℕ) → (j ≡ i → ⊥) → aimIn (keptAim levels i aim) j ≡ aimIn levels j
   aim-kept-other j d =
-      let word0 = past-aim (6 * j) (λ e h q. d (omega arith)) in
-      let word1 = past-aim (6 * j + 1) (λ e h q. d (omega arith)) in
-      let word2 = past-aim (6 * j + 2) (λ e h q. d (omega arith)) in
-      let word3 = past-aim (6 * j + 3) (λ e h q. d (omega arith)) in
-      rw (word0, word1, word2, word3)
+      let same : 6 * j + 0 ≡ 6 * j = omega arith in
+      let word0 = rw same at (past-aim-of j 0 (omega arith) d) in
+      let word1 = past-aim-of j 1 (omega arith) d in
+      let word3 = past-aim-of j 3 (omega arith) d in
+      let word4 = past-aim-of j 4 (omega arith) d in
+      rw (word0, word1, word3, word4)
 
   pub rest-past-aim : (j : ℕ) → restIn (keptAim levels i aim) j ≡ restIn levels j
   rest-past-aim j =
-      let word4 = past-aim (6 * j + 4) (λ e h q. omega arith) in
-      let word5 = past-aim (6 * j + 5) (λ e h q. omega arith) in
-      rw (word4, word5)
+      let word2 = past-aim (6 * j + 2) (λ e. omega arith) (λ e. omega arith) (λ e. omega arith) (λ e. omega arith) in
+      let word5 = past-aim (6 * j + 5) (λ e. omega arith) (λ e. omega arith) (λ e. omega arith) (λ e. omega arith) in
+      rw (word2, word5)
 
   module _ (room : LevelRoom i levels) where
     size1 : length kept1 ≡ length levels
     size1 = length-set levels (6 * i) (getD (aim .goal) 0 0)
 
     size2 : length kept2 ≡ length levels
-    size2 = length-set kept1 (6 * i + 1) (getD (aim .goal) 1 0) ∙ size1
+    size2 = length-set kept1 (6 * i + 3) (getD (aim .goal) 1 0) ∙ size1
 
     size3 : length kept3 ≡ length levels
-    size3 = length-set kept2 (6 * i + 2) (getD (aim .free) 0 0) ∙ size2
+    size3 = length-set kept2 (6 * i + 1) (getD (aim .free) 0 0) ∙ size2
 
     pub goal-kept-same : (u : ℕ) → has (aimIn (keptAim levels i aim) i .goal) u ≡ has (aim .goal) u
     goal-kept-same =
         same-words (aimIn (keptAim levels i aim) i .goal) (aim .goal)
-        (getD-set-other kept3 (6 * i + 3) (6 * i) (getD (aim .free) 1 0) 0 (λ e. omega arith)
-        ∙ getD-set-other kept2 (6 * i + 2) (6 * i) (getD (aim .free) 0 0) 0 (λ e. omega arith)
-        ∙ getD-set-other kept1 (6 * i + 1) (6 * i) (getD (aim .goal) 1 0) 0 (λ e. omega arith)
+        (getD-set-other kept3 (6 * i + 4) (6 * i) (getD (aim .free) 1 0) 0 (λ e. omega arith)
+        ∙ getD-set-other kept2 (6 * i + 1) (6 * i) (getD (aim .free) 0 0) 0 (λ e. omega arith)
+        ∙ getD-set-other kept1 (6 * i + 3) (6 * i) (getD (aim .goal) 1 0) 0 (λ e. omega arith)
         ∙ getD-set-same levels (6 * i) (getD (aim .goal) 0 0) 0 (omega arith))
-        (getD-set-other kept3 (6 * i + 3) (6 * i + 1) (getD (aim .free) 1 0) 0 (λ e. omega arith)
-        ∙ getD-set-other kept2 (6 * i + 2) (6 * i + 1) (getD (aim .free) 0 0) 0 (λ e. omega arith)
-        ∙ getD-set-same kept1 (6 * i + 1) (getD (aim .goal) 1 0) 0 (omega (arith, size1)))
+        (getD-set-other kept3 (6 * i + 4) (6 * i + 3) (getD (aim .free) 1 0) 0 (λ e. omega arith)
+        ∙ getD-set-other kept2 (6 * i + 1) (6 * i + 3) (getD (aim .free) 0 0) 0 (λ e. omega arith)
+        ∙ getD-set-same kept1 (6 * i + 3) (getD (aim .goal) 1 0) 0 (omega (arith, size1)))
 
     pub free-kept-same : (u : ℕ) → has (aimIn (keptAim levels i aim) i .free) u ≡ has (aim .free) u
     free-kept-same =
         same-words (aimIn (keptAim levels i aim) i .free) (aim .free)
-        (getD-set-other kept3 (6 * i + 3) (6 * i + 2) (getD (aim .free) 1 0) 0 (λ e. omega arith)
-        ∙ getD-set-same kept2 (6 * i + 2) (getD (aim .free) 0 0) 0 (omega (arith, size2)))
-        (getD-set-same kept3 (6 * i + 3) (getD (aim .free) 1 0) 0 (omega (arith, size3)))
+        (getD-set-other kept3 (6 * i + 4) (6 * i + 1) (getD (aim .free) 1 0) 0 (λ e. omega arith)
+        ∙ getD-set-same kept2 (6 * i + 1) (getD (aim .free) 0 0) 0 (omega (arith, size2)))
+        (getD-set-same kept3 (6 * i + 4) (getD (aim .free) 1 0) 0 (omega (arith, size3)))
 
 -- ---- a beginning is planned
 

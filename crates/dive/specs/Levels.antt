@@ -1,5 +1,5 @@
--- The sets kept by length: those of the beginnings of i atoms have 6 words from place 6 × i on. Nothing to believe:
--- they serve the proof of the fast loop.
+-- The sets kept by length: those of the beginnings of i atoms have 6 words from place 6 × i on, the lower word of each
+-- set and then the upper ones. Nothing to believe: they serve the proof of the fast loop.
 use Prim.Native.Nat.{ℕ, suc, _+_, _-_, _*_, _≤_, _<_}
 use mathlib.Core.Path.{_≡_}
 use mathlib.Core.Bool.{Bool, true, _&&_, _||_}
@@ -20,21 +20,21 @@ LevelRoom i levels = 6 * i + 6 ≤ length levels
 -- the two sets that steer the beginnings of i atoms
 abbrev pub aimIn : List ℕ → ℕ → Aim
 aimIn levels i = record {
-  goal = getD levels (6 * i) 0 ∷ getD levels (6 * i + 1) 0 ∷ [];
-  free = getD levels (6 * i + 2) 0 ∷ getD levels (6 * i + 3) 0 ∷ [];
+  goal = getD levels (6 * i) 0 ∷ getD levels (6 * i + 3) 0 ∷ [];
+  free = getD levels (6 * i + 1) 0 ∷ getD levels (6 * i + 4) 0 ∷ [];
 }
 
 -- the atoms still to be tried at the beginning of i atoms
 abbrev pub restIn : List ℕ → ℕ → List ℕ
-restIn levels i = getD levels (6 * i + 4) 0 ∷ getD levels (6 * i + 5) 0 ∷ []
+restIn levels i = getD levels (6 * i + 2) 0 ∷ getD levels (6 * i + 5) 0 ∷ []
 
 abbrev pub keptAim : List ℕ → ℕ → Aim → List ℕ
 keptAim levels i aim =
-    set (set (set (set levels (6 * i) (getD (aim .goal) 0 0)) (6 * i + 1) (getD (aim .goal) 1 0))
-    (6 * i + 2) (getD (aim .free) 0 0)) (6 * i + 3) (getD (aim .free) 1 0)
+    set (set (set (set levels (6 * i) (getD (aim .goal) 0 0)) (6 * i + 3) (getD (aim .goal) 1 0))
+    (6 * i + 1) (getD (aim .free) 0 0)) (6 * i + 4) (getD (aim .free) 1 0)
 
 abbrev pub keptRest : List ℕ → ℕ → List ℕ → List ℕ
-keptRest levels i rest = set (set levels (6 * i + 4) (getD rest 0 0)) (6 * i + 5) (getD rest 1 0)
+keptRest levels i rest = set (set levels (6 * i + 2) (getD rest 0 0)) (6 * i + 5) (getD rest 1 0)
 
 -- v makes a member of the beginning p, or opens it
 abbrev pub goesOnBy : Family → List ℕ → ℕ → Bool

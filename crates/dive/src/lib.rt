@@ -29,9 +29,9 @@ fn aim_in(levels: &[u64], i: usize) -> Aim
     ensures { λ r. ⌜ r ≡ aimIn (now (levels .entry)) i ⌝ }
 {
     let goal0 = levels[6 * i];
-    let goal1 = levels[6 * i + 1];
-    let free0 = levels[6 * i + 2];
-    let free1 = levels[6 * i + 3];
+    let goal1 = levels[6 * i + 3];
+    let free0 = levels[6 * i + 1];
+    let free1 = levels[6 * i + 4];
     Aim {
         goal: [goal0, goal1],
         free: [free0, free1],
@@ -43,7 +43,7 @@ fn rest_in(levels: &[u64], i: usize) -> [u64; 2]
     requires { ⌜ (i ≤ 128) × LevelRoom i (now levels) ⌝ }
     ensures { λ r. ⌜ r ≡ restIn (now (levels .entry)) i ⌝ }
 {
-    let rest0 = levels[6 * i + 4];
+    let rest0 = levels[6 * i + 2];
     let rest1 = levels[6 * i + 5];
     [rest0, rest1]
 }
@@ -56,9 +56,9 @@ fn keep_aim(levels: &mut [u64], i: usize, aim: Aim)
     let goal = aim.goal;
     let free = aim.free;
     levels[6 * i] = goal[0];
-    levels[6 * i + 1] = goal[1];
-    levels[6 * i + 2] = free[0];
-    levels[6 * i + 3] = free[1];
+    levels[6 * i + 3] = goal[1];
+    levels[6 * i + 1] = free[0];
+    levels[6 * i + 4] = free[1];
 }
 
 // Keeps the atoms still to be tried at the beginning of i atoms.
@@ -66,7 +66,7 @@ fn keep_rest(levels: &mut [u64], i: usize, rest: [u64; 2])
     requires { ⌜ (i ≤ 128) × LevelRoom i (now levels) ⌝ }
     ensures { λ _. ⌜ now (levels .exit) ≡ keptRest (now (levels .entry)) i rest ⌝ }
 {
-    levels[6 * i + 4] = rest[0];
+    levels[6 * i + 2] = rest[0];
     levels[6 * i + 5] = rest[1];
 }
 
