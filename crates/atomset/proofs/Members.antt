@@ -293,16 +293,6 @@ second-word words e z0 z1 =
     let both : holdsNone words ≡ true = rw (eq-eqb (getD words 0 0) 0 z0, eq-eqb (getD words 1 0) 0 z1) in
     clash (holdsNone words) both e
 
--- a set that is not empty has a lowest atom
-pub lowest-some :
-    (words : List ℕ) → holdsNone words ≡ false → getD words 0 0 < 2 ^ 64 → getD words 1 0 < 2 ^ 64 →
-    (v : ℕ) × Lowest words v
-lowest-some words e low high = split (ℕ-discrete (getD words 0 0) 0)
-  where
-    split : Dec (getD words 0 0 ≡ 0) → (v : ℕ) × Lowest words v
-    split (no z) = (_, lowest-first words _ (lowest-in (getD words 0 0) z low))
-    split (yes z) = (_, lowest-second words _ z (lowest-in (getD words 1 0) (second-word words e z) high))
-
 -- the test of emptiness, by the word that it ends at
 
 pub not-empty-first : (words : List ℕ) → (getD words 0 0 ≡ 0 → ⊥) → getD words 0 0 < 2 ^ 64 → Emptiness words false
@@ -390,7 +380,7 @@ module _ {words rest : List ℕ} {k j v : ℕ} (c : Cleared words rest k j) (is-
 
 cleared-left :
     {words rest : List ℕ} {k j : ℕ} → Cleared words rest k j → Lowest words (64 * k + j + 1) → LowestLeft words rest
-cleared-left c m = record { others = λ v l. has-cleared c (lowest-one l m) }
+cleared-left c m = record { taken = _; lowest = m; others = λ v l. has-cleared c (lowest-one l m) }
 
 pub left-first :
     (words : List ℕ) → (getD words 0 0 ≡ 0 → ⊥) → getD words 0 0 < 2 ^ 64 →
@@ -458,34 +448,32 @@ module _ {words rest : List ℕ} {answer : Bool} {v : ℕ} (l : Lowest words v) 
         two = other-atom;
       }
 
--- ---- whether the lowest atom is in another set
+-- ---- the lowest atom alone, and whether it is in another set
 
--- `alone` are the atoms of the set that are not left without its lowest, `shared` those of them in the other set
-module _ (other : ℕ → Bool) {words rest shared : List ℕ} {alone : ℕ → Bool} {none : Bool} (left : LowestLeft words rest)
-    (alone-is : (u : ℕ) → alone u ≡ (has words u && not (has rest u)))
-    (shared-is : (u : ℕ) → has shared u ≡ (other u && alone u)) (empty : Emptiness shared none)
-    (v : ℕ) (l : Lowest words v) where
-  alone-lowest : (u : ℕ) → alone u ≡ eqb u v
-  alone-lowest u = alone-is u ∙ rw (left .others v l u) (cases (has words u) (eqb u v) held)
-    where
-      held : eqb u v ≡ true → has words u ≡ true
-      held e = rw (eqb-true u v e) (l .member)
+-- what the set has and the rest has not
+pub lowest-alone :
+    {words rest : List ℕ} {alone : ℕ → Bool} → LowestLeft words rest →
+    ((u : ℕ) → alone u ≡ (has words u && not (has rest u))) → (v : ℕ) → Lowest words v → (u : ℕ) → alone u ≡ eqb u v
+lowest-alone {words} left alone-is v l u =
+    alone-is u ∙ rw (left .others v l u) (cases (has words u) (eqb u v) (λ e. rw (eqb-true u v e) (l .member)))
+  where
+    cases : (a same : Bool) → (same ≡ true → a ≡ true) → a && not (a && not same) ≡ same
+    cases true true h = refl
+    cases true false h = refl
+    cases false true h = h refl
+    cases false false h = refl
 
-      cases : (a same : Bool) → (same ≡ true → a ≡ true) → a && not (a && not same) ≡ same
-      cases true true h = refl
-      cases true false h = refl
-      cases false true h = h refl
-      cases false false h = refl
-
-  pub lowest-shared : not none ≡ other v
-  lowest-shared = go (either none)
-    where
-      go : (none ≡ true) ⊎ (none ≡ false) → not none ≡ other v
-      go (inl e) =
-          rw e
-          (sym (empty .none e v) ∙ shared-is v ∙
-          rw (alone-lowest v, eq-eqb v v refl) (and-true (other v)))
-      go (inr e) =
-          let (u, held) = empty .some e in
-          let (in-other, in-alone) = and-parts (other u) (alone u) (sym (shared-is u) ∙ held) in
-          rw (e, ← eqb-true u v (sym (alone-lowest u) ∙ in-alone)) (sym in-other)
+-- `shared` has it if the other set does
+pub lowest-shared :
+    (other : ℕ → Bool) {alone : ℕ → Bool} {shared : List ℕ} {none : Bool} {v : ℕ} → ((u : ℕ) → alone u ≡ eqb u v) →
+    ((u : ℕ) → has shared u ≡ (other u && alone u)) → Emptiness shared none → not none ≡ other v
+lowest-shared other {alone} {shared} {none} {v} alone-is shared-is empty = go (either none)
+  where
+    go : (none ≡ true) ⊎ (none ≡ false) → not none ≡ other v
+    go (inl e) =
+        rw e
+        (sym (empty .none e v) ∙ shared-is v ∙ rw (alone-is v, eq-eqb v v refl) (and-true (other v)))
+    go (inr e) =
+        let (u, held) = empty .some e in
+        let (in-other, in-alone) = and-parts (other u) (alone u) (sym (shared-is u) ∙ held) in
+        rw (e, ← eqb-true u v (sym (alone-is u) ∙ in-alone)) (sym in-other)

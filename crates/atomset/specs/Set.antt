@@ -30,8 +30,10 @@ pub record Lowest (words : List ℕ) (v : ℕ) : Type 0 where
   pub member : has words v ≡ true
   pub least : (a : ℕ) → has words a ≡ true → v ≤ a
 
--- the rest is the set without its lowest atom
+-- the set has a lowest atom, and the rest is the set without it
 pub record LowestLeft (words rest : List ℕ) : Type 0 where
+  pub taken : ℕ
+  pub lowest : Lowest words taken
   pub others : (v : ℕ) → Lowest words v → (a : ℕ) → has rest a ≡ (has words a && not (eqb a v))
 
 -- what the answer tells whether a set has at most one atom

@@ -140,12 +140,20 @@ pub fn without_lowest(x: [u64; 2]) -> [u64; 2]
     [0, x[1] & (x[1] - 1)]
 }
 
+// The lowest atom of x alone; `rest` is x without it.
+pub fn lowest_alone(x: [u64; 2], rest: [u64; 2]) -> [u64; 2]
+    requires { ⌜ LowestLeft x rest ⌝ }
+    ensures { λ r. ⌜ ((v : ℕ) → Lowest x v → (a : ℕ) → has r a ≡ eqb a v) ⌝ }
+{
+    minus(x, rest)
+}
+
 // Whether the lowest atom of x is in y; `rest` is x without it. By words alone: it is faster than by the atom.
 pub fn lowest_in(x: [u64; 2], rest: [u64; 2], y: [u64; 2]) -> bool
     requires { ⌜ LowestLeft x rest ⌝ }
     ensures { λ r. ⌜ ((v : ℕ) → Lowest x v → r ≡ has y v) ⌝ }
 {
-    let alone = minus(x, rest);
+    let alone = lowest_alone(x, rest);
     let shared = intersection(y, alone);
     !is_empty(shared)
 }

@@ -278,14 +278,14 @@ fn second_atoms(table: &[u64; 256], n: usize, s: usize) -> [u64; 2]
     let mut shut = atomset::empty();
     let mut found = atomset::empty();
     while !atomset::is_empty(left) {
-        let last = atomset::single(atomset::lowest(left));
+        let rest = atomset::without_lowest(left);
+        let last = atomset::lowest_alone(left, rest);
         let more = reached_from(table, between, last, shut);
         let opened = atomset::union(found, more);
         found = opened;
         let fewer = atomset::minus(shut, more);
         let with_last = atomset::union(fewer, last);
         shut = with_last;
-        let rest = atomset::without_lowest(left);
         left = rest;
     }
     found

@@ -1,4 +1,4 @@
--- `atomset::lowest_in` meets its contract: the lowest atom is what the set has and the rest has not.
+-- `atomset::lowest_in` meets its contract: the other set shares an atom with the lowest one alone if it has it.
 -- By `lowest-shared`.
 use borrow.Author.Needs.{needs}
 use Rattle.atomset.specs.Set.{has}
@@ -9,10 +9,10 @@ use Rattle.atomset.proofs.lowest_in.Tie as tie
 returns : tie.Need-returns
 returns c v l =
     let start : tie.Start = search in
-    let alone : tie.After-minus = search in
+    let alone : tie.After-lowest-alone = search in
     let shared : tie.After-intersection = search in
-    lowest-shared (has (start .args .y)) (start .pre) (alone .minus .ensures) (shared .intersection .ensures)
-    (c .is-empty .ensures) v l
+    lowest-shared (has (start .args .y)) (alone .lowest-alone .ensures v l) (shared .intersection .ensures)
+    (c .is-empty .ensures)
 
 pub lowest-in-spec : {M : Type 1} → statement M
 lowest-in-spec =

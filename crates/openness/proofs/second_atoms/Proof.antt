@@ -26,10 +26,10 @@ abbrev Place : (tie.InvT-loop → tie.MeasureT-loop → Type 0) → Type 0
 Place place = place Inv-loop μ-loop
 
 -- from where the turn ends
-abbrev taken : Place tie.After-without-lowest → Place tie.After-lowest
-taken c = c .before .before .before .before .before .before
+abbrev taken : Place tie.After-union2 → Place tie.After-without-lowest
+taken c = c .before .before .before .before .before
 
-abbrev turn : Place tie.After-lowest → Place tie.At-loop
+abbrev turn : Place tie.After-without-lowest → Place tie.At-loop
 turn c = c .before .before .before
 
 -- from the head of the loop: the two sets are made
@@ -53,41 +53,41 @@ between-is c v =
 some : (c : Place tie.Then1) → holdsNone (c .before .before .loop .left) ≡ false
 some c = sym (c .before .is-empty .ensures .test) ∙ not-true _ (c .if1 .taken)
 
--- it is taken
+-- the lowest one is taken
 takes :
     (c : Place tie.After-without-lowest) →
-    TakesLowest (turn (taken c) .loop .left) (c .without-lowest .result) (taken c .lowest .result)
-takes c = record { lowest = taken c .lowest .ensures; rest-is = c .without-lowest .ensures }
+    TakesLowest (turn c .loop .left) (c .without-lowest .result) (c .without-lowest .ensures .taken)
+takes c = record { lowest = c .without-lowest .ensures .lowest; rest-is = c .without-lowest .ensures }
 
 -- what the turn finds
 turned :
-    (c : Place tie.After-without-lowest) →
+    (c : Place tie.After-union2) →
     let loop = turn (taken c) .loop in
     let args = start (sets (turn (taken c))) .args in
     SiftingTurn (args .n) (args .table .now) (args .s) (loop .left) (loop .shut) (loop .found)
-    (c .without-lowest .result) (c .before .union2 .result) (c .before .before .before .union .result)
+    (taken c .without-lowest .result) (c .union2 .result) (c .before .before .union .result)
 turned c =
     let loop = turn (taken c) in
-    let alone : Place tie.After-single = search in
+    let lowest = taken c .without-lowest .ensures in
+    let alone : Place tie.After-lowest-alone = search in
     let swept : Place tie.After-reached-from = search in
     let opened : Place tie.After-union = search in
     let fewer : Place tie.After-minus2 = search in
-    let closed : Place tie.After-union2 = search in
     record {
       atom = start (sets loop) .pre;
       sifted = loop .loop .inv;
-      last = taken c .lowest .result;
-      alone = alone .single .result;
+      last = lowest .taken;
+      alone = alone .lowest-alone .result;
       between = sets loop .before .minus .result;
       more = swept .reached-from .result;
       fewer = fewer .minus2 .result;
-      takes = takes c;
-      alone-is = alone .single .ensures;
+      takes = takes (taken c);
+      alone-is = alone .lowest-alone .ensures _ (lowest .lowest);
       between-is = between-is (sets loop);
       more-is = swept .reached-from .ensures;
       opened-is = opened .union .ensures;
       fewer-is = fewer .minus2 .ensures;
-      closed-is = closed .union2 .ensures;
+      closed-is = c .union2 .ensures;
     }
 
 -- ---- the needs
@@ -109,9 +109,6 @@ loop-holds c =
     sifted-start (λ v. rw (all .intersection .ensures v, range .range .ensures v, row .row .ensures v))
     (c .before .empty .ensures) (c .empty2 .ensures)
 
-single-requires : tie.Need-single-requires Inv-loop μ-loop
-single-requires c κs = let low = c .lowest .ensures in (low .low, low .high)
-
 returns : tie.Need-returns Inv-loop μ-loop
 returns c =
     let none = c .before .is-empty .ensures .none (not-false _ (c .if1 .left)) in
@@ -123,5 +120,5 @@ second-atoms-spec =
     tie.close
     (tie.spec
     Inv-loop μ-loop row-requires range-requires (λ c κs. tt) (λ c κs. tt) (λ c κs. tt) (λ c κs. tt) loop-holds
-    (λ c κs. tt) (λ c κs. some c) single-requires (λ c κs. search needs) (λ c κs. tt) (λ c κs. tt) (λ c κs. tt)
-    (λ c κs. some (search)) (λ c. taken-fewer (takes c)) (λ c. sifted-turn (turned c)) returns)
+    (λ c κs. tt) (λ c κs. some c) (λ c κs. c .without-lowest .ensures) (λ c κs. search needs) (λ c κs. tt)
+    (λ c κs. tt) (λ c κs. tt) (λ c. taken-fewer (takes (taken c))) (λ c. sifted-turn (turned c)) returns)
