@@ -26,7 +26,7 @@ use Rattle.openness.specs.declared.Plan.{Plan}
 use Rattle.openness.specs.declared.FirstPlan.{FirstPlan}
 use Rattle.openness.specs.declared.Found.{Found}
 use Rattle.openness.specs.Plan.{familyBy, firstLength, Planned, Ahead, Everywhere, Beginning, Planning, FoundAt}
-use Rattle.openness.specs.Parts.{OneAtom, TwoEnds, FirstAhead, ShortRing, PathFirsts}
+use Rattle.openness.specs.Parts.{OneAtom, TwoEnds, FirstOf, FirstAhead, ShortRing, PathFirsts}
 use Rattle.openness.proofs.Arrays.{one-taken, open-atoms}
 
 -- ---- the family of a kind
@@ -175,9 +175,10 @@ module _ {n : ℕ} {table prefix : List ℕ} {len c : ℕ} {first : FirstPlan}
 
     -- a new plan
     pub made-found :
-        {a : ℕ} {plan : Plan} → a ≡ atomAt prefix 0 → Everywhere (rings n (linkedBy table)) (a ∷ []) plan →
-        FoundHere (record { plan = plan; first = record { plan = plan; atom = atomAt prefix 0 } })
-    made-found e k = record { planned = rw (one-atom, ← e) (planned-every k); tells = λ low. rw (← e) k }
+        {made : FirstPlan} → FirstOf n table (atomAt prefix 0) made →
+        FoundHere (record { plan = made .plan; first = made })
+    made-found k =
+        record { planned = rw one-atom (planned-every (k .tells)); tells = λ low. rw (k .atom-is) (k .tells) }
 
 -- ---- at an open beginning
 
@@ -199,9 +200,9 @@ module _ {n : ℕ} {table : List ℕ} {kind s t : ℕ} {prefix : List ℕ} {len 
   steered-found k = record { planned = planned-every k; tells = q .tells }
 
   -- a ring search
-  module _ (short : len < firstLength kind) (e : kind ≡ 0) where
-    pub ring-asked : ShortRing n table prefix len c first
-    ring-asked =
+  module _ (e : kind ≡ 0) where
+    pub ring-asked : len < firstLength kind → ShortRing n table prefix len c first
+    ring-asked short =
         let same = family-rings n table kind s t e in
         record {
           words = q .begun .words;

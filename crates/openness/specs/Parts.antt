@@ -12,7 +12,7 @@ use Rattle.atomset.specs.Set.{has, linkedBy}
 use Rattle.search.specs.Place.{endsKept}
 use Rattle.openness.specs.declared.Aim.{Aim}
 use Rattle.openness.specs.declared.FirstPlan.{FirstPlan}
-use Rattle.openness.specs.Plan.{Words, HandedOn, Steered, FirstTells}
+use Rattle.openness.specs.Plan.{Words, Everywhere, HandedOn, Steered, FirstTells}
 
 -- an atom that may begin a ring
 pub record OneAtom (n : ℕ) (table : List ℕ) (c : ℕ) : Type 0 where
@@ -40,6 +40,11 @@ pub record Stepping (F : Family) (adj : Adjacency) (p : List ℕ) (x : ℕ) (aim
   pub handed : HandedOn adj x aim next
   pub members-is : (v : ℕ) → has members v ≡ (has (aim .goal) v && adj x v)
   pub want-is : (v : ℕ) → has want v ≡ (has (aim .free) v && adj x v)
+
+-- the plan of the ring beginning of one atom
+pub record FirstOf (n : ℕ) (table : List ℕ) (atom : ℕ) (first : FirstPlan) : Type 0 where
+  pub atom-is : first .atom ≡ atom
+  pub tells : Everywhere (rings n (linkedBy table)) (atom ∷ []) (first .plan)
 
 -- of the atoms from c on, the first that begins a ring, and its plan; the atom is 0 where none does
 pub record FirstAhead (n : ℕ) (table : List ℕ) (c : ℕ) (first : FirstPlan) : Type 0 where

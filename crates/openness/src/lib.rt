@@ -14,7 +14,7 @@ ghost use Rattle.atomset.specs.Set.{has, linkedBy};
 ghost use Rattle.sweep.specs.Swept.{Symmetric, Reached};
 ghost use Rattle.search.specs.Place.{kindKept};
 ghost use Rattle.openness.specs.Plan.{familyBy, Words, Beginning, Planning, FoundAt, Everywhere, Steered, HandedOn, firstLength};
-ghost use Rattle.openness.specs.Parts.{OneAtom, TwoAtoms, TwoEnds, Stepping, FirstAhead, ShortRing, PathFirsts};
+ghost use Rattle.openness.specs.Parts.{OneAtom, TwoAtoms, TwoEnds, Stepping, FirstOf, FirstAhead, ShortRing, PathFirsts};
 
 // The atoms that make a member of a beginning, and those that open it.
 pub struct Plan {
@@ -299,6 +299,22 @@ fn ring_starts(table: &[u64; 256], n: usize, c: usize) -> bool
     !atomset::is_empty(second_atoms(table, n, c))
 }
 
+// The plan of the ring beginning of one atom.
+fn first_plan(table: &[u64; 256], n: usize, atom: u8) -> FirstPlan
+    requires { ⌜ OneAtom n (now table) atom ⌝ }
+    ensures { λ r. ⌜ FirstOf n (now (table .entry)) atom r ⌝ }
+{
+    let none = atomset::empty();
+    let opens = second_atoms(table, n, u8_usize(atom));
+    FirstPlan {
+        plan: Plan {
+            members: none,
+            opens: opens,
+        },
+        atom: atom,
+    }
+}
+
 // The atom from c on that is the first to begin a ring, and its plan; the atom is 0 where there is none.
 fn first_ahead(table: &[u64; 256], n: usize, c: usize) -> FirstPlan
     requires { ⌜ OneAtom n (now table) c ⌝ }
@@ -393,15 +409,8 @@ fn short_ring(
             first: first,
         };
     }
-    let opens = second_atoms(table, n, u8_usize(prefix[0]));
-    let plan = Plan {
-        members: none,
-        opens: opens,
-    };
-    let made = FirstPlan {
-        plan: plan,
-        atom: prefix[0],
-    };
+    let made = first_plan(table, n, prefix[0]);
+    let plan = made.plan;
     Found {
         plan: plan,
         first: made,

@@ -29,13 +29,13 @@ returns c = let start : tie.Start = search in steered-found (start .pre) (c .ste
 short-ring-requires : tie.Need-short-ring-requires
 short-ring-requires c κs =
     let start : tie.Start = search in
-    ring-asked (start .pre) (short (search)) (c .if2 .taken)
+    ring-asked (start .pre) (c .if2 .taken) (short (search))
 
 returns-2 : tie.Need-returns-2
 returns-2 c =
     let start : tie.Start = search in
     let ring : tie.Then2 = search in
-    ring-found (start .pre) (short (search)) (ring .if2 .taken) (c .short-ring .ensures)
+    ring-found (start .pre) (ring .if2 .taken) (c .short-ring .ensures)
 
 path-firsts-requires : tie.Need-path-firsts-requires
 path-firsts-requires c κs =

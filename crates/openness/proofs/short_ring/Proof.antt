@@ -1,9 +1,9 @@
 -- `openness::short_ring` meets its contract, by the length of the beginning and its atom.
 -- Each answer is that of the function it calls, or the plan that is kept.
 use native.Mathlib.Omega.{arith}
+use mathlib.Core.Path.{refl}
 use borrow.Author.Needs.{needs}
 use Rattle.openness.proofs.Plans.{next-atom, start-found, first-atom, kept-found, made-found}
-use Rattle.openness.proofs.Rings.{seconds-tell}
 use Rattle.openness.proofs.short_ring.Statement.{statement}
 use Rattle.openness.proofs.short_ring.Tie as tie
 
@@ -32,25 +32,22 @@ returns-2 c =
     let same : tie.Then2 = search in
     kept-found (start .pre) (one .if1 .left) (same .if2 .taken)
 
-second-atoms-requires : tie.Need-second-atoms-requires
-second-atoms-requires c κs =
+first-plan-requires : tie.Need-first-plan-requires
+first-plan-requires c κs =
     let start : tie.Start = search in
     let one : tie.Else1 = search in
-    first-atom (start .pre) (one .if1 .left) (c .u8-usize .ensures .same)
+    first-atom (start .pre) (one .if1 .left) refl
 
 returns-3 : tie.Need-returns-3
 returns-3 c =
     let start : tie.Start = search in
     let one : tie.Else1 = search in
-    let empty : tie.After-empty = search in
-    let read : tie.After-u8-usize = search in
-    let found : tie.After-second-atoms = search in
-    let told = seconds-tell _ (empty .empty .ensures) (found .second-atoms .ensures) in
-    made-found (start .pre) (one .if1 .left) (read .u8-usize .ensures .same) told
+    let made : tie.After-first-plan = search in
+    made-found (start .pre) (one .if1 .left) (made .first-plan .ensures)
 
 pub short-ring-spec : {M : Type 1} → statement M
 short-ring-spec =
     tie.close
     (tie.spec
     (λ c κs. tt) first-ahead-requires atom-alone-requires returns (λ c. search needs) returns-2 (λ c. search needs)
-    (λ c κs. tt) second-atoms-requires (λ c. search needs) returns-3)
+    first-plan-requires returns-3)
