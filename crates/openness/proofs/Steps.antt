@@ -13,8 +13,9 @@ use Rattle.chordless.proofs.Steers.{steers-member, steers-open, sole-opens}
 use Rattle.atomset.specs.Set.{has, Emptiness, AtMostOne}
 use Rattle.sweep.specs.Swept.{Reached}
 use Rattle.openness.specs.declared.Aim.{Aim}
+use Rattle.openness.specs.declared.Beside.{Beside}
 use Rattle.openness.specs.Plan.{Everywhere, Steered, HandedOn}
-use Rattle.openness.specs.Parts.{Stepping}
+use Rattle.openness.specs.Parts.{BesideLast, Stepping}
 
 -- the atoms bonded to atom x
 abbrev pub Row : Adjacency → ℕ → (ℕ → Bool) → Type 0
@@ -104,28 +105,18 @@ module _ {F : Family} {adj : Adjacency} {p : List ℕ} {x : ℕ} {aim next : Aim
 
 -- ---- the plan
 
-module _ {adj : Adjacency} {x : ℕ} {aim next : Aim} {row : ℕ → Bool} {members want : List ℕ}
-    (handed : HandedOn adj x aim next) (row-is : Row adj x row)
-    (members-is : (v : ℕ) → has members v ≡ (has (aim .goal) v && row v))
-    (want-is : (v : ℕ) → has want v ≡ (has (aim .free) v && row v)) where
-  stepping : {F : Family} {p : List ℕ} → Steered F adj p x aim → Stepping F adj p x aim next members want
-  stepping steered =
-      record {
-        steered = steered;
-        handed = handed;
-        members-is = λ v. members-is v ∙ rw (row-is v);
-        want-is = λ v. want-is v ∙ rw (row-is v);
-      }
-
+module _ {adj : Adjacency} {x : ℕ} {aim next : Aim} {near : Beside} (handed : HandedOn adj x aim next)
+    (k : BesideLast adj x aim near) where
   pub plan-told :
       {opens : List ℕ} →
-      ((F : Family) (p : List ℕ) (y : ℕ) (before : Aim) → Stepping F adj p y before next members want →
+      ((F : Family) (p : List ℕ) (y : ℕ) (before : Aim) → Stepping F adj p y before next (near .members) (near .want) →
       (v : ℕ) → has opens v ≡ isOpen F (p ++ v ∷ [])) →
       (F : Family) (p : List ℕ) → Steered F adj p x aim →
-      Everywhere F p (record { members = members; opens = opens })
+      Everywhere F p (record { members = near .members; opens = opens })
   plan-told opens-is F p steered v =
-      let member = steers-member (steered .steers) (steered .isOpened) v in
       record {
-        members = members-is v ∙ rw (row-is v) (sym member);
-        opens = opens-is F p x aim (stepping steered) v;
+        members = k .members-is v ∙ sym (steers-member (steered .steers) (steered .isOpened) v);
+        opens =
+            opens-is F p x aim
+            (record { steered = steered; handed = handed; members-is = k .members-is; want-is = k .want-is }) v;
       }

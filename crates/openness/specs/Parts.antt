@@ -11,6 +11,7 @@ use Rattle.chordless.specs.Families.{rings, paths}
 use Rattle.atomset.specs.Set.{has, linkedBy}
 use Rattle.search.specs.Place.{endsKept}
 use Rattle.openness.specs.declared.Aim.{Aim}
+use Rattle.openness.specs.declared.Beside.{Beside}
 use Rattle.openness.specs.declared.FirstPlan.{FirstPlan}
 use Rattle.openness.specs.Plan.{Words, Everywhere, HandedOn, Steered, FirstTells}
 
@@ -32,6 +33,11 @@ pub record TwoAtoms (n : ℕ) (table : List ℕ) (s v : ℕ) : Type 0 where
 pub record TwoEnds (n : ℕ) (table : List ℕ) (s t : ℕ) : Type 0 where
   pub words : Words n table
   pub ends : endsKept n s t ≡ true
+
+-- the closing atoms and the free ones that are bonded to the last atom x
+pub record BesideLast (adj : Adjacency) (x : ℕ) (aim : Aim) (near : Beside) : Type 0 where
+  pub members-is : (v : ℕ) → has (near .members) v ≡ (has (aim .goal) v && adj x v)
+  pub want-is : (v : ℕ) → has (near .want) v ≡ (has (aim .free) v && adj x v)
 
 -- a beginning that the sets steer, the sets handed on, its members and its candidates
 pub record Stepping (F : Family) (adj : Adjacency) (p : List ℕ) (x : ℕ) (aim next : Aim) (members want : List ℕ)

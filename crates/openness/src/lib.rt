@@ -14,7 +14,7 @@ ghost use Rattle.atomset.specs.Set.{has, linkedBy};
 ghost use Rattle.sweep.specs.Swept.{Symmetric, Reached};
 ghost use Rattle.search.specs.Place.{kindKept};
 ghost use Rattle.openness.specs.Plan.{familyBy, Words, Beginning, Planning, FoundAt, Everywhere, Steered, HandedOn, firstLength};
-ghost use Rattle.openness.specs.Parts.{OneAtom, TwoAtoms, TwoEnds, Stepping, FirstOf, FirstAhead, ShortRing, PathFirsts};
+ghost use Rattle.openness.specs.Parts.{OneAtom, TwoAtoms, TwoEnds, BesideLast, Stepping, FirstOf, FirstAhead, ShortRing, PathFirsts};
 
 // The atoms that make a member of a beginning, and those that open it.
 pub struct Plan {
@@ -39,6 +39,12 @@ pub struct Found {
 pub struct Aim {
     pub goal: [u64; 2],
     pub free: [u64; 2],
+}
+
+// The atoms beside the last one of a beginning that make a member, and those that may open it.
+struct Beside {
+    pub members: [u64; 2],
+    pub want: [u64; 2],
 }
 
 // The length of the shortest beginnings that two sets steer: of rings 2, of paths 1.
@@ -172,6 +178,22 @@ fn opening(table: &[u64; 256], next: Aim, members: [u64; 2], want: [u64; 2]) -> 
     sweep::reached(table, free, goal, want)
 }
 
+// What the two sets have beside the last atom x: the atoms that make a member, and the candidates.
+fn beside_last(table: &[u64; 256], aim: Aim, x: usize) -> Beside
+    requires { ⌜ (1 ≤ x) × (x ≤ 128) ⌝ }
+    ensures { λ r. ⌜ BesideLast (linkedBy (now (table .entry))) x aim r ⌝ }
+{
+    let row = atomset::row(table, x);
+    let goal = aim.goal;
+    let free = aim.free;
+    let members = atomset::intersection(goal, row);
+    let want = atomset::intersection(free, row);
+    Beside {
+        members: members,
+        want: want,
+    }
+}
+
 // The plan of an open beginning that the sets steer, with the last atom x; `next` are the sets handed on.
 pub fn plan_by(table: &[u64; 256], aim: Aim, next: Aim, x: usize) -> Plan
     requires { ⌜
@@ -179,11 +201,9 @@ pub fn plan_by(table: &[u64; 256], aim: Aim, next: Aim, x: usize) -> Plan
     ensures { λ r. ⌜
         ((F : Family) (p : List ℕ) → Steered F (linkedBy (now (table .entry))) p x aim → Everywhere F p r) ⌝ }
 {
-    let row = atomset::row(table, x);
-    let goal = aim.goal;
-    let free = aim.free;
-    let members = atomset::intersection(goal, row);
-    let want = atomset::intersection(free, row);
+    let near = beside_last(table, aim, x);
+    let members = near.members;
+    let want = near.want;
     let opens = opening(table, next, members, want);
     Plan {
         members: members,
@@ -199,11 +219,9 @@ fn swept_plan(table: &[u64; 256], aim: Aim, next: Aim, x: usize) -> Plan
     ensures { λ r. ⌜
         ((F : Family) (p : List ℕ) → Steered F (linkedBy (now (table .entry))) p x aim → Everywhere F p r) ⌝ }
 {
-    let row = atomset::row(table, x);
-    let goal = aim.goal;
-    let free = aim.free;
-    let members = atomset::intersection(goal, row);
-    let want = atomset::intersection(free, row);
+    let near = beside_last(table, aim, x);
+    let members = near.members;
+    let want = near.want;
     let targets = next.goal;
     let through = next.free;
     let opens = sweep::reached(table, through, targets, want);

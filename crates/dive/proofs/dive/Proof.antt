@@ -211,10 +211,11 @@ add-used c = omega (arith, diving (search) .held .short)
 
 add-used-2 : tie.Need-add-used-2 Inv-loop μ-loop
 add-used-2 c =
-    let k = diving (search) in
-    let start : Place tie.Start = search in
+    let t : Place tie.After-lowest-in = search in
+    let now = loop (here t) in
+    let k = diving now in
     let else5 : Place tie.Else5 = search in
-    omega (arith, else5 .if5 .left, listed-within (k .listing), listed-length (k .listing), start .good)
+    omega (arith, else5 .if5 .left, listed-within (k .listing), listed-length (k .listing), start now .good)
 
 listed-requires : tie.Need-listed-requires Inv-loop μ-loop
 listed-requires c κs =

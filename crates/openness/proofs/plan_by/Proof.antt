@@ -8,14 +8,9 @@ use Rattle.openness.proofs.plan_by.Tie as tie
 returns : tie.Need-returns
 returns c =
     let start : tie.Start = search in
-    let row : tie.After-row = search in
-    let members : tie.After-intersection = search in
+    let near : tie.After-beside-last = search in
     let (symmetric, handed, low, high) = start .pre in
-    plan-told handed (row .row .ensures) (members .intersection .ensures) (c .before .intersection2 .ensures)
-    (c .opening .ensures)
+    plan-told handed (near .beside-last .ensures) (c .opening .ensures)
 
 pub plan-by-spec : {M : Type 1} → statement M
-plan-by-spec =
-    tie.close
-    (tie.spec
-    (λ c κs. search needs) (λ c κs. search needs) (λ c κs. search needs) (λ c κs. search needs) returns)
+plan-by-spec = tie.close (tie.spec (λ c κs. search needs) (λ c κs. search needs) returns)

@@ -8,15 +8,9 @@ use Rattle.openness.proofs.swept_plan.Tie as tie
 returns : tie.Need-returns
 returns c =
     let start : tie.Start = search in
-    let row : tie.After-row = search in
-    let members : tie.After-intersection = search in
-    let want : tie.After-intersection2 = search in
+    let near : tie.After-beside-last = search in
     let (symmetric, handed, low, high) = start .pre in
-    plan-told handed (row .row .ensures) (members .intersection .ensures) (want .intersection2 .ensures)
-    (λ F p y before k. sweep-opens k (c .reached .ensures))
+    plan-told handed (near .beside-last .ensures) (λ F p y before k. sweep-opens k (c .reached .ensures))
 
 pub swept-plan-spec : {M : Type 1} → statement M
-swept-plan-spec =
-    tie.close
-    (tie.spec
-    (λ c κs. search needs) (λ c κs. search needs) (λ c κs. search needs) (λ c κs. search needs) returns)
+swept-plan-spec = tie.close (tie.spec (λ c κs. search needs) (λ c κs. search needs) returns)

@@ -1,8 +1,7 @@
-//! A faster lister of the same method, which is that of the proved one without
-//! marks, budgets and trials: the sets of atoms are handed down a recursion, an
-//! open beginning with one candidate and no member has no sweep, the second
-//! atoms of a ring are found once as a set, and a sweep ends once every
-//! candidate is decided.
+//! A faster lister of the same method: the sets of atoms are handed down a
+//! recursion, an open beginning with one candidate and no member has no sweep,
+//! the second atoms of a ring are found once as a set, and a sweep ends once
+//! every candidate is decided.
 
 use super::list::Task;
 use super::lister::Listing;
@@ -10,6 +9,9 @@ use super::Record;
 
 /// A set of atoms; atom v is bit v - 1.
 type Set = u128;
+
+/// Bytes of a short record, which are copied at once.
+const SHORT: usize = 32;
 
 fn single(v: usize) -> Set {
     1 << (v - 1)
@@ -38,12 +40,17 @@ impl Lister {
         self.bonded[(v - 1) & 127]
     }
 
-    /// The neighbours of all atoms of a set.
+    /// The neighbours of all atoms of a set, by its lower and its upper half.
     fn near_any(&self, set: Set) -> Set {
-        let (mut near, mut rest) = (0, set);
-        while rest != 0 {
-            near |= self.near(lowest(rest));
-            rest &= rest - 1;
+        let mut near = 0;
+        let (mut low, mut high) = (set as u64, (set >> 64) as u64);
+        while low != 0 {
+            near |= self.near(low.trailing_zeros() as usize + 1);
+            low &= low - 1;
+        }
+        while high != 0 {
+            near |= self.near(high.trailing_zeros() as usize + 65);
+            high &= high - 1;
         }
         near
     }
@@ -66,7 +73,13 @@ impl Lister {
         self.list[0] = len as u8 + 1;
         self.list[len + 1] = v as u8;
         let sheet = &mut self.listing.sheet;
-        sheet.extend_from_slice(&self.list[..len + 2]);
+        let end = sheet.len() + len + 2;
+        if len + 2 <= SHORT {
+            sheet.extend_from_slice(&self.list[..SHORT]);
+            sheet.truncate(end);
+        } else {
+            sheet.extend_from_slice(&self.list[..len + 2]);
+        }
         self.listing.listed += 1;
     }
 
@@ -79,15 +92,22 @@ impl Lister {
     /// Lists all members that begin with the `len` atoms at hand, an open
     /// beginning whose last atom is x. An atom of `goal` may come last, and one
     /// of `free` between.
-    fn extend(&mut self, len: usize, x: usize, goal: Set, free: Set) {
-        let near = self.near(x);
-        let (members, want) = (goal & near, free & near);
-        let (goal, free) = (goal & !near, free & !near);
-        let mut rest = members;
-        if members == 0 && want & (want - 1) == 0 {
+    fn extend(&mut self, mut len: usize, mut x: usize, mut goal: Set, mut free: Set) {
+        let (members, want) = loop {
+            let near = self.near(x);
+            let (members, want) = (goal & near, free & near);
+            goal &= !near;
+            free &= !near;
+            if members != 0 || want & (want - 1) != 0 {
+                break (members, want);
+            }
             // No member and one candidate: it opens.
-            rest = want;
-        } else if want != 0 && goal != 0 {
+            x = lowest(want);
+            self.open(len, x);
+            len += 1;
+        };
+        let mut rest = members;
+        if want != 0 && goal != 0 {
             rest |= self.reaching(want, goal, free);
         }
         while rest != 0 {
@@ -104,14 +124,22 @@ impl Lister {
 
     /// Of `ends`, the atoms bonded to the first atom and above it, those that
     /// open as a second atom: a higher one is reached from them through `free`.
-    fn seconds(&self, ends: Set, free: Set) -> Set {
-        let (mut opens, mut rest) = (0, ends);
-        while rest != 0 {
-            let v = lowest(rest);
-            opens |= self.reaching(single(v), ends & above(v), free);
-            rest &= rest - 1;
+    /// One sweep from the highest on, in which no atom of `free` comes twice.
+    fn seconds(&self, ends: Set, mut free: Set) -> Set {
+        let (mut opens, mut below, mut new) = (0, ends, 0);
+        loop {
+            if new == 0 && below != 0 {
+                new = 1 << (127 - below.leading_zeros());
+                below ^= new;
+            }
+            if below & !opens == 0 {
+                return opens;
+            }
+            let near = self.near_any(new);
+            opens |= near & below;
+            new = near & free;
+            free &= !near;
         }
-        opens
     }
 
     /// All rings, by their first and second atoms.
