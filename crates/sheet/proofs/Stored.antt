@@ -3,17 +3,19 @@
 use Prim.Native.Nat.{ℕ, _+_, _*_, _≤_, _<_}
 use native.Mathlib.Numerals.{add-one}
 use native.Mathlib.Omega.{arith}
-use mathlib.Core.Path.{_≡_, refl, _∙_}
-use mathlib.Core.Bool.{Bool, true, false, _&&_, not}
+use mathlib.Core.Path.{_≡_, refl, sym, _∙_}
+use mathlib.Core.Bool.{Bool, true, false, _&&_, not, and-true}
 use mathlib.Core.List.{List}
 use lib.ListN.{getD}
 use lib.Dec.{eqb}
 use borrow.Author.Tests.{eq-eqb, ne-eqb}
 use Rattle.graph.specs.Every.{allBelow}
-use Rattle.graph.proofs.Loops.{all-fails, all-more, all-done}
+use Rattle.graph.proofs.Below.{apart as no-yes}
+use Rattle.graph.proofs.Loops.{all-fails, all-more}
 use Rattle.molecule.specs.Record.{isAtom}
 use Rattle.sheet.specs.Bonds.{Bond, atomsKept, noneToItself}
-use Rattle.sheet.specs.Parts.{stored, storedBond}
+use Rattle.sheet.specs.declared.BondsKept.{BondsKept}
+use Rattle.sheet.specs.Parts.{stored, storedBond, KeepsBonds}
 
 unfoldable pub within : ℕ → (ℕ → Bond) → ℕ → Bool
 within n bond k = isAtom n (bond k .0) && isAtom n (bond k .1)
@@ -41,72 +43,73 @@ module _ (values : List ℕ) (k : ℕ) where
   unfolding stored
   bond-read = rw (add-one k)
 
--- ---- rule 6: the atoms of the bonds passed are from 1 to n
+and-false : (b : Bool) → b && false ≡ false
+and-false true = refl
+and-false false = refl
 
-pub record AtomsPassed (n : ℕ) (values : List ℕ) (m k : ℕ) : Type 0 where
+-- ---- the bonds passed
+
+-- their atoms are from 1 to n, and `apart` tells whether none joins an atom to itself
+pub record BondsPassed (n : ℕ) (values : List ℕ) (m k : ℕ) (apart : Bool) : Type 0 where
   pub most : k ≤ m
-  pub all : allBelow k (within n (storedBond values)) ≡ true
+  pub atoms : allBelow k (within n (storedBond values)) ≡ true
+  pub apart-is : apart ≡ allBelow k (differs (storedBond values))
 
-pub atoms-none : {n : ℕ} {values : List ℕ} {m : ℕ} → AtomsPassed n values m 0
-atoms-none = record { most = omega arith; all = refl }
+pub bonds-none : {n : ℕ} {values : List ℕ} {m : ℕ} → BondsPassed n values m 0 true
+bonds-none = record { most = omega arith; atoms = refl; apart-is = refl }
 
-module _ {n : ℕ} {values : List ℕ} {m k : ℕ} (passed : AtomsPassed n values m k) where
-  pub atoms-all : m ≤ k → atomsKept n (storedBond values) m ≡ true
-  atoms-all last =
-      atoms-kept-is n (storedBond values) m
-      ∙ all-done k m (within n (storedBond values)) (passed .most) last (passed .all)
+module _ {n : ℕ} {values : List ℕ} {m k : ℕ} {apart : Bool} (passed : BondsPassed n values m k apart) where
+  abbrev Keeps : BondsKept → Type 0
+  Keeps r = KeepsBonds n (storedBond values) m r
+
+  pub bonds-all : m ≤ k → Keeps (record { atoms = true; apart = apart })
+  bonds-all last =
+      let same : k ≡ m = omega (arith, passed .most) in
+      record {
+        atoms = sym (atoms-kept-is n (storedBond values) m ∙ rw same at (passed .atoms));
+        apart = λ e. rw same at (passed .apart-is) ∙ sym (none-to-itself-is (storedBond values) m);
+      }
 
   module _ (more : k < m) where
-    atoms-broken : within n (storedBond values) k ≡ false → atomsKept n (storedBond values) m ≡ false
-    atoms-broken broken =
-        atoms-kept-is n (storedBond values) m ∙ all-fails m (within n (storedBond values)) k more broken
-
-    pub atoms-left : isAtom n (left values k) ≡ false → atomsKept n (storedBond values) m ≡ false
-    unfolding within
-    atoms-left l = atoms-broken (rw (bond-read values k, l))
-
-    pub atoms-right :
-        isAtom n (left values k) ≡ true → isAtom n (right values k) ≡ false →
-        atomsKept n (storedBond values) m ≡ false
-    unfolding within
-    atoms-right l r = atoms-broken (rw (bond-read values k, l, r))
-
-    pub atoms-more :
-        isAtom n (left values k) ≡ true → isAtom n (right values k) ≡ true → AtomsPassed n values m (k + 1)
-    unfolding within
-    atoms-more l r = record {
-      most = omega arith;
-      all = all-more k (within n (storedBond values)) (passed .all) (rw (bond-read values k, l, r));
+    bonds-broken : within n (storedBond values) k ≡ false → Keeps (record { atoms = false; apart = apart })
+    bonds-broken broken = record {
+      atoms =
+          sym
+          (atoms-kept-is n (storedBond values) m ∙ all-fails m (within n (storedBond values)) k more broken);
+      apart = λ e. absurd (no-yes (sym e));
     }
 
--- ---- rule 7: no bond passed joins an atom to itself
+    pub bonds-left : isAtom n (left values k) ≡ false → Keeps (record { atoms = false; apart = apart })
+    unfolding within
+    bonds-left l = bonds-broken (rw (bond-read values k, l))
 
-pub record ApartPassed (values : List ℕ) (m k : ℕ) : Type 0 where
-  pub most : k ≤ m
-  pub all : allBelow k (differs (storedBond values)) ≡ true
+    pub bonds-right :
+        isAtom n (left values k) ≡ true → isAtom n (right values k) ≡ false →
+        Keeps (record { atoms = false; apart = apart })
+    unfolding within
+    bonds-right l r = bonds-broken (rw (bond-read values k, l, r))
 
-pub apart-none : {values : List ℕ} {m : ℕ} → ApartPassed values m 0
-apart-none = record { most = omega arith; all = refl }
+    -- one more bond, by whether its atoms are the same
+    module _ (l : isAtom n (left values k) ≡ true) (r : isAtom n (right values k) ≡ true) where
+      atoms-more : allBelow (k + 1) (within n (storedBond values)) ≡ true
+      unfolding within
+      atoms-more = all-more k (within n (storedBond values)) (passed .atoms) (rw (bond-read values k, l, r))
 
-module _ {values : List ℕ} {m k : ℕ} (passed : ApartPassed values m k) where
-  pub apart-all : m ≤ k → noneToItself (storedBond values) m ≡ true
-  apart-all last =
-      none-to-itself-is (storedBond values) m
-      ∙ all-done k m (differs (storedBond values)) (passed .most) last (passed .all)
+      apart-more : {same : Bool} → eqb (left values k) (right values k) ≡ same →
+          apart && not same ≡ allBelow (k + 1) (differs (storedBond values))
+      unfolding differs
+      apart-more e = rw (add-one k, passed .apart-is, bond-read values k, e)
 
-  module _ (more : k < m) where
-    pub apart-same : left values k ≡ right values k → noneToItself (storedBond values) m ≡ false
-    unfolding differs
-    apart-same e =
-        let broken = eq-eqb (left values k) (right values k) e in
-        none-to-itself-is (storedBond values) m
-        ∙ all-fails m (differs (storedBond values)) k more (rw (bond-read values k, broken))
+      pub bonds-same : left values k ≡ right values k → BondsPassed n values m (k + 1) false
+      bonds-same e = record {
+        most = omega arith;
+        atoms = atoms-more;
+        apart-is = sym (and-false apart) ∙ apart-more (eq-eqb (left values k) (right values k) e);
+      }
 
-    pub apart-more : (left values k ≡ right values k → ⊥) → ApartPassed values m (k + 1)
-    unfolding differs
-    apart-more e =
-        let kept = ne-eqb (left values k) (right values k) e in
-        record {
-          most = omega arith;
-          all = all-more k (differs (storedBond values)) (passed .all) (rw (bond-read values k, kept));
-        }
+      pub bonds-differ : (left values k ≡ right values k → ⊥) → BondsPassed n values m (k + 1) apart
+      bonds-differ e = record {
+        most = omega arith;
+        atoms = atoms-more;
+        apart-is = sym (and-true apart) ∙ apart-more (ne-eqb (left values k) (right values k) e);
+      }

@@ -5,6 +5,7 @@ use mathlib.Core.Bool.{Bool, true}
 use mathlib.Core.List.{List}
 use lib.ListN.{length, getD}
 use Rattle.graph.specs.Every.{allBelow}
+use Rattle.sheet.specs.declared.BondsKept.{BondsKept}
 use Rattle.sheet.specs.declared.Entry.{Entry}
 use Rattle.sheet.specs.Bonds.{Bond, atomsKept, noneToItself}
 use Rattle.sheet.specs.Read.{lineKept, lineOf}
@@ -45,6 +46,11 @@ pub record WholeLines (s values : List ℕ) : Type 0 where
 pub record ReadsLines (s : List ℕ) (lines : ℕ) (right : Bool) (values : List ℕ) : Type 0 where
   pub ok : right ≡ allBelow lines (lineKept s)
   pub values-are : right ≡ true → Decodes values (lineOf s) lines
+
+-- whether the bonds keep rule 6, and, where they do, whether they keep rule 7
+pub record KeepsBonds (n : ℕ) (bond : ℕ → Bond) (m : ℕ) (r : BondsKept) : Type 0 where
+  pub atoms : r .atoms ≡ atomsKept n bond m
+  pub apart : r .atoms ≡ true → r .apart ≡ noneToItself bond m
 
 -- so many atoms fit a molecule record, and the list of values has room for so many bonds
 pub record FitsRecord (n : ℕ) (values : List ℕ) (m : ℕ) : Type 0 where

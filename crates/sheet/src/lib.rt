@@ -2,10 +2,10 @@
 ghost use mathlib.Core.Path.{_≡_};
 ghost use Prim.Native.Nat.{min, _+_, _*_, _≤_};
 ghost use lib.ListN.{length};
-ghost use Rattle.sheet.specs.Bonds.{atomsKept, noneToItself, withCell};
+ghost use Rattle.sheet.specs.Bonds.{withCell};
 ghost use Rattle.sheet.specs.Read.{refusedSheet, readBonds, readSheet};
 ghost use Rattle.sheet.specs.Parts.{storedBond, ReadsLine, Decodable, ReadsLines, RoomFor, FitsRecord, Fillable};
-ghost use Rattle.sheet.specs.Parts.{CellIn, WholeLines};
+ghost use Rattle.sheet.specs.Parts.{KeepsBonds, CellIn, WholeLines};
 use fields::Number;
 use molecule::Molecule;
 use refusal::Answer;
@@ -22,6 +22,12 @@ struct Entry {
     pub ok: bool,
     pub left: u16,
     pub right: u16,
+}
+
+// Whether the bonds keep rule 6, and rule 7.
+struct BondsKept {
+    pub atoms: bool,
+    pub apart: bool,
 }
 
 // One line of 9 bytes.
@@ -89,37 +95,38 @@ fn decode(s: &[u8], lines: usize, values: &mut [u16]) -> bool
     true
 }
 
-// Rule 6: whether every bond's atoms are from 1 to n.
-fn atoms_kept(values: &[u16], n: usize, m: usize) -> bool
+// Rules 6 and 7, in one pass: whether every bond's atoms are from 1 to n, and, where they are, whether no bond joins an
+// atom to itself.
+fn bonds_kept(values: &[u16], n: usize, m: usize) -> BondsKept
     requires { ⌜ RoomFor (m + 1) (now values) ⌝ }
-    ensures { λ r. ⌜ r ≡ atomsKept n (storedBond (now (values .entry))) m ⌝ }
+    ensures { λ r. ⌜ KeepsBonds n (storedBond (now (values .entry))) m r ⌝ }
 {
+    let mut apart = true;
     let mut k: usize = 0;
     while k < m {
-        if !molecule::is_atom(n, u16_usize(values[2 * (k + 1)])) {
-            return false;
+        let left = u16_usize(values[2 * (k + 1)]);
+        let right = u16_usize(values[2 * (k + 1) + 1]);
+        if !molecule::is_atom(n, left) {
+            return BondsKept {
+                atoms: false,
+                apart: apart,
+            };
         }
-        if !molecule::is_atom(n, u16_usize(values[2 * (k + 1) + 1])) {
-            return false;
+        if !molecule::is_atom(n, right) {
+            return BondsKept {
+                atoms: false,
+                apart: apart,
+            };
+        }
+        if left == right {
+            apart = false;
         }
         k += 1;
     }
-    true
-}
-
-// Rule 7: whether no bond joins an atom to itself.
-fn none_to_itself(values: &[u16], m: usize) -> bool
-    requires { ⌜ RoomFor (m + 1) (now values) ⌝ }
-    ensures { λ r. ⌜ r ≡ noneToItself (storedBond (now (values .entry))) m ⌝ }
-{
-    let mut k: usize = 0;
-    while k < m {
-        if values[2 * (k + 1)] == values[2 * (k + 1) + 1] {
-            return false;
-        }
-        k += 1;
+    BondsKept {
+        atoms: true,
+        apart: apart,
     }
-    true
 }
 
 // Sets the bit of row i and column j, both counted from 0.
@@ -180,10 +187,11 @@ fn read_bonds(values: &[u16], n: usize, m: usize) -> SheetAnswer
     requires { ⌜ FitsRecord n (now values) m ⌝ }
     ensures { λ r. ⌜ r ≡ readBonds n (storedBond (now (values .entry))) m ⌝ }
 {
-    if !atoms_kept(values, n, m) {
+    let kept = bonds_kept(values, n, m);
+    if !kept.atoms {
         return refused(Refusal::BondAtom);
     }
-    if !none_to_itself(values, m) {
+    if !kept.apart {
         return refused(Refusal::SelfBond);
     }
     fill(values, n, m)

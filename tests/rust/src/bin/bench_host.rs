@@ -404,7 +404,7 @@ fn above_aim(rows: &[Row]) -> String {
         + "\nIn brackets the ratio, and the share of the entry's time that a call with budget 0 and no mark takes. A small \
            molecule pays this fixed cost of a call, most of `resume`: the sheet is read and its record checked, the table of \
            its words made, the mark saved. Besides, the entry counts trials and can stop before any of them, and finds the \
-           first and the second atoms of rings by trials, which the other listers do not.\n"
+           first atoms of rings by trials, which the other listers do not.\n"
 }
 
 /// The time in runs of each length over that in one run.
