@@ -188,7 +188,8 @@ module _ {n : ℕ} {table : List ℕ} {kind s t most : ℕ} {from : Spot} {start
 
       stage-kept :
           (i : ℕ) {c : ℕ} → from .len ≤ i → i ≤ at .len - 1 → StageHere prefix levels i c → StageHere shorter levels i c
-      stage-kept i l h s = stage-same s (word-kept i h) (atom-kept (i - 1) (omega (arith, d .some))) refl (λ e. refl) refl
+      stage-kept i l h s =
+          stage-same s (word-kept i h) (atom-kept (i - 1) (omega (arith, d .some))) refl (λ e. refl) refl
 
       pub diving-drops : Diving shorter levels out (droppedAt at n last) used
       diving-drops = record {
@@ -243,7 +244,8 @@ module _ {n : ℕ} {table : List ℕ} {kind s t most : ℕ} {from : Spot} {start
       passed′ : (i : ℕ) → from .len ≤ i → i < at .len → StageHere prefix levels′ i (getD prefix i 0 + 1)
       passed′ i low h =
           stage-same (k .passed i low h) refl refl (aim-past-rest levels (at .len) others i)
-          (λ e. aim-past-rest levels (at .len) others (suc i)) (rest-kept-other levels (at .len) others i (λ e. omega arith))
+          (λ e. aim-past-rest levels (at .len) others (suc i))
+          (rest-kept-other levels (at .len) others i (λ e. omega arith))
 
       -- the trials before it
       before :
@@ -423,7 +425,8 @@ module _ {n : ℕ} {table : List ℕ} {kind s t most : ℕ} {from : Spot} {start
                   (kept i low (omega arith) (passed′ i low b))
               split (no b) =
                   let same : i ≡ at .len = omega arith in
-                  rw (same, getD-set-same prefix (at .len) v 0 (room not-closing)) (kept (at .len) deep (omega arith) lowered)
+                  rw (same, getD-set-same prefix (at .len) v 0 (room not-closing))
+                  (kept (at .len) deep (omega arith) lowered)
 
           extended :
               Makes F (stateBefore n (set prefix (at .len) v) (extendedAt at v))
@@ -458,8 +461,8 @@ pub record Tries (most : ℕ) (from at : Spot) (levels : List ℕ) (v : ℕ) (ot
   pub kept-is : kept ≡ keptRest levels (at .len) others
 
 module _ {n : ℕ} {table : List ℕ} {kind s t most : ℕ} {from : Spot} {start : ℕ} {prefix₀ levels₀ out₀ : List ℕ}
-    (d : Descent n table kind s t most from start prefix₀ levels₀ out₀) {prefix levels out : List ℕ} {at : Spot} {used : ℕ}
-    (k : Diving d prefix levels out at used)
+    (d : Descent n table kind s t most from start prefix₀ levels₀ out₀) {prefix levels out : List ℕ} {at : Spot}
+    {used : ℕ} (k : Diving d prefix levels out at used)
   where
     pub drops :
         from .len ≤ at .len → 129 ≤ most - at .trials → {last : ℕ} {at′ : Spot} → last ≡ getD prefix (at .len - 1) 0 →

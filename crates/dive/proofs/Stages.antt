@@ -1,5 +1,5 @@
--- A beginning on the way down and what is kept for its length (`Stage`): what its lowest atom to be tried tells, and how
--- it changes with a trial. Where the sets steer, by the laws of `Steers`; a shorter beginning has its members kept.
+-- A beginning on the way down and what is kept for its length (`Stage`): what its lowest atom to be tried tells, and
+-- how it changes with a trial. Where the sets steer, by the laws of `Steers`; a shorter beginning has its members kept.
 use Prim.Native.Nat.{ℕ, suc, _+_, _-_, _≤_, _<_}
 use native.Mathlib.Omega.{arith}
 use native.Mathlib.Numerals.{add-one}

@@ -56,8 +56,8 @@ pub record Led (F : Family) (adj : Adjacency) (p : List ℕ) (x : ℕ) (aim next
   pub steered : Steered F adj p x aim
   pub handed : HandedOn adj x aim next
 
--- the beginning of `len` atoms in the array, which has got its last atom x, is planned, in a search whose sets steer the
--- beginnings of `first` atoms or more: the sets of a longer one were handed on, those of one of `first` atoms are made
+-- the beginning of `len` atoms in the array, which has got its last atom x, is planned, in a search whose sets steer
+-- the beginnings of `first` atoms or more: those of a longer one were handed on, those of one of `first` atoms are made
 pub record LevelAdded (F : Family) (adj : Adjacency) (first x len : ℕ) (prefix before after : List ℕ) : Type 0 where
   pub size : length after ≡ length before
   pub aims-kept : (i : ℕ) → i < len → aimIn after i ≡ aimIn before i
@@ -70,9 +70,9 @@ pub record LevelAdded (F : Family) (adj : Adjacency) (first x len : ℕ) (prefix
       (first < len → Steered F adj (take len prefix) x (aimIn before len)) → (v : ℕ) →
       has (restIn after len) v ≡ goesOnBy F (take len prefix) v
 
--- an open beginning of i atoms on the way down, whose next atom is c, and what is kept for its length: from `first` atoms
--- on the sets steer it; of a shorter one the atoms that make a member are kept as those that may close one. The atoms
--- still to be tried are those from the next one on that make a member or open it
+-- an open beginning of i atoms on the way down, whose next atom is c, and what is kept for its length: from `first`
+-- atoms on the sets steer it; of a shorter one the atoms that make a member are kept as those that may close one. The
+-- atoms still to be tried are those from the next one on that make a member or open it
 pub record Stage (F : Family) (adj : Adjacency) (first : ℕ) (prefix levels : List ℕ) (i c : ℕ) : Type 0 where
   pub lawful : Lawful F
   pub isOpened : isOpen F (take i prefix) ≡ true

@@ -87,8 +87,8 @@ fn plan_level(table: &[u64; 256], levels: &mut [u64], len: usize, x: usize)
     keep_rest(levels, len, rest);
 }
 
-// Plans the beginning of `len` atoms that has got its last atom x. The sets of a longer one were handed on; those of the
-// shortest that two sets steer are made here.
+// Plans the beginning of `len` atoms that has got its last atom x. The sets of a longer one were handed on; those of
+// the shortest that two sets steer are made here.
 fn plan_added(
     table: &[u64; 256],
     n: usize,
@@ -251,8 +251,8 @@ fn enters(kind: usize, at: Spot, left: u64, prefix: &[u8; 128], atom: u8) -> boo
     prefix[0] == atom
 }
 
-// Plans the beginning from which the fast loop starts: by its two sets, or, where it is too short for them, as the first
-// plan tells.
+// Plans the beginning from which the fast loop starts: by its two sets, or, where it is too short for them, as the
+// first plan tells.
 fn plan_start(
     table: &[u64; 256],
     n: usize,
@@ -264,7 +264,8 @@ fn plan_start(
 )
     requires { ⌜ Starting n (now table) q at first (now prefix) (now levels) ⌝ }
     ensures { λ _. ⌜
-        FirstStage n (now (table .entry)) (q .kind) (q .s) (q .t) (now (prefix .entry)) (now (levels .exit)) (at .len) ⌝ }
+        FirstStage n (now (table .entry)) (q .kind) (q .s) (q .t) (now (prefix .entry)) (now (levels .exit))
+        (at .len) ⌝ }
 {
     let len = at.len;
     if len < openness::first_length(q.kind) {
@@ -335,8 +336,8 @@ fn below(
     }
 }
 
-// The trials that the fast loop makes from a place of a run of q, if it pays, of at most `left`. The first plan tells of
-// a beginning that is too short for two sets.
+// The trials that the fast loop makes from a place of a run of q, if it pays, of at most `left`. The first plan tells
+// of a beginning that is too short for two sets.
 pub fn descend(
     table: &[u64; 256],
     n: usize,

@@ -152,9 +152,9 @@ pub fn aim_at(
     aim
 }
 
-// Of the candidates `want` at an open beginning with these members, those that open it. Where nothing may close a member
-// later, or there is no candidate, none does; where it has no member, a sole candidate opens it, in every family;
-// otherwise one sweep tells.
+// Of the candidates `want` at an open beginning with these members, those that open it. Where nothing may close a
+// member later, or there is no candidate, none does; where it has no member, a sole candidate opens it, in every
+// family; otherwise one sweep tells.
 fn opening(table: &[u64; 256], next: Aim, members: [u64; 2], want: [u64; 2]) -> [u64; 2]
     requires { ⌜ Symmetric (linkedBy (now table)) ⌝ }
     ensures { λ r. ⌜

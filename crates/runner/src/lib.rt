@@ -79,7 +79,7 @@ fn stopped(q: Search, prefix: [u8; 128], at: Spot, stop: Stop, used: usize, made
     }
 }
 
-// The run of a search that rule 12 allows, over the word table of the molecule; `kept` is for the sets of the fast loop.
+// The run of a search that rule 12 allows, over the word table of the molecule; `kept` is for the fast loop's sets.
 fn run_trials(
     table: &[u64; 256],
     n: usize,

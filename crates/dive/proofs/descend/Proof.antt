@@ -31,5 +31,5 @@ pub descend-spec : {M : Type 1} → statement M
 descend-spec =
     tie.close
     (tie.spec
-    (λ c κs. search needs) (λ c κs. search needs) (λ c. search needs) below-requires (λ c. search needs) (λ c. search needs)
-    returns returns-2)
+    (λ c κs. search needs) (λ c κs. search needs) (λ c. search needs) below-requires (λ c. search needs)
+    (λ c. search needs) returns returns-2)
