@@ -3,7 +3,7 @@
 use Prim.Native.Nat.{_-_}
 use native.Mathlib.Omega.{arith}
 use mathlib.Core.Logic.{inl, inr}
-use mathlib.Core.Path.{_≡_, sym, _∙_}
+use mathlib.Core.Path.{_≡_, ap, sym, _∙_}
 use mathlib.Core.Bool.{true}
 use borrow.Author.Tests.{not-true, not-false}
 use Rattle.molecule.specs.Record.{isAtom}
@@ -42,14 +42,14 @@ left-told :
     let here = turn (c .before) in
     let args = start here .args in
     isAtom (args .n) (left (args .values .now) (here .before .loop .k)) ≡ c .is-atom .result
-left-told c = rw (reads (c .before) .u16-usize .ensures .same) at (sym (c .is-atom .ensures))
+left-told c = sym (c .is-atom .ensures ∙ ap (isAtom _) (reads (c .before) .u16-usize .ensures .same))
 
 right-told :
     (c : Place tie.After-is-atom2) →
     let both = c .before .before .before in
     let args = start (turn both) .args in
     isAtom (args .n) (right (args .values .now) (turn both .before .loop .k)) ≡ c .is-atom2 .result
-right-told c = rw (c .before .before .before .u16-usize2 .ensures .same) at (sym (c .is-atom2 .ensures))
+right-told c = sym (c .is-atom2 .ensures ∙ ap (isAtom _) (c .before .before .before .u16-usize2 .ensures .same))
 
 left-kept :
     (c : Place tie.Else1) →
