@@ -59,6 +59,28 @@ fn any_pace(rng: &mut Rng, n: u64, trials: u64) -> impl FnMut() -> (u64, usize) 
     }
 }
 
+/// Sizes about those at which the arrays of a run and of the reader change:
+/// rings, which go as deep as a beginning can, and sheets of so many lines.
+#[test]
+fn sizes_of_the_arrays() {
+    for n in (28..=36).chain(60..=68).chain(120..=128) {
+        let ring = generate::ring(n);
+        in_one_call(&ring);
+        for budget in [255, 256, 2 * n * n] {
+            let whole = host::list(&ring.sheet(), &[], || (budget, n as usize + 1));
+            assert_whole(&ring.record(), Task::Rings, &whole);
+        }
+        let ends = Task::of(n, 1, 2, n).expect("two atoms");
+        let fresh = fresh_mark(&ring.record(), ends);
+        let whole = host::list(&ring.sheet(), &fresh, || (u64::MAX, 2 * n as usize));
+        assert_whole(&ring.record(), ends, &whole);
+    }
+    for m in 120..=136 {
+        let mut rng = Rng::of_case(0x41_5252_4159, m);
+        in_one_call(&generate::random_molecule(&mut rng, 124, m));
+    }
+}
+
 #[test]
 fn random_listings_1() {
     random_listings("random_listings_1", 0x4C_4953_5441);
