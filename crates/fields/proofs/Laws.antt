@@ -1,31 +1,33 @@
--- Reading and writing number fields: what is written reads back, and what reads as a value is the one way to write it.
+-- Reading and writing number fields: each text of a number reads back, and what reads as a value is one of its texts.
 -- Both go column by column: a column more on the right is ten times the value and a digit.
 use Prim.Native.Nat.{ℕ, zero, suc, _+_, _-_, _*_, _/_, _%_, _^_, _≤_, _<_}
 use native.Mathlib.Nat.{pow-suc, add-zero, add-suc, suc-add, zero-add, pow-zero, eq-or-lt-of-le}
 use native.Mathlib.Numerals.{one-add}
+use native.Mathlib.Decide.{decLt}
 use native.Mathlib.Omega.{arith}
 use mathlib.Core.Path.{_≡_, refl, ap, sym, _∙_}
-use mathlib.Core.Bool.{Bool, true, false, _&&_, cond, true≢false}
+use mathlib.Core.Bool.{Bool, true, false, _&&_, _||_, cond, or-true, true≢false}
 use mathlib.Core.List.{List, [], _∷_, _++_, append-nil}
 use mathlib.Core.Logic.{⊎-elim}
-use lib.ListN.{length, replicate, length-append}
+use lib.ListN.{length, getD, replicate, length-append}
 use lib.Seq.{append-snoc}
 use lib.Dec.{leb, ltb, eqb}
-use borrow.Author.Tests.{lt-ltb, le-leb, ne-eqb, leb-true, ltb-true, eqb-true}
+use borrow.Author.Tests.{lt-ltb, le-ltb, le-leb, eq-eqb, ne-eqb, leb-true, ltb-true, eqb-true}
 use Rattle.fields.specs.declared.Number.{Number}
 use Rattle.fields.specs.declared.Number.the-variants.{Value, Bad}
-use Rattle.fields.specs.Field.{limit, isDigit, digits, readField, column, columns, fieldText}
+use Rattle.fields.specs.Field.{limit, isDigit, digits, afterBlanks, zeroFirst, readField}
+use Rattle.fields.specs.Field.{column, columns, fieldText, zeroText, filledText}
 
 -- a test that was passed on the way to a value
-passed : (t : Bool) (x : Number) (v : ℕ) → cond t x Bad ≡ Value v → (t ≡ true) × (x ≡ Value v)
-passed true x v e = (refl, e)
-passed false x v e = let z : _≡_ {A = ℕ} 0 1 = cc in absurd (omega arith)
+pub passed : (t : Bool) (x : Number) (v : ℕ) (zeros : Bool) → cond t x Bad ≡ Value v zeros → (t ≡ true) × (x ≡ Value v zeros)
+passed true x v zeros e = (refl, e)
+passed false x v zeros e = let z : _≡_ {A = ℕ} 0 1 = cc in absurd (omega arith)
 
-both : (a b : Bool) → (a && b) ≡ true → (a ≡ true) × (b ≡ true)
+pub both : (a b : Bool) → (a && b) ≡ true → (a ≡ true) × (b ≡ true)
 both true b e = (refl, e)
 both false b e = absurd (true≢false (sym e))
 
--- reading past a digit
+-- ---- one digit more
 
 digit-byte : (d : ℕ) → d < 10 → isDigit (48 + d) ≡ true
 digit-byte d h = simp (le-leb 48 (48 + d) (omega arith), le-leb (48 + d) 57 (omega arith))
@@ -33,41 +35,41 @@ digit-byte d h = simp (le-leb 48 (48 + d) (omega arith), le-leb (48 + d) 57 (ome
 digit-worth : (d : ℕ) → 48 + d - 48 ≡ d
 digit-worth d = omega arith
 
-module _ (v d : ℕ) (digit : d < 10) (some : 0 < v) (fits : v * 10 + d ≤ limit) where
-  digits-snoc :
-      (w : ℕ) (bs : List ℕ) → digits w bs ≡ Value v → digits w (bs ++ ((48 + d) ∷ [])) ≡ Value (v * 10 + d)
+module _ (zeros : Bool) (v d : ℕ) (digit : d < 10) (may : zeros || ltb 0 v ≡ true) (fits : v * 10 + d ≤ limit) where
+  pub digits-snoc :
+      (w : ℕ) (bs : List ℕ) → digits zeros w bs ≡ Value v zeros →
+      digits zeros w (bs ++ ((48 + d) ∷ [])) ≡ Value (v * 10 + d) zeros
   unfolding digits
   digits-snoc w [] e =
       let same : w ≡ v = cc in
       rw (same, digit-worth d)
-      (simp (
-        le-leb 48 (48 + d) (omega arith),
-        le-leb (48 + d) 57 (omega arith),
-        lt-ltb 0 v some,
-        le-leb (v * 10 + d) limit fits,
-      ))
+      (simp (le-leb 48 (48 + d) (omega arith), le-leb (48 + d) 57 (omega arith), may, le-leb (v * 10 + d) limit fits))
   digits-snoc w (b ∷ bs) e =
       let now = w * 10 + (b - 48) in
-      let tests = passed (isDigit b && ltb 0 w && leb now limit) (digits now bs) v e in
+      let tests = passed (isDigit b && (zeros || ltb 0 w) && leb now limit) (digits zeros now bs) v zeros e in
       rw (tests .0) (digits-snoc now bs (tests .1))
 
-  field-snoc : (bs : List ℕ) → readField bs ≡ Value v → readField (bs ++ ((48 + d) ∷ [])) ≡ Value (v * 10 + d)
-  unfolding readField
+module _ (v d : ℕ) (digit : d < 10) (some : 0 < v) (fits : v * 10 + d ≤ limit) where
+  field-snoc :
+      (bs : List ℕ) → afterBlanks false bs ≡ Value v false →
+      afterBlanks false (bs ++ ((48 + d) ∷ [])) ≡ Value (v * 10 + d) false
+  unfolding afterBlanks
   field-snoc [] e = let z : _≡_ {A = ℕ} 0 1 = cc in absurd (omega arith)
   field-snoc (b ∷ bs) e = go (field-snoc bs) (eqb b 32) e
     where
       -- by whether b is a blank
       go :
           let longer = bs ++ ((48 + d) ∷ []) in
-          (readField bs ≡ Value v → readField longer ≡ Value (v * 10 + d)) → (t : Bool) →
-          cond t (readField bs) (cond (isDigit b) (digits (b - 48) bs) Bad) ≡ Value v →
-          cond t (readField longer) (cond (isDigit b) (digits (b - 48) longer) Bad) ≡ Value (v * 10 + d)
+          (afterBlanks false bs ≡ Value v false → afterBlanks false longer ≡ Value (v * 10 + d) false) → (t : Bool) →
+          cond t (afterBlanks false bs) (cond (isDigit b) (digits false (b - 48) bs) Bad) ≡ Value v false →
+          cond t (afterBlanks false longer) (cond (isDigit b) (digits false (b - 48) longer) Bad)
+          ≡ Value (v * 10 + d) false
       go more true e = more e
       go more false e =
-          let digit = passed (isDigit b) (digits (b - 48) bs) v e in
-          rw (digit .0) (digits-snoc (b - 48) bs (digit .1))
+          let first = passed (isDigit b) (digits false (b - 48) bs) v false e in
+          rw (first .0) (digits-snoc false v d digit (lt-ltb 0 v some) fits (b - 48) bs (first .1))
 
--- blanks
+-- ---- a text filled with blanks reads as its value, zeros not filling it
 
 abbrev blanks : ℕ → List ℕ
 blanks k = replicate k 32
@@ -81,83 +83,96 @@ unfolding columns column
 columns-blank zero = refl
 columns-blank (suc k) = rw (columns-blank k) (blank-more k)
 
-lone-digit : (k d : ℕ) → d < 10 → readField (blanks k ++ ((48 + d) ∷ [])) ≡ Value d
-unfolding readField digits
+lone-digit : (k d : ℕ) → d < 10 → afterBlanks false (blanks k ++ ((48 + d) ∷ [])) ≡ Value d false
+unfolding afterBlanks digits
 lone-digit zero d h = simp (ne-eqb (48 + d) 32 (λ e. omega arith), digit-byte d h, digit-worth d)
 lone-digit (suc k) d h = lone-digit k d h
 
 -- a last digit after columns
 module _ (k v : ℕ) (below : v < 10 ^ suc k) (fits : v ≤ limit) where
   last-digit :
-      ((w : ℕ) → 0 < w → w < 10 ^ k → w ≤ limit → readField (columns k w) ≡ Value w) →
-      readField (columns k (v / 10) ++ ((48 + v % 10) ∷ [])) ≡ Value v
+      ((w : ℕ) → 0 < w → w < 10 ^ k → w ≤ limit → afterBlanks false (columns k w) ≡ Value w false) →
+      afterBlanks false (columns k (v / 10) ++ ((48 + v % 10) ∷ [])) ≡ Value v false
   last-digit front = go (v / 10) refl
     where
-      go : (q : ℕ) → v / 10 ≡ q → readField (columns k (v / 10) ++ ((48 + v % 10) ∷ [])) ≡ Value v
+      go : (q : ℕ) → v / 10 ≡ q → afterBlanks false (columns k (v / 10) ++ ((48 + v % 10) ∷ [])) ≡ Value v false
       go zero e =
           let same : v % 10 ≡ v = omega arith in
-          rw (e, columns-blank k) (lone-digit k (v % 10) (omega arith) ∙ ap Value same)
+          rw (e, columns-blank k) (lone-digit k (v % 10) (omega arith) ∙ ap (λ x. Value x false) same)
       go (suc q) e =
           let power : 10 ^ suc k ≡ 10 ^ k * 10 = pow-suc 10 k in
           let whole : v / 10 * 10 + v % 10 ≡ v = omega arith in
           let before = front (v / 10) (omega arith) (omega arith) (omega arith) in
           field-snoc (v / 10) (v % 10) (omega arith) (omega arith) (omega arith) (columns k (v / 10)) before
-          ∙ ap Value whole
+          ∙ ap (λ x. Value x false) whole
 
-columns-read : (k v : ℕ) → 0 < v → v < 10 ^ k → v ≤ limit → readField (columns k v) ≡ Value v
+columns-read : (k v : ℕ) → 0 < v → v < 10 ^ k → v ≤ limit → afterBlanks false (columns k v) ≡ Value v false
 unfolding columns column
 columns-read zero v some below fits = absurd (omega (arith, pow-zero 10))
 columns-read (suc k) v some below fits = rw (ne-eqb v 0 (λ e. omega arith)) (last-digit k v below fits (columns-read k))
 
--- What is written reads back
-pub written-reads-back : (k v : ℕ) → v < 10 ^ k → v ≤ limit → 0 < k → readField (fieldText k v) ≡ Value v
+pub text-read : (k v : ℕ) → v < 10 ^ k → v ≤ limit → 0 < k → afterBlanks false (fieldText k v) ≡ Value v false
 unfolding fieldText
-written-reads-back zero v below fits some = absurd (omega arith)
-written-reads-back (suc k) v below fits some = last-digit k v below fits (columns-read k)
+text-read zero v below fits some = absurd (omega arith)
+text-read (suc k) v below fits some = last-digit k v below fits (columns-read k)
 
--- What reads as a value is the one way to write it
+-- ---- what a field that reads as a value tells
 
 -- what a digit b that was read after the value w tells
-record DigitRead (w b : ℕ) (bs : List ℕ) (v : ℕ) : Type 0 where
-  low : 48 ≤ b
-  high : b ≤ 57
-  some : 0 < w
-  fits : w * 10 + (b - 48) ≤ limit
-  rest : digits (w * 10 + (b - 48)) bs ≡ Value v
+pub record DigitRead (zeros : Bool) (w b : ℕ) (bs : List ℕ) (v : ℕ) (filled : Bool) : Type 0 where
+  pub low : 48 ≤ b
+  pub high : b ≤ 57
+  pub may : zeros || ltb 0 w ≡ true
+  pub fits : w * 10 + (b - 48) ≤ limit
+  pub rest : digits zeros (w * 10 + (b - 48)) bs ≡ Value v filled
 
-digit-read : (w b : ℕ) (bs : List ℕ) (v : ℕ) → digits w (b ∷ bs) ≡ Value v → DigitRead w b bs v
+pub digits-end-value : (zeros : Bool) (w v : ℕ) (filled : Bool) → digits zeros w [] ≡ Value v filled → (w ≡ v) × (zeros ≡ filled)
 unfolding digits
-digit-read w b bs v e =
-    let now = w * 10 + (b - 48) in
-    let tests = passed (isDigit b && ltb 0 w && leb now limit) (digits now bs) v e in
-    let outer = both (isDigit b && ltb 0 w) (leb now limit) (tests .0) in
-    let inner = both (isDigit b) (ltb 0 w) (outer .0) in
-    let digit = both (leb 48 b) (leb b 57) (inner .0) in
-    record {
-      low = leb-true 48 b (digit .0);
-      high = leb-true b 57 (digit .1);
-      some = ltb-true 0 w (inner .1);
-      fits = leb-true now limit (outer .1);
-      rest = tests .1;
-    }
+digits-end-value zeros w v filled e = (cc, cc)
 
-digits-end-value : (w v : ℕ) → digits w [] ≡ Value v → w ≡ v
-unfolding digits
-digits-end-value w v e = cc
+module _ (zeros : Bool) where
+  pub digit-read :
+      (w b : ℕ) (bs : List ℕ) (v : ℕ) (filled : Bool) → digits zeros w (b ∷ bs) ≡ Value v filled →
+      DigitRead zeros w b bs v filled
+  unfolding digits
+  digit-read w b bs v filled e =
+      let now = w * 10 + (b - 48) in
+      let tests = passed (isDigit b && (zeros || ltb 0 w) && leb now limit) (digits zeros now bs) v filled e in
+      let outer = both (isDigit b && (zeros || ltb 0 w)) (leb now limit) (tests .0) in
+      let inner = both (isDigit b) (zeros || ltb 0 w) (outer .0) in
+      let digit = both (leb 48 b) (leb b 57) (inner .0) in
+      record {
+        low = leb-true 48 b (digit .0);
+        high = leb-true b 57 (digit .1);
+        may = inner .1;
+        fits = leb-true now limit (outer .1);
+        rest = tests .1;
+      }
 
-digits-below : (k w : ℕ) (bs : List ℕ) (v : ℕ) → w < 10 ^ k → digits w bs ≡ Value v → v < 10 ^ (k + length bs)
-digits-below k w [] v below e = rw (add-zero, ← digits-end-value w v e) below
-digits-below k w (b ∷ bs) v below e =
-    let digit = digit-read w b bs v e in
-    let power : 10 ^ suc k ≡ 10 ^ k * 10 = pow-suc 10 k in
-    let more : w * 10 + (b - 48) < 10 ^ suc k = omega (arith, digit .high) in
-    rw (add-suc, ← suc-add) (digits-below (suc k) (w * 10 + (b - 48)) bs v more (digit .rest))
+  pub digits-below :
+      (k w : ℕ) (bs : List ℕ) (v : ℕ) (filled : Bool) → w < 10 ^ k → digits zeros w bs ≡ Value v filled →
+      v < 10 ^ (k + length bs)
+  digits-below k w [] v filled below e = rw (add-zero, ← digits-end-value zeros w v filled e .0) below
+  digits-below k w (b ∷ bs) v filled below e =
+      let digit = digit-read w b bs v filled e in
+      let power : 10 ^ suc k ≡ 10 ^ k * 10 = pow-suc 10 k in
+      let more : w * 10 + (b - 48) < 10 ^ suc k = omega (arith, digit .high) in
+      rw (add-suc, ← suc-add) (digits-below (suc k) (w * 10 + (b - 48)) bs v filled more (digit .rest))
 
-digits-limit : (w : ℕ) (bs : List ℕ) (v : ℕ) → w ≤ limit → digits w bs ≡ Value v → v ≤ limit
-digits-limit w [] v fits e = rw (← digits-end-value w v e) fits
-digits-limit w (b ∷ bs) v fits e =
-    let digit = digit-read w b bs v e in
-    digits-limit (w * 10 + (b - 48)) bs v (digit .fits) (digit .rest)
+  pub digits-limit :
+      (w : ℕ) (bs : List ℕ) (v : ℕ) (filled : Bool) → w ≤ limit → digits zeros w bs ≡ Value v filled → v ≤ limit
+  digits-limit w [] v filled fits e = rw (← digits-end-value zeros w v filled e .0) fits
+  digits-limit w (b ∷ bs) v filled fits e =
+      let digit = digit-read w b bs v filled e in
+      digits-limit (w * 10 + (b - 48)) bs v filled (digit .fits) (digit .rest)
+
+  -- what is reported
+  pub digits-report : (w : ℕ) (bs : List ℕ) (v : ℕ) (filled : Bool) → digits zeros w bs ≡ Value v filled → filled ≡ zeros
+  digits-report w [] v filled e = sym (digits-end-value zeros w v filled e .1)
+  digits-report w (b ∷ bs) v filled e =
+      digits-report (w * 10 + (b - 48)) bs v filled (digit-read w b bs v filled e .rest)
+
+-- ---- blanks and then digits are the text filled with blanks
 
 -- digits that follow columns of a value are columns of the whole value
 column-digit : (w b : ℕ) → 0 < w → 48 ≤ b → b ≤ 57 → column (w * 10 + (b - 48)) ≡ b
@@ -172,17 +187,19 @@ columns-on k w b bs some low high =
     let tenth : (w * 10 + (b - 48)) / 10 ≡ w = omega arith in
     rw (tenth, column-digit w b some low high) (sym (append-snoc (columns k w) b bs))
 
+pub one-more : (k j : ℕ) → suc k + j ≡ k + suc j
+one-more k j = suc-add k j ∙ sym (add-suc k j)
+
 digits-text :
-    (k w : ℕ) (bs : List ℕ) (v : ℕ) → 0 < w → digits w bs ≡ Value v →
+    (k w : ℕ) (bs : List ℕ) (v : ℕ) → 0 < w → digits false w bs ≡ Value v false →
     (columns k w ++ bs ≡ columns (k + length bs) v) × (0 < v)
 unfolding columns
-digits-text k w [] v some e = rw (add-zero, ← digits-end-value w v e) (append-nil (columns k w), some)
+digits-text k w [] v some e = rw (add-zero, ← digits-end-value false w v false e .0) (append-nil (columns k w), some)
 digits-text k w (b ∷ bs) v some e =
-    let digit = digit-read w b bs v e in
+    let digit = digit-read false w b bs v false e in
     let start = columns-on k w b bs some (digit .low) (digit .high) in
     let more = digits-text (suc k) (w * 10 + (b - 48)) bs v (omega arith) (digit .rest) in
-    let as-many : suc k + length bs ≡ k + suc (length bs) = suc-add k (length bs) ∙ sym (add-suc k (length bs)) in
-    (start ∙ more .0 ∙ ap (λ j. columns j v) as-many, more .1)
+    (start ∙ more .0 ∙ ap (λ j. columns j v) (one-more k (length bs)), more .1)
 
 columns-text : (k v : ℕ) → 0 < v → columns k v ≡ fieldText k v
 unfolding columns column fieldText
@@ -190,12 +207,17 @@ columns-text zero v some = refl
 columns-text (suc k) v some = rw (ne-eqb v 0 (λ e. omega arith))
 
 -- a digit 0 that comes first is the whole number
+pub zero-whole : (bs : List ℕ) (v : ℕ) (filled : Bool) → digits false 0 bs ≡ Value v filled → (bs ≡ []) × (v ≡ 0)
+zero-whole [] v filled e = (refl, sym (digits-end-value false 0 v filled e .0))
+zero-whole (x ∷ bs) v filled e = absurd (true≢false (sym (digit-read false 0 x bs v filled e .may)))
+
 zero-alone :
-    (j b : ℕ) (bs : List ℕ) (v : ℕ) → b ≡ 48 → digits 0 bs ≡ Value v →
+    (j b : ℕ) (bs : List ℕ) (v : ℕ) → b ≡ 48 → digits false 0 bs ≡ Value v false →
     blanks j ++ (b ∷ bs) ≡ fieldText (suc (j + length bs)) v
 unfolding fieldText
-zero-alone j b [] v z e = rw (z, ← digits-end-value 0 v e, add-zero j, columns-blank j)
-zero-alone j b (x ∷ bs) v z e = absurd (omega (arith, digit-read 0 x bs v e .some))
+zero-alone j b bs v z e =
+    let (none, value) = zero-whole bs v false e in
+    rw (z, none, value, add-zero j, columns-blank j)
 
 -- any other first digit
 columns-first :
@@ -207,7 +229,7 @@ columns-first j b bs low high =
     rw (ne-eqb (b - 48) 0 (λ e. omega arith), none, last, columns-blank j) (append-snoc (blanks j) b bs)
 
 digit-first :
-    (j b : ℕ) (bs : List ℕ) (v : ℕ) → 48 < b → b ≤ 57 → digits (b - 48) bs ≡ Value v →
+    (j b : ℕ) (bs : List ℕ) (v : ℕ) → 48 < b → b ≤ 57 → digits false (b - 48) bs ≡ Value v false →
     blanks j ++ (b ∷ bs) ≡ fieldText (suc (j + length bs)) v
 digit-first j b bs v low high e =
     let text = digits-text (suc j) (b - 48) bs v (omega arith) e in
@@ -217,13 +239,14 @@ digit-first j b bs v low high e =
     ∙ ap (λ k. fieldText k v) (suc-add j (length bs))
 
 -- after j blanks
-after-blanks : (j : ℕ) (bs : List ℕ) (v : ℕ) → readField bs ≡ Value v → blanks j ++ bs ≡ fieldText (j + length bs) v
-unfolding readField
+pub after-blanks :
+    (j : ℕ) (bs : List ℕ) (v : ℕ) → afterBlanks false bs ≡ Value v false → blanks j ++ bs ≡ fieldText (j + length bs) v
+unfolding afterBlanks
 after-blanks j [] v e = let z : _≡_ {A = ℕ} 0 1 = cc in absurd (omega arith)
 after-blanks j (b ∷ bs) v e = rw add-suc (go (after-blanks (suc j) bs v) (eqb b 32) refl e)
   where
     digit :
-        isDigit b ≡ true → digits (b - 48) bs ≡ Value v →
+        isDigit b ≡ true → digits false (b - 48) bs ≡ Value v false →
         blanks j ++ (b ∷ bs) ≡ fieldText (suc (j + length bs)) v
     digit t e =
         let range = both (leb 48 b) (leb b 57) t in
@@ -235,38 +258,12 @@ after-blanks j (b ∷ bs) v e = rw add-suc (go (after-blanks (suc j) bs v) (eqb 
 
     -- by whether b is a blank
     go :
-        (readField bs ≡ Value v → blanks (suc j) ++ bs ≡ fieldText (suc j + length bs) v) →
+        (afterBlanks false bs ≡ Value v false → blanks (suc j) ++ bs ≡ fieldText (suc j + length bs) v) →
         (t : Bool) → eqb b 32 ≡ t →
-        cond t (readField bs) (cond (isDigit b) (digits (b - 48) bs) Bad) ≡ Value v →
+        cond t (afterBlanks false bs) (cond (isDigit b) (digits false (b - 48) bs) Bad) ≡ Value v false →
         blanks j ++ (b ∷ bs) ≡ fieldText (suc (j + length bs)) v
     go more true t e = rw (eqb-true b 32 t) (sym (append-snoc (blanks j) 32 bs) ∙ rw (blank-more j, ← suc-add) (more e))
-    go more false t e = let tests = passed (isDigit b) (digits (b - 48) bs) v e in digit (tests .0) (tests .1)
-
--- What reads as a value is the one way to write it
-pub read-is-written : (bs : List ℕ) (v : ℕ) → readField bs ≡ Value v → bs ≡ fieldText (length bs) v
-read-is-written bs v e = after-blanks 0 bs v e ∙ ap (λ k. fieldText k v) (zero-add (length bs))
-
--- a value that was read fits its columns and keeps to the limit
-pub read-fits : (bs : List ℕ) (v : ℕ) → readField bs ≡ Value v → (v < 10 ^ length bs) × (v ≤ limit)
-unfolding readField
-read-fits [] v e = let z : _≡_ {A = ℕ} 0 1 = cc in absurd (omega arith)
-read-fits (b ∷ bs) v e = go (read-fits bs v) (eqb b 32) e
-  where
-    power : 10 ^ suc (length bs) ≡ 10 ^ length bs * 10
-    power = pow-suc 10 (length bs)
-
-    -- by whether b is a blank
-    go :
-        (readField bs ≡ Value v → (v < 10 ^ length bs) × (v ≤ limit)) →
-        (t : Bool) → cond t (readField bs) (cond (isDigit b) (digits (b - 48) bs) Bad) ≡ Value v →
-        (v < 10 ^ suc (length bs)) × (v ≤ limit)
-    go more true e = let fits = more e in let p = power in (omega arith, fits .1)
-    go more false e =
-        let tests = passed (isDigit b) (digits (b - 48) bs) v e in
-        let high = leb-true b 57 (both (leb 48 b) (leb b 57) (tests .0) .1) in (
-          rw (one-add (length bs)) at (digits-below 1 (b - 48) bs v (omega arith) (tests .1)),
-          digits-limit (b - 48) bs v (omega arith) (tests .1),
-        )
+    go more false t e = let tests = passed (isDigit b) (digits false (b - 48) bs) v false e in digit (tests .0) (tests .1)
 
 -- a field has as many bytes as columns
 columns-length : (k v : ℕ) → length (columns k v) ≡ k

@@ -1,3 +1,4 @@
 pub mod Laws
+pub mod Fillings
 pub mod Turns
 pub mod Places

@@ -5,14 +5,14 @@ use native.Mathlib.Nat.{le-of-lt}
 use native.Mathlib.Numerals.{add-one}
 use native.Mathlib.Omega.{arith}
 use mathlib.Core.Path.{_≡_, refl, sym, _∙_}
-use mathlib.Core.Bool.{true, false, _&&_, cond}
+use mathlib.Core.Bool.{Bool, true, false, _&&_, _||_, cond, or-true}
 use mathlib.Core.List.{List, [], _∷_, _++_}
 use lib.ListN.{length, getD, take, drop, set, length-set, drop-of-length-le}
 use lib.Seq.{drop-cons, set-split, drop-at, length-take-le, append-snoc}
 use lib.Dec.{leb, ltb, eqb}
-use borrow.Author.Tests.{lt-ltb, le-ltb, le-leb, lt-leb, eq-eqb, ne-eqb}
+use borrow.Author.Tests.{lt-ltb, le-leb, lt-leb, eq-eqb, ne-eqb}
 use Rattle.fields.specs.declared.Number.the-variants.{Value, Bad}
-use Rattle.fields.specs.Field.{limit, isDigit, digits, readField, column, columns, fieldText}
+use Rattle.fields.specs.Field.{limit, isDigit, digits, afterBlanks, zeroFirst, column, columns, fieldText}
 
 -- a digit that may follow v: the sum keeps to the limit exactly when v has at most 18 digits
 room-for-digit : (v b : ℕ) → 48 ≤ b → b ≤ 57 → v ≤ 999999999999999999 → leb (v * 10 + (b - 48)) limit ≡ true
@@ -40,75 +40,86 @@ module _ (s : List ℕ) (i : ℕ) where
   abbrev restAt : List ℕ
   restAt = drop (i + 1) s
 
-  pub digits-end : (v : ℕ) → length s ≤ i → digits v (drop i s) ≡ Value v
-  unfolding digits
-  digits-end v end = rw (drop-of-length-le s end)
-
-  pub field-end : length s ≤ i → readField (drop i s) ≡ Bad
-  unfolding readField
-  field-end end = rw (drop-of-length-le s end)
-
-  -- some byte stands at i
-  module _ (inside : i < length s) where
-    digits-turn :
-        (v : ℕ) →
-        let more = v * 10 + worthAt in
-        digits v (drop i s) ≡ cond (isDigit byteAt && ltb 0 v && leb more limit) (digits more restAt) Bad
+  module _ (zeros : Bool) where
+    pub digits-end : (v : ℕ) → length s ≤ i → digits zeros v (drop i s) ≡ Value v zeros
     unfolding digits
-    digits-turn v = rw (drop-cons s i 0 inside, add-one)
+    digits-end v end = rw (drop-of-length-le s end)
 
-    field-turn :
-        readField (drop i s)
-        ≡ cond (eqb byteAt 32) (readField restAt) (cond (isDigit byteAt) (digits worthAt restAt) Bad)
-    unfolding readField
-    field-turn = rw (drop-cons s i 0 inside, add-one)
+    pub field-end : length s ≤ i → afterBlanks zeros (drop i s) ≡ Bad
+    unfolding afterBlanks
+    field-end end = rw (drop-of-length-le s end)
 
-    pub digits-low : (v : ℕ) → byteAt < 48 → digits v (drop i s) ≡ Bad
-    digits-low v low = digits-turn v ∙ simp (lt-leb 48 byteAt low)
+    -- some byte stands at i
+    module _ (inside : i < length s) where
+      digits-turn :
+          (v : ℕ) →
+          let more = v * 10 + worthAt in
+          digits zeros v (drop i s)
+          ≡ cond (isDigit byteAt && (zeros || ltb 0 v) && leb more limit) (digits zeros more restAt) Bad
+      unfolding digits
+      digits-turn v = rw (drop-cons s i 0 inside, add-one)
 
-    pub digits-high : (v : ℕ) → 57 < byteAt → digits v (drop i s) ≡ Bad
-    digits-high v high =
-        let above : 48 ≤ byteAt = omega arith in
-        digits-turn v ∙ simp (le-leb 48 byteAt above, lt-leb byteAt 57 high)
+      field-turn :
+          afterBlanks zeros (drop i s)
+          ≡ cond (eqb byteAt 32) (afterBlanks zeros restAt) (cond (isDigit byteAt) (digits zeros worthAt restAt) Bad)
+      unfolding afterBlanks
+      field-turn = rw (drop-cons s i 0 inside, add-one)
 
-    pub field-blank : byteAt ≡ 32 → readField (drop i s) ≡ readField restAt
-    field-blank blank = field-turn ∙ simp (eq-eqb byteAt 32 blank)
+      pub digits-low : (v : ℕ) → byteAt < 48 → digits zeros v (drop i s) ≡ Bad
+      digits-low v low = digits-turn v ∙ simp (lt-leb 48 byteAt low)
 
-    pub field-low : (byteAt ≡ 32 → ⊥) → byteAt < 48 → readField (drop i s) ≡ Bad
-    field-low other low = field-turn ∙ simp (ne-eqb byteAt 32 other, lt-leb 48 byteAt low)
+      pub digits-high : (v : ℕ) → 57 < byteAt → digits zeros v (drop i s) ≡ Bad
+      digits-high v high =
+          let above : 48 ≤ byteAt = omega arith in
+          digits-turn v ∙ simp (le-leb 48 byteAt above, lt-leb byteAt 57 high)
 
-    pub field-high : (byteAt ≡ 32 → ⊥) → 57 < byteAt → readField (drop i s) ≡ Bad
-    field-high other high =
-        let above : 48 ≤ byteAt = omega arith in
-        field-turn ∙ simp (ne-eqb byteAt 32 other, le-leb 48 byteAt above, lt-leb byteAt 57 high)
+      pub field-blank : byteAt ≡ 32 → afterBlanks zeros (drop i s) ≡ afterBlanks zeros restAt
+      field-blank blank = field-turn ∙ simp (eq-eqb byteAt 32 blank)
+
+      pub field-low : (byteAt ≡ 32 → ⊥) → byteAt < 48 → afterBlanks zeros (drop i s) ≡ Bad
+      field-low other low = field-turn ∙ simp (ne-eqb byteAt 32 other, lt-leb 48 byteAt low)
+
+      pub field-high : (byteAt ≡ 32 → ⊥) → 57 < byteAt → afterBlanks zeros (drop i s) ≡ Bad
+      field-high other high =
+          let above : 48 ≤ byteAt = omega arith in
+          field-turn ∙ simp (ne-eqb byteAt 32 other, le-leb 48 byteAt above, lt-leb byteAt 57 high)
 
 -- the turn of a digit
-module _ {s : List ℕ} {i : ℕ} (digit : DigitAt s i) where
+module _ (zeros : Bool) {s : List ℕ} {i : ℕ} (digit : DigitAt s i) where
   digit-turn :
       (v : ℕ) →
       let more = v * 10 + worthAt s i in
-      digits v (drop i s) ≡ cond (ltb 0 v && leb more limit) (digits more (restAt s i)) Bad
+      digits zeros v (drop i s) ≡ cond ((zeros || ltb 0 v) && leb more limit) (digits zeros more (restAt s i)) Bad
   digit-turn v =
-      digits-turn s i (digit .inside) v
+      digits-turn s i zeros (digit .inside) v
       ∙ simp (le-leb 48 (byteAt s i) (digit .low), le-leb (byteAt s i) 57 (digit .high))
 
-  pub field-digit : (byteAt s i ≡ 32 → ⊥) → readField (drop i s) ≡ digits (worthAt s i) (restAt s i)
+  pub field-digit :
+      (byteAt s i ≡ 32 → ⊥) → afterBlanks zeros (drop i s) ≡ digits zeros (worthAt s i) (restAt s i)
   field-digit other =
-      field-turn s i (digit .inside)
+      field-turn s i zeros (digit .inside)
       ∙ simp (ne-eqb (byteAt s i) 32 other, le-leb 48 (byteAt s i) (digit .low), le-leb (byteAt s i) 57 (digit .high))
 
-  module _ {v : ℕ} where
-    pub digits-zero : v ≡ 0 → digits v (drop i s) ≡ Bad
-    digits-zero z = digit-turn v ∙ simp (le-ltb 0 v (omega arith))
+  module _ (v : ℕ) where
+    pub digits-alone : zeros || ltb 0 v ≡ false → digits zeros v (drop i s) ≡ Bad
+    digits-alone alone = digit-turn v ∙ simp alone
 
-    pub digits-full : (v ≡ 0 → ⊥) → 999999999999999999 < v → digits v (drop i s) ≡ Bad
-    digits-full some full = digit-turn v ∙ simp (lt-ltb 0 v (omega arith), no-room-for-digit v (byteAt s i) full)
+    pub digits-full : 999999999999999999 < v → digits zeros v (drop i s) ≡ Bad
+    digits-full full =
+        let some : ltb 0 v ≡ true = lt-ltb 0 v (omega arith) in
+        digit-turn v ∙ simp (some, or-true zeros, no-room-for-digit v (byteAt s i) full)
 
     pub digits-more :
-        (v ≡ 0 → ⊥) → v ≤ 999999999999999999 → digits v (drop i s) ≡ digits (v * 10 + worthAt s i) (restAt s i)
-    digits-more some room =
+        zeros || ltb 0 v ≡ true → v ≤ 999999999999999999 →
+        digits zeros v (drop i s) ≡ digits zeros (v * 10 + worthAt s i) (restAt s i)
+    digits-more may room =
         let fits = room-for-digit v (byteAt s i) (digit .low) (digit .high) room in
-        digit-turn v ∙ simp (lt-ltb 0 v (omega arith), fits)
+        digit-turn v ∙ simp (may, fits)
+
+-- no bytes have no first column
+pub zero-first-none : (s : List ℕ) → length s ≡ 0 → false ≡ zeroFirst s
+zero-first-none [] e = refl
+zero-first-none (b ∷ s) e = absurd (omega arith)
 
 -- ---- the writer
 

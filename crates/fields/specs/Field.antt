@@ -1,9 +1,10 @@
--- Number fields of document 01: blanks, then decimal digits, right-justified, no leading zero; zero is one digit 0.
+-- Number fields of document 01, as request F-2 amends them: blanks or zeros, then decimal digits, right-justified.
+-- A field has one filling; filled with blanks it has no leading zero, and zero is one digit 0.
 -- A field of 4 columns and one of 20 are the same text at another width.
 use Prim.Native.Nat.{ℕ, zero, suc, _+_, _-_, _*_, _/_, _%_}
-use mathlib.Core.Bool.{Bool, true, false, _&&_, cond}
+use mathlib.Core.Bool.{Bool, true, false, _&&_, _||_, not, cond}
 use mathlib.Core.List.{List, [], _∷_, _++_}
-use lib.ListN.{take, drop}
+use lib.ListN.{getD, take, drop}
 use lib.Dec.{leb, ltb, eqb}
 use Rattle.fields.specs.declared.Number.{Number}
 use Rattle.fields.specs.declared.Number.the-variants.{Value, Bad}
@@ -15,15 +16,25 @@ limit = 9999999999999999999
 abbrev pub isDigit : ℕ → Bool
 isDigit b = leb 48 b && leb b 57
 
--- digits that follow digits worth v; a 0 stands alone
-unfoldable pub digits : ℕ → List ℕ → Number
-digits v [] = Value v
-digits v (b ∷ bs) = cond (isDigit b && ltb 0 v && leb (v * 10 + (b - 48)) limit) (digits (v * 10 + (b - 48)) bs) Bad
+-- digits that follow digits worth v; unless zeros fill the field, a 0 stands alone
+unfoldable pub digits : Bool → ℕ → List ℕ → Number
+digits zeros v [] = Value v zeros
+digits zeros v (b ∷ bs) =
+    cond (isDigit b && (zeros || ltb 0 v) && leb (v * 10 + (b - 48)) limit) (digits zeros (v * 10 + (b - 48)) bs) Bad
 
--- What the bytes of a field say: blanks, then one digit or more
+-- blanks, then one digit or more
+unfoldable pub afterBlanks : Bool → List ℕ → Number
+afterBlanks zeros [] = Bad
+afterBlanks zeros (b ∷ bs) =
+    cond (eqb b 32) (afterBlanks zeros bs) (cond (isDigit b) (digits zeros (b - 48) bs) Bad)
+
+-- Zeros fill a field that has a digit 0 in its first column
+abbrev pub zeroFirst : List ℕ → Bool
+zeroFirst bytes = eqb (getD bytes 0 0) 48
+
+-- What the bytes of a field say: its value and whether zeros fill it, or that they are no number
 unfoldable pub readField : List ℕ → Number
-readField [] = Bad
-readField (b ∷ bs) = cond (eqb b 32) (readField bs) (cond (isDigit b) (digits (b - 48) bs) Bad)
+readField bytes = afterBlanks (zeroFirst bytes) bytes
 
 -- the byte of a column where v is what is left of the number: its last digit, or a blank
 unfoldable pub column : ℕ → ℕ
@@ -34,10 +45,20 @@ unfoldable pub columns : ℕ → ℕ → List ℕ
 columns zero v = []
 columns (suc k) v = columns k (v / 10) ++ (column v ∷ [])
 
--- A field of k columns that holds v; the last column has a digit even where v is 0
+-- A field of k columns that holds v, filled with blanks; the last column has a digit even where v is 0
 unfoldable pub fieldText : ℕ → ℕ → List ℕ
 fieldText zero v = []
 fieldText (suc k) v = columns k (v / 10) ++ ((48 + v % 10) ∷ [])
+
+-- A field of k columns that holds v, filled with zeros: a digit in every column
+unfoldable pub zeroText : ℕ → ℕ → List ℕ
+zeroText zero v = []
+zeroText (suc k) v = zeroText k (v / 10) ++ ((48 + v % 10) ∷ [])
+
+-- The two texts of a number, by whether zeros fill them
+abbrev pub filledText : Bool → ℕ → ℕ → List ℕ
+filledText true k v = zeroText k v
+filledText false k v = fieldText k v
 
 -- The field of so many columns at a place of some bytes (fewer where
 -- the bytes end: who uses it checks their number), whether it is a
@@ -46,11 +67,16 @@ abbrev pub fieldAt : ℕ → List ℕ → ℕ → Number
 fieldAt columns bytes at = readField (take columns (drop at bytes))
 
 abbrev pub isValue : Number → Bool
-isValue (Value v) = true
+isValue (Value v zeros) = true
 isValue Bad = false
 
+-- What a mark accepts: a number field that zeros do not fill
+abbrev pub blanksOnly : Number → Bool
+blanksOnly (Value v zeros) = not zeros
+blanksOnly Bad = false
+
 abbrev pub valueOf : Number → ℕ
-valueOf (Value v) = v
+valueOf (Value v zeros) = v
 valueOf Bad = 0
 
 abbrev pub valueAt : ℕ → List ℕ → ℕ → ℕ

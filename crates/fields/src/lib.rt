@@ -1,19 +1,32 @@
 // Number fields (document 01, "Bond sheet" and "Marks"), of any number of columns.
 ghost use mathlib.Core.Path.{_≡_};
+ghost use mathlib.Core.Bool.{_||_};
 ghost use Prim.Native.Nat.{_+_, _≤_};
 ghost use lib.ListN.{length, drop};
-ghost use Rattle.fields.specs.Field.{digits, readField, column, fieldText, fieldAt, valueAt};
+ghost use lib.Dec.{ltb};
+ghost use Rattle.fields.specs.Field.{digits, zeroFirst, readField, column, fieldText};
+ghost use Rattle.fields.specs.Field.{fieldAt, blanksOnly, valueAt};
 use widen::u8_u64;
 
-// What a field holds.
+// What a field holds: a value, and whether zeros fill the field.
 pub enum Number {
-    Value(u64),
+    Value(u64, bool),
     Bad,
 }
 
+// Whether a digit may follow digits worth v: unless zeros fill the field, a 0 stands alone.
+fn may_follow(v: u64, zeros: bool) -> bool
+    ensures { λ r. ⌜ r ≡ zeros || ltb 0 v ⌝ }
+{
+    if zeros {
+        return true;
+    }
+    0 < v
+}
+
 // The digits from `from` on, after digits that came to `first`.
-fn more_digits(s: &[u8], from: usize, first: u64) -> Number
-    ensures { λ r. ⌜ r ≡ digits first (drop from (now (s .entry))) ⌝ }
+fn more_digits(s: &[u8], from: usize, first: u64, zeros: bool) -> Number
+    ensures { λ r. ⌜ r ≡ digits zeros first (drop from (now (s .entry))) ⌝ }
 {
     let mut v = first;
     let mut i = from;
@@ -25,7 +38,7 @@ fn more_digits(s: &[u8], from: usize, first: u64) -> Number
         if 57 < b {
             return Number::Bad;
         }
-        if v == 0 {
+        if !may_follow(v, zeros) {
             return Number::Bad;
         }
         if 999_999_999_999_999_999 < v {
@@ -34,13 +47,24 @@ fn more_digits(s: &[u8], from: usize, first: u64) -> Number
         v = v * 10 + u8_u64(b - 48);
         i += 1;
     }
-    Number::Value(v)
+    Number::Value(v, zeros)
+}
+
+// Whether zeros fill a field: a digit 0 in its first column.
+fn zero_first(s: &[u8]) -> bool
+    ensures { λ r. ⌜ r ≡ zeroFirst (now (s .entry)) ⌝ }
+{
+    if s.len() == 0 {
+        return false;
+    }
+    s[0] == 48
 }
 
 // Reads a whole slice as one number field.
 pub fn read_number(s: &[u8]) -> Number
     ensures { λ r. ⌜ r ≡ readField (now (s .entry)) ⌝ }
 {
+    let zeros = zero_first(s);
     let mut i: usize = 0;
     while i < s.len() {
         let b = s[i];
@@ -51,7 +75,7 @@ pub fn read_number(s: &[u8]) -> Number
             if 57 < b {
                 return Number::Bad;
             }
-            return more_digits(s, i + 1, u8_u64(b - 48));
+            return more_digits(s, i + 1, u8_u64(b - 48), zeros);
         }
         i += 1;
     }
@@ -68,7 +92,7 @@ fn column_byte(v: u64) -> u8
     48 + (v % 10) as u8
 }
 
-// Writes a number into the whole slice, right-justified.
+// Writes a number into the whole slice, right-justified, blanks in front.
 // Of a number with more digits than columns the lowest digits are kept.
 pub fn write_number(out: &mut [u8], value: u64)
     ensures { λ _. ⌜ now (out .exit) ≡ fieldText (length (now (out .entry))) value ⌝ }
@@ -103,7 +127,17 @@ pub fn value_at(bytes: &[u8], columns: usize, at: usize) -> u64
 {
     let x = number_at(bytes, columns, at);
     match x {
-        Number::Value(v) => v,
+        Number::Value(v, _) => v,
         Number::Bad => 0,
+    }
+}
+
+// Whether it is a number field that zeros do not fill.
+pub fn blanks_only(x: Number) -> bool
+    ensures { λ r. ⌜ r ≡ blanksOnly x ⌝ }
+{
+    match x {
+        Number::Value(_, zeros) => !zeros,
+        Number::Bad => false,
     }
 }
