@@ -11,7 +11,7 @@ use Rattle.fields.specs.declared.Number.{Number}
 use Rattle.fields.proofs.Places.{place-first, place-on, place-fits}
 use Rattle.graph.proofs.Below.{clash, false-of, same-test}
 use Rattle.graph.proofs.Loops.{all-fails, all-more, all-done}
-use Rattle.search.specs.Mark.{fieldAt, isValue, fieldsKept, isFeed, markLength, layoutKept}
+use Rattle.search.specs.Mark.{fieldAt, blanksOnly, fieldsKept, isFeed, markLength, layoutKept}
 use Rattle.search.proofs.Lines.{Layout, layout-of, layout-facts}
 
 -- ---- a test t with the result r, and the branch on its negation
@@ -27,16 +27,16 @@ refuted is e holds = clash _ holds (failed is e)
 
 -- ---- fields in a row
 
--- the first i of k fields are number fields, and `place` is where they end
+-- the first i of k fields are number fields that zeros do not fill, and `place` is where they end
 pub record FieldsPassed (columns : ℕ) (bytes : List ℕ) (at k i place : ℕ) : Type 0 where
   pub room : at + columns * k ≤ length bytes
   pub within : i ≤ k
   pub ends : place ≡ at + columns * i
   pub kept : fieldsKept columns bytes at i ≡ true
 
--- the field at the place is looked at, and whether it is a number field
-pub told : {x y : Number} {r : Bool} → x ≡ y → r ≡ isValue x → isValue y ≡ r
-told is says = sym (ap isValue is) ∙ sym says
+-- the field at the place is looked at, and whether it is one that a mark accepts
+pub told : {x y : Number} {r : Bool} → x ≡ y → r ≡ blanksOnly x → blanksOnly y ≡ r
+told is says = sym (ap blanksOnly is) ∙ sym says
 
 module _ {columns : ℕ} {bytes : List ℕ} {at k : ℕ} where
   pub passed-none : at + columns * k ≤ length bytes → FieldsPassed columns bytes at k 0 at
@@ -45,17 +45,17 @@ module _ {columns : ℕ} {bytes : List ℕ} {at k : ℕ} where
 
   module _ {i place : ℕ} (p : FieldsPassed columns bytes at k i place) where
     abbrev isField : ℕ → Bool
-    isField j = isValue (fieldAt columns bytes (at + columns * j))
+    isField j = blanksOnly (fieldAt columns bytes (at + columns * j))
 
     pub next-fits : i < k → place + columns ≤ length bytes
     next-fits h = place-fits at columns k (length bytes) i place (p .room) h (p .ends)
 
-    pub passed-fails : i < k → isValue (fieldAt columns bytes place) ≡ false → false ≡ fieldsKept columns bytes at k
+    pub passed-fails : i < k → blanksOnly (fieldAt columns bytes place) ≡ false → false ≡ fieldsKept columns bytes at k
     unfolding fieldsKept
     passed-fails h e = sym (all-fails k isField i h (rw (p .ends) at e))
 
     pub passed-more :
-        i < k → isValue (fieldAt columns bytes place) ≡ true → FieldsPassed columns bytes at k (i + 1) (place + columns)
+        i < k → blanksOnly (fieldAt columns bytes place) ≡ true → FieldsPassed columns bytes at k (i + 1) (place + columns)
     unfolding fieldsKept
     passed-more h e =
         record {

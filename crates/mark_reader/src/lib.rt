@@ -4,12 +4,11 @@ ghost use mathlib.Core.Bool.{true};
 ghost use mathlib.Core.List.{map};
 ghost use Prim.Native.Nat.{_+_, _*_, _≤_};
 ghost use lib.ListN.{length};
-ghost use Rattle.fields.specs.Field.{isValue, valueAt};
+ghost use Rattle.fields.specs.Field.{valueAt};
 ghost use Rattle.molecule.specs.Record.{wellFormed};
 ghost use Rattle.search.specs.Place.{held};
 ghost use Rattle.search.specs.Mark.{fieldsKept, layoutKept, valuesAt, restoreMark};
 ghost use Rattle.mark_reader.specs.Parts.{AtomsFit, low, searchOf};
-use fields::Number;
 use molecule::Molecule;
 use refusal::Answer;
 use refusal::Refusal;
@@ -24,16 +23,7 @@ fn small_at(bytes: &[u8], at: usize) -> usize
     fields::value_at(bytes, 4, at) as usize
 }
 
-fn is_value(x: Number) -> bool
-    ensures { λ r. ⌜ r ≡ isValue x ⌝ }
-{
-    match x {
-        Number::Value(_) => true,
-        Number::Bad => false,
-    }
-}
-
-// Whether k fields from a place on are number fields.
+// Whether k fields from a place on are number fields that zeros do not fill.
 fn fields_kept(bytes: &[u8], columns: usize, at: usize, k: usize) -> bool
     requires { ⌜ at + columns * k ≤ length (now bytes) ⌝ }
     ensures { λ r. ⌜ r ≡ fieldsKept columns (now (bytes .entry)) at k ⌝ }
@@ -41,7 +31,7 @@ fn fields_kept(bytes: &[u8], columns: usize, at: usize, k: usize) -> bool
     let mut i: usize = 0;
     let mut place = at;
     while i < k {
-        if !is_value(fields::number_at(bytes, columns, place)) {
+        if !fields::blanks_only(fields::number_at(bytes, columns, place)) {
             return false;
         }
         place += columns;

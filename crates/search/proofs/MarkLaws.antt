@@ -19,7 +19,7 @@ use Rattle.enumeration.specs.RunFacts.{Bounded}
 use Rattle.fields.specs.declared.Number.{Number}
 use Rattle.fields.specs.declared.Number.the-variants.{Value, Bad}
 use Rattle.fields.specs.Field.{limit, readField}
-use Rattle.fields.proofs.Laws.{read-fits}
+use Rattle.fields.proofs.Fillings.{read-fits}
 use Rattle.refusal.specs.declared.Refusal.{Refusal}
 use Rattle.refusal.specs.declared.Refusal.the-variants as refusal
 use Rattle.molecule.specs.declared.Molecule.{Molecule}
@@ -59,7 +59,7 @@ value-most : (bs : List ℕ) → valueOf (readField bs) ≤ limit
 value-most bs = go (readField bs) refl
   where
     go : (x : Number) → readField bs ≡ x → valueOf x ≤ limit
-    go (Value v) e = read-fits bs v e .1
+    go (Value v zeros) e = read-fits bs v zeros e .1
     go Bad e = omega arith
 
 own-facts :

@@ -5,17 +5,19 @@ use native.Mathlib.Nat.{mul-zero, mul-suc, add-zero}
 use native.Mathlib.Numerals.{add-one}
 use native.Mathlib.Omega.{arith}
 use mathlib.Core.Path.{_≡_, refl, ap, ap₂, sym, _∙_}
-use mathlib.Core.Bool.{true}
+use mathlib.Core.Bool.{true, false}
 use mathlib.Core.List.{List, [], _∷_, _++_, append-assoc, append-nil}
 use lib.ListN.{length, getD, take, drop, length-append, length-drop, take-append-drop}
 use lib.Seq.{take-at, drop-at, drop-drop, take-add, take-suc, length-take-le}
+use borrow.Author.Tests.{not-true}
 use Rattle.graph.proofs.Below.{apart, allBelow-at, allBelow-of}
 use Rattle.graph.proofs.All.{All, _◁_}
 use Rattle.fields.specs.declared.Number.{Number}
 use Rattle.fields.specs.declared.Number.the-variants.{Value, Bad}
 use Rattle.fields.specs.Field.{limit, fieldText}
-use Rattle.fields.proofs.Laws.{written-reads-back, read-is-written, field-length}
-use Rattle.search.specs.Mark.{fieldsText, fieldAt, isValue, valueOf, valueAt, fieldsKept, valuesAt}
+use Rattle.fields.proofs.Laws.{field-length}
+use Rattle.fields.proofs.Fillings.{blanks-read-back, read-is-written}
+use Rattle.search.specs.Mark.{fieldsText, fieldAt, blanksOnly, valueOf, valueAt, fieldsKept, valuesAt}
 
 -- fields of c columns have c bytes each
 pub fields-length : (c : ℕ) (vs : List ℕ) → length (fieldsText c vs) ≡ c * length vs
@@ -56,7 +58,7 @@ Fits c v = (v < 10 ^ c) × (v ≤ limit)
 place-on : (c at i : ℕ) → at + c * suc i ≡ at + c + c * i
 place-on c at i = omega (arith, mul-suc c i)
 
-module _ (c : ℕ) (some : 0 < c) (bytes : List ℕ) where
+module _ (c : ℕ) (wide : 1 < c) (bytes : List ℕ) where
   -- what stands past a field
   past-field : (v : ℕ) (rest : List ℕ) (at : ℕ) → drop at bytes ≡ fieldText c v ++ rest → drop (at + c) bytes ≡ rest
   past-field v rest at e =
@@ -65,12 +67,12 @@ module _ (c : ℕ) (some : 0 < c) (bytes : List ℕ) where
   -- where the bytes from a place on begin with the text of values, its fields read as them
   pub fields-read :
       (vs post : List ℕ) (at : ℕ) → All (Fits c) vs → drop at bytes ≡ fieldsText c vs ++ post →
-      (i : ℕ) → i < length vs → fieldAt c bytes (at + c * i) ≡ Value (getD vs i 0)
+      (i : ℕ) → i < length vs → fieldAt c bytes (at + c * i) ≡ Value (getD vs i 0) false
   unfolding fieldsText
   fields-read [] post at fits e i h = absurd (omega arith)
   fields-read (v ∷ vs) post at ((small, most) ◁ fits) e zero h =
       rw (mul-zero, add-zero, e, append-assoc, take-at (fieldText c v) (fieldsText c vs ++ post) c (field-length c v))
-      (written-reads-back c v small most some)
+      (blanks-read-back c v small most wide)
   fields-read (v ∷ vs) post at (f ◁ fits) e (suc i) h =
       let past = past-field v (fieldsText c vs ++ post) at (e ∙ append-assoc (fieldText c v) (fieldsText c vs) post) in
       rw (place-on c at i) (fields-read vs post (at + c) fits past i (omega arith))
@@ -81,15 +83,15 @@ module _ (c : ℕ) (some : 0 < c) (bytes : List ℕ) where
       length vs ≡ k → fieldsKept c bytes at k ≡ true
   unfolding fieldsKept
   fields-keep vs post at k fits e l =
-      allBelow-of k (λ i. isValue (fieldAt c bytes (at + c * i)))
-      (λ i h. ap isValue (fields-read vs post at fits e i (omega arith)))
+      allBelow-of k (λ i. blanksOnly (fieldAt c bytes (at + c * i)))
+      (λ i h. ap blanksOnly (fields-read vs post at fits e i (omega arith)))
 
   values-by :
-      (vs : List ℕ) (at : ℕ) → ((i : ℕ) → i < length vs → fieldAt c bytes (at + c * i) ≡ Value (getD vs i 0)) →
+      (vs : List ℕ) (at : ℕ) → ((i : ℕ) → i < length vs → fieldAt c bytes (at + c * i) ≡ Value (getD vs i 0) false) →
       valuesOf c bytes at (length vs) ≡ vs
   values-by [] at f = refl
   values-by (v ∷ vs) at f =
-      let here : fieldAt c bytes at ≡ Value v = rw (mul-zero, add-zero) at (f 0 (omega arith)) in
+      let here : fieldAt c bytes at ≡ Value v false = rw (mul-zero, add-zero) at (f 0 (omega arith)) in
       let more = values-by vs (at + c) (λ i h. rw (← place-on c at i) (f (suc i) (omega arith))) in
       rw here (ap (λ l. v ∷ l) more)
 
@@ -98,28 +100,28 @@ module _ (c : ℕ) (some : 0 < c) (bytes : List ℕ) where
       length vs ≡ k → valuesOf c bytes at k ≡ vs
   values-read vs post at k fits e l = rw (← l) (values-by vs at (fields-read vs post at fits e))
 
--- a field that reads as a value reads as its value
-value-of : (x : Number) → isValue x ≡ true → x ≡ Value (valueOf x)
-value-of (Value v) e = refl
+-- a number field that zeros do not fill reads as its value
+value-of : (x : Number) → blanksOnly x ≡ true → x ≡ Value (valueOf x) false
+value-of (Value v zeros) e = ap (Value v) (not-true zeros e)
 value-of Bad e = absurd (apart (sym e))
 
 -- the other way round: fields that are kept are the text of their values
 module _ (c : ℕ) (bytes : List ℕ) where
   one-written :
-      (at : ℕ) → at + c ≤ length bytes → isValue (fieldAt c bytes at) ≡ true →
+      (at : ℕ) → at + c ≤ length bytes → blanksOnly (fieldAt c bytes at) ≡ true →
       take c (drop at bytes) ≡ fieldText c (valueAt c bytes at)
   one-written at h e =
       let room : c ≤ length (drop at bytes) = rw (length-drop at bytes) (omega arith) in
-      read-is-written (take c (drop at bytes)) (valueAt c bytes at) (value-of (fieldAt c bytes at) e)
+      read-is-written (take c (drop at bytes)) (valueAt c bytes at) false (value-of (fieldAt c bytes at) e)
       ∙ ap (λ k. fieldText k (valueAt c bytes at)) (length-take-le c (drop at bytes) room)
 
   all-written :
-      (at k : ℕ) → at + c * k ≤ length bytes → ((i : ℕ) → i < k → isValue (fieldAt c bytes (at + c * i)) ≡ true) →
+      (at k : ℕ) → at + c * k ≤ length bytes → ((i : ℕ) → i < k → blanksOnly (fieldAt c bytes (at + c * i)) ≡ true) →
       take (c * k) (drop at bytes) ≡ fieldsText c (valuesOf c bytes at k)
   unfolding fieldsText
   all-written at zero h f = rw mul-zero
   all-written at (suc k) h f =
-      let here : isValue (fieldAt c bytes at) ≡ true = rw (mul-zero, add-zero) at (f 0 (omega arith)) in
+      let here : blanksOnly (fieldAt c bytes at) ≡ true = rw (mul-zero, add-zero) at (f 0 (omega arith)) in
       let size : c * suc k ≡ c + c * k = omega (arith, mul-suc c k) in
       let more = all-written (at + c) k (omega arith) (λ i j. rw (← place-on c at i) (f (suc i) (omega arith))) in
       let first = one-written at (omega (arith, mul-suc c k)) here in
@@ -129,7 +131,7 @@ module _ (c : ℕ) (bytes : List ℕ) where
       (at k : ℕ) → at + c * k ≤ length bytes → fieldsKept c bytes at k ≡ true →
       take (c * k) (drop at bytes) ≡ fieldsText c (valuesOf c bytes at k)
   unfolding fieldsKept
-  fields-written at k h e = all-written at k h (allBelow-at k (λ i. isValue (fieldAt c bytes (at + c * i))) e)
+  fields-written at k h e = all-written at k h (allBelow-at k (λ i. blanksOnly (fieldAt c bytes (at + c * i))) e)
 
   -- so the bytes from a place on are that text and the bytes past it
   pub fields-split :

@@ -5,7 +5,7 @@ use mathlib.Core.List.{List, [], _∷_, _++_, reverse}
 use lib.ListN.{length, getD, drop}
 use lib.Dec.{leb, eqb}
 use Rattle.graph.specs.Every.{allBelow}
-pub use Rattle.fields.specs.Field.{fieldAt, isValue, valueOf, valueAt}
+pub use Rattle.fields.specs.Field.{fieldAt, blanksOnly, valueOf, valueAt}
 use Rattle.fields.specs.Field.{fieldText}
 use Rattle.refusal.specs.declared.Refusal.the-variants as refusal
 use Rattle.molecule.specs.declared.Molecule.{Molecule}
@@ -50,9 +50,9 @@ savedBytes (Refused r) mol q out = out
 unfoldable pub saveOutput : Molecule → Search → List ℕ → List ℕ
 saveOutput mol q out = savedBytes (saveAnswer mol q out) mol q out
 
--- the first k fields from a place on are number fields
+-- the first k fields from a place on are number fields that zeros do not fill
 unfoldable pub fieldsKept : ℕ → List ℕ → ℕ → ℕ → Bool
-fieldsKept columns bytes at k = allBelow k (λ i. isValue (fieldAt columns bytes (at + columns * i)))
+fieldsKept columns bytes at k = allBelow k (λ i. blanksOnly (fieldAt columns bytes (at + columns * i)))
 
 abbrev pub isFeed : List ℕ → ℕ → Bool
 isFeed bytes at = eqb (getD bytes at 0) 10
@@ -61,7 +61,7 @@ isFeed bytes at = eqb (getD bytes at 0) 10
 abbrev pub markLength : List ℕ → ℕ
 markLength bytes = valueAt 4 bytes 20
 
--- Rule 14 kept: three lines of number fields, 91 + 4 × length bytes, length at most 127
+-- Rule 14 kept: three lines of number fields that zeros do not fill, 91 + 4 × length bytes, length at most 127
 unfoldable pub layoutKept : List ℕ → Bool
 layoutKept bytes =
     leb 91 (length bytes)

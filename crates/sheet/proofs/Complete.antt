@@ -5,7 +5,7 @@ use Prim.Native.Nat.{ℕ, zero, suc, _+_, _*_, _/_, _≤_, _<_}
 use native.Mathlib.Nat.{add-zero, mul-mod-right, mul-div-right}
 use native.Mathlib.Omega.{arith}
 use mathlib.Core.Path.{_≡_, refl, ap, ap₂, sym, _∙_}
-use mathlib.Core.Bool.{true}
+use mathlib.Core.Bool.{true, false}
 use mathlib.Core.List.{List, [], _∷_, _++_, append-assoc}
 use lib.ListN.{length, getD, take, drop, length-append}
 use lib.Seq.{take-at, drop-at, drop-append-add, getD-append-add, getD-drop}
@@ -13,7 +13,8 @@ use Rattle.graph.specs.Every.{allBelow}
 use Rattle.graph.proofs.Below.{and-parts, allBelow-at, allBelow-of}
 use Rattle.fields.specs.declared.Number.the-variants.{Value}
 use Rattle.fields.specs.Field.{readField, fieldText, fieldAt}
-use Rattle.fields.proofs.Laws.{written-reads-back, field-length}
+use Rattle.fields.proofs.Laws.{field-length}
+use Rattle.fields.proofs.Fillings.{blanks-read-back}
 use Rattle.molecule.specs.Record.{isAtom}
 use Rattle.molecule.proofs.Bonds.{atom-bounds}
 use Rattle.sheet.specs.Bonds.{Bond, atomsKept, noneToItself, noneTwice}
@@ -49,18 +50,18 @@ module _ (x : Bond) (xs : List Bond) where
   right-length : length rightText ≡ 4
   right-length = field-length 4 (x .1)
 
-  first-left : x .0 < 10000 → fieldAt 4 (linesText (x ∷ xs)) 0 ≡ Value (x .0)
+  first-left : x .0 < 10000 → fieldAt 4 (linesText (x ∷ xs)) 0 ≡ Value (x .0) false
   unfolding linesText
   first-left small =
       rw (take-at leftText (rightText ++ (10 ∷ restText)) 4 left-length)
-      (written-reads-back 4 (x .0) small (omega arith) (omega arith))
+      (blanks-read-back 4 (x .0) small (omega arith) (omega arith))
 
-  first-right : x .1 < 10000 → fieldAt 4 (linesText (x ∷ xs)) 4 ≡ Value (x .1)
+  first-right : x .1 < 10000 → fieldAt 4 (linesText (x ∷ xs)) 4 ≡ Value (x .1) false
   unfolding linesText
   first-right small =
       let skip = drop-at leftText (rightText ++ (10 ∷ restText)) 4 left-length in
       let field = take-at rightText (10 ∷ restText) 4 right-length in
-      rw (skip, field) (written-reads-back 4 (x .1) small (omega arith) (omega arith))
+      rw (skip, field) (blanks-read-back 4 (x .1) small (omega arith) (omega arith))
 
   first-end : getD (linesText (x ∷ xs)) 8 0 ≡ 10
   unfolding linesText
@@ -111,14 +112,14 @@ module _ (x : Bond) (xs : List Bond) (i : ℕ) where
 
 -- the parts of line i
 text-left :
-    (xs : List Bond) (i : ℕ) → i < length xs → Small xs → fieldAt 4 (linesText xs) (9 * i + 0) ≡ Value (bondAt xs i .0)
+    (xs : List Bond) (i : ℕ) → i < length xs → Small xs → fieldAt 4 (linesText xs) (9 * i + 0) ≡ Value (bondAt xs i .0) false
 unfolding Small
 text-left [] i h small = absurd (omega arith)
 text-left (x ∷ xs) zero h small = first-left x xs (small 0 h .0)
 text-left (x ∷ xs) (suc i) h small = shift-field x xs i 0 ∙ text-left xs i (omega arith) (fewer-small x xs small)
 
 text-right :
-    (xs : List Bond) (i : ℕ) → i < length xs → Small xs → fieldAt 4 (linesText xs) (9 * i + 4) ≡ Value (bondAt xs i .1)
+    (xs : List Bond) (i : ℕ) → i < length xs → Small xs → fieldAt 4 (linesText xs) (9 * i + 4) ≡ Value (bondAt xs i .1) false
 unfolding Small
 text-right [] i h small = absurd (omega arith)
 text-right (x ∷ xs) zero h small = first-right x xs (small 0 h .1)

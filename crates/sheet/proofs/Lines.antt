@@ -4,7 +4,7 @@ use Prim.Native.Nat.{ℕ, min, _+_, _*_, _^_, _≤_, _<_}
 use native.Mathlib.Nat.{pow-le-pow-right, eq-or-lt-of-le}
 use native.Mathlib.Omega.{arith}
 use mathlib.Core.Path.{_≡_, refl, ap, ap₂, sym, _∙_}
-use mathlib.Core.Bool.{true, false, true≢false}
+use mathlib.Core.Bool.{Bool, true, false, true≢false}
 use mathlib.Core.List.{List}
 use mathlib.Core.Logic.{⊎-elim}
 use lib.ListN.{length, getD, set, take, drop, length-set, length-take}
@@ -14,7 +14,7 @@ use Rattle.graph.specs.Every.{allBelow}
 use Rattle.graph.proofs.Loops.{all-fails, all-more}
 use Rattle.fields.specs.declared.Number.the-variants.{Value, Bad}
 use Rattle.fields.specs.Field.{fieldAt}
-use Rattle.fields.proofs.Laws.{read-fits}
+use Rattle.fields.proofs.Fillings.{read-fits}
 use Rattle.sheet.specs.declared.Entry.{Entry}
 use Rattle.sheet.specs.Bonds.{Bond}
 use Rattle.sheet.specs.Read.{lineKept, lineOf}
@@ -37,12 +37,12 @@ module _ {s : List ℕ} {i : ℕ} where
   unfolding lineKept
   line-left-bad e = reads-none (rw e)
 
-  module _ {a : ℕ} (left : fieldAt 4 s (9 * i) ≡ Value a) where
+  module _ {a : ℕ} {x : Bool} (left : fieldAt 4 s (9 * i) ≡ Value a x) where
     pub line-right-bad : fieldAt 4 s (9 * i + 4) ≡ Bad → ReadsLine s i noEntry
     unfolding lineKept
     line-right-bad e = reads-none (rw (left, e))
 
-    module _ {b : ℕ} (right : fieldAt 4 s (9 * i + 4) ≡ Value b) where
+    module _ {b : ℕ} {y : Bool} (right : fieldAt 4 s (9 * i + 4) ≡ Value b y) where
       pub line-end-bad : (getD s (9 * i + 8) 0 ≡ 10 → ⊥) → ReadsLine s i noEntry
       unfolding lineKept
       line-end-bad e = reads-none (rw (left, right, ne-eqb (getD s (9 * i + 8) 0) 10 e))
@@ -56,9 +56,9 @@ module _ {s : List ℕ} {i : ℕ} where
           }
 
 -- the value of a field of 4 columns has at most 4 digits
-pub field-small : (s : List ℕ) (at : ℕ) {v : ℕ} → fieldAt 4 s at ≡ Value v → v < 2 ^ 16
-field-small s at {v} e =
-    let fits = read-fits (take 4 (drop at s)) v e .0 in
+pub field-small : (s : List ℕ) (at : ℕ) {v : ℕ} {zeros : Bool} → fieldAt 4 s at ≡ Value v zeros → v < 2 ^ 16
+field-small s at {v} {zeros} e =
+    let fits = read-fits (take 4 (drop at s)) v zeros e .0 in
     let short : length (take 4 (drop at s)) ≤ 4 = rw (length-take 4 (drop at s)) (omega arith) in
     small (length (take 4 (drop at s))) short fits
   where

@@ -18,7 +18,7 @@ use Rattle.sheet.specs.Bonds.{Bond, atomsKept, noneToItself, noneTwice, 
 unfoldable pub lengthKept : List ℕ → Bool
 lengthKept s = leb 9 (length s) && eqb (length s % 9) 0
 
--- line i, counted from 0: two fields of 4 columns and a line feed
+-- line i, counted from 0: two fields of 4 columns, each filled with blanks or with zeros, and a line feed
 unfoldable pub lineKept : List ℕ → ℕ → Bool
 lineKept s i = isValue (fieldAt 4 s (9 * i)) && isValue (fieldAt 4 s (9 * i + 4)) && eqb (getD s (9 * i + 8) 0) 10
 
@@ -57,18 +57,21 @@ readBonds n bond m =
     (refusedSheet refusal.SelfBond))
     (refusedSheet refusal.BondAtom)
 
--- What a sheet is read as: rules 1 and 2, then rule 3 (n is at most 128), rule 4 (m is at most 1,024),
--- rule 5 (the sheet is 9 × (m + 1) bytes), then rules 6, 7, 8
+-- what the numbers of the lines of so many bytes are read as: rule 3 (n is at most 128),
+-- rule 4 (m is at most 1,024), rule 5 (the sheet is 9 × (m + 1) bytes), then rules 6, 7, 8
+abbrev pub readNumbers : ℕ → (ℕ → Bond) → SheetAnswer
+readNumbers size line =
+    cond (leb (line 0 .0) 128)
+    (cond (leb (line 0 .1) 1024)
+    (cond (eqb size (9 * suc (line 0 .1)))
+    (readBonds (line 0 .0) (λ k. line (suc k)) (line 0 .1))
+    (refusedSheet refusal.SheetSize))
+    (refusedSheet refusal.TooManyBonds))
+    (refusedSheet refusal.TooManyAtoms)
+
+-- What a sheet is read as: rules 1 and 2, then the rules on its numbers
 unfoldable pub readSheet : List ℕ → SheetAnswer
 readSheet s =
     cond (lengthKept s)
-    (cond (linesKept s)
-    (cond (leb (atomsOf s) 128)
-    (cond (leb (bondsOf s) 1024)
-    (cond (eqb (length s) (9 * suc (bondsOf s)))
-    (readBonds (atomsOf s) (bondOf s) (bondsOf s))
-    (refusedSheet refusal.SheetSize))
-    (refusedSheet refusal.TooManyBonds))
-    (refusedSheet refusal.TooManyAtoms))
-    (refusedSheet refusal.SheetBytes))
+    (cond (linesKept s) (readNumbers (length s) (lineOf s)) (refusedSheet refusal.SheetBytes))
     (refusedSheet refusal.SheetLength)

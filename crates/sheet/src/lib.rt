@@ -30,14 +30,14 @@ struct BondsKept {
     pub apart: bool,
 }
 
-// One line of 9 bytes.
+// One line of 9 bytes; blanks or zeros fill each of its fields.
 fn line(s: &[u8], i: usize) -> Entry
     requires { ⌜ 9 * i + 9 ≤ length (now s) ⌝ }
     ensures { λ r. ⌜ ReadsLine (now (s .entry)) i r ⌝ }
 {
     let at = 9 * i;
     let left = fields::number_at(s, 4, at);
-    let Number::Value(a) = left else {
+    let Number::Value(a, _) = left else {
         return Entry {
             ok: false,
             left: 0,
@@ -45,7 +45,7 @@ fn line(s: &[u8], i: usize) -> Entry
         };
     };
     let right = fields::number_at(s, 4, at + 4);
-    let Number::Value(b) = right else {
+    let Number::Value(b, _) = right else {
         return Entry {
             ok: false,
             left: 0,

@@ -1,5 +1,5 @@
 -- `mark_reader::fields_kept` meets its contract.
--- The invariant is `FieldsPassed`: the first i fields are number fields, and `place` is where they end.
+-- The invariant is `FieldsPassed`: the first i fields are number fields that zeros do not fill, and `place` is where they end.
 use Prim.Native.Nat.{_-_}
 use native.Mathlib.Omega.{arith}
 use mathlib.Core.Path.{_∙_}
@@ -31,7 +31,7 @@ returns : tie.Need-returns Inv-loop μ-loop
 returns c =
     let turn : Place tie.In-loop = search in
     let number : Place tie.After-number-at = search in
-    let field = told (number .number-at .ensures) (c .before .is-value .ensures) in
+    let field = told (number .number-at .ensures) (c .before .blanks-only .ensures) in
     passed-fails (turn .before .loop .inv) (turn .loop-test .taken) (field ∙ not-true _ (c .if1 .taken))
 
 add-place : tie.Need-add-place Inv-loop μ-loop
@@ -43,7 +43,7 @@ loop-again : tie.Need-loop-again Inv-loop μ-loop
 loop-again c =
     let turn : Place tie.In-loop = search in
     let number : Place tie.After-number-at = search in
-    let field = told (number .number-at .ensures) (c .before .is-value .ensures) in
+    let field = told (number .number-at .ensures) (c .before .blanks-only .ensures) in
     passed-more (turn .before .loop .inv) (turn .loop-test .taken) (field ∙ not-false _ (c .if1 .left))
 
 returns-2 : tie.Need-returns-2 Inv-loop μ-loop

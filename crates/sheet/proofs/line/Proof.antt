@@ -25,7 +25,7 @@ first c = c .before .before .before .before
 left-read :
     (c : tie.After-left) →
     let args = start c .args in
-    fieldAt 4 (args .s .now) (9 * args .i) ≡ Value (c .left .given .0 .0)
+    fieldAt 4 (args .s .now) (9 * args .i) ≡ Value (c .left .given .0 .0) (c .left .given .0 .1 .0)
 left-read c =
     let read : tie.After-number-at = search in
     sym (read .number-at .ensures) ∙ c .left .given .1
@@ -33,7 +33,7 @@ left-read c =
 right-read :
     (c : tie.After-right) →
     let args = start (first c) .args in
-    fieldAt 4 (args .s .now) (9 * args .i + 4) ≡ Value (c .right .given .0 .0)
+    fieldAt 4 (args .s .now) (9 * args .i + 4) ≡ Value (c .right .given .0 .0) (c .right .given .0 .1 .0)
 right-read c =
     let read : tie.After-number-at2 = search in
     sym (read .number-at2 .ensures) ∙ c .right .given .1
