@@ -30,8 +30,12 @@ verdictCode verdict.No = 0
 verdictCode (verdict.Refused r) = numberOf r
 
 abbrev pub fieldCode : Number → ℕ
-fieldCode (Value v) = v
+fieldCode (Value v zeros) = v
 fieldCode Bad = 2 ^ 64 - 1
+
+abbrev pub zerosCode : Number → ℕ
+zerosCode (Value v zeros) = cond zeros 1 0
+zerosCode Bad = 0
 
 abbrev pub molecule : ℕ → ℕ → List ℕ → Molecule
 molecule atoms bonds rows = record { atoms = atoms; bonds = bonds; rows = rows }

@@ -6,7 +6,7 @@ ghost use lib.ListN.{length, drop};
 ghost use Rattle.fields.specs.Field.{readField, fieldText};
 ghost use Rattle.search.specs.Entries.{startRings, startPaths};
 ghost use Rattle.search.specs.Mark.{restoreMark};
-ghost use Rattle.flat.specs.Codes.{verdictCode, fieldCode, headBytes, flatBytes, molecule};
+ghost use Rattle.flat.specs.Codes.{verdictCode, fieldCode, zerosCode, headBytes, flatBytes, molecule};
 ghost use Rattle.flat.specs.Codes.{readCode, readOutput, checkCode, ringCode, pathCode};
 ghost use Rattle.flat.specs.Searches.{SizesTold, SearchSize, searchFrom, Packed, MadeStored, RanStored};
 ghost use Rattle.flat.specs.Searches.{MadeLeft, RunLeft, SaveLeft};
@@ -136,9 +136,24 @@ pub extern "C" fn flat_read_field(field: &[u8]) -> u64
 {
     let number = fields::read_number(field);
     match number {
-        Number::Value(v) => v,
+        Number::Value(v, _) => v,
         Number::Bad => 18_446_744_073_709_551_615,
     }
+}
+
+// Whether the bytes are a number field that zeros fill: 1, or 0.
+#[no_mangle]
+pub extern "C" fn flat_zero_filled(field: &[u8]) -> u32
+    ensures { λ r. ⌜ r ≡ zerosCode (readField (now (field .entry))) ⌝ }
+{
+    let number = fields::read_number(field);
+    let Number::Value(_, zeros) = number else {
+        return 0;
+    };
+    if zeros {
+        return 1;
+    }
+    0
 }
 
 #[no_mangle]

@@ -3,14 +3,13 @@
 use Prim.Native.Nat.{ℕ, _+_, _*_, _^_, _≤_, _<_}
 use native.Mathlib.Omega.{arith}
 use mathlib.Core.Path.{_≡_, ap, sym, _∙_}
-use mathlib.Core.Bool.{Bool, true, cond}
+use mathlib.Core.Bool.{Bool, true, false, cond}
 use mathlib.Core.List.{List}
 use lib.ListN.{length, take, drop, length-drop}
 use lib.Seq.{length-take-le}
 use borrow.Author.Tests.{eq-eqb, ne-eqb, le-leb, lt-leb}
-use Rattle.fields.specs.declared.Number.{Number}
-use Rattle.fields.specs.declared.Number.the-variants.{Value, Bad}
-use Rattle.fields.proofs.Laws.{read-fits}
+use Rattle.fields.specs.declared.Number.the-variants.{Value}
+use Rattle.fields.proofs.Fillings.{read-fits}
 use Rattle.refusal.specs.declared.Refusal.{Refusal}
 use Rattle.refusal.specs.declared.Refusal.the-variants as refusal
 use Rattle.refusal.specs.declared.Answer.the-variants.{Accepted, Refused}
@@ -23,7 +22,7 @@ use Rattle.search.specs.declared.Made.{Made}
 use Rattle.search.specs.declared.Ran.{Ran}
 use Rattle.search.specs.Place.{freshSearch}
 use Rattle.search.specs.Entries.{acceptedSearch, runSearch, runOutput, endedNumber}
-use Rattle.search.specs.Mark.{fieldAt, valueAt, saveOutput, restoreMark}
+use Rattle.search.specs.Mark.{fieldAt, blanksOnly, valueAt, saveOutput, restoreMark}
 use Rattle.start.proofs.Starts.{rings-started}
 use Rattle.host.specs.Resume.{Resumed, refusedCall, searchFor, runAndSave, resume, markSize, listedIn}
 
@@ -112,23 +111,27 @@ module _ (bytes : List ℕ) where
   listed-short h = rw (lt-leb 91 (length bytes) h)
 
   module _ (room : 91 ≤ length bytes) where
-    pub listed-read : valueAt 20 bytes 69 ≡ listedIn bytes
+    pub listed-none : blanksOnly (fieldAt 20 bytes 69) ≡ false → 0 ≡ listedIn bytes
     unfolding listedIn
-    listed-read = rw (le-leb 91 (length bytes) room)
+    listed-none e = rw (le-leb 91 (length bytes) room, e)
 
-    pub size-bad : {x : Number} → x ≡ fieldAt 4 bytes 20 → x ≡ Bad → 0 ≡ markSize bytes
+    pub listed-read : blanksOnly (fieldAt 20 bytes 69) ≡ true → valueAt 20 bytes 69 ≡ listedIn bytes
+    unfolding listedIn
+    listed-read e = rw (le-leb 91 (length bytes) room, e)
+
+    pub size-none : blanksOnly (fieldAt 4 bytes 20) ≡ false → 0 ≡ markSize bytes
     unfolding markSize
-    size-bad is e = rw (le-leb 91 (length bytes) room, sym is ∙ e)
+    size-none e = rw (le-leb 91 (length bytes) room, e)
 
 -- What is known where the field of the length holds k
 pub record LengthRead (bytes : List ℕ) (k : ℕ) : Type 0 where
   pub room : 91 ≤ length bytes
-  pub read : fieldAt 4 bytes 20 ≡ Value k
+  pub read : fieldAt 4 bytes 20 ≡ Value k false
 
 module _ {bytes : List ℕ} {k : ℕ} (f : LengthRead bytes k) where
   -- a field of 4 columns
   pub size-fits : k < 10000
-  size-fits = go (read-fits (take 4 (drop 20 bytes)) k (f .read) .0)
+  size-fits = go (read-fits (take 4 (drop 20 bytes)) k false (f .read) .0)
     where
       go : k < 10 ^ length (take 4 (drop 20 bytes)) → k < 10000
       go h = rw (length-take-le 4 (drop 20 bytes) (rw length-drop (omega (arith, f .room)))) at h

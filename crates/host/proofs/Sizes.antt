@@ -14,7 +14,7 @@ use Rattle.molecule.specs.declared.Molecule.{Molecule}
 use Rattle.molecule.specs.Record.{wellFormed}
 use Rattle.search.specs.declared.Search.{Search}
 use Rattle.search.specs.Place.{searchAt, restorable}
-use Rattle.search.specs.Mark.{fieldAt, isValue, valueOf, fieldsKept, markText, markLength, markSearch}
+use Rattle.search.specs.Mark.{fieldAt, blanksOnly, valueOf, fieldsKept, markText, markLength, markSearch}
 use Rattle.search.proofs.Lines.{Layout, layout-facts}
 use Rattle.search.proofs.Restores.{Restored, restored-facts}
 use Rattle.search.proofs.MarkLaws.{saved-restores}
@@ -30,18 +30,24 @@ front-field c at front rest h =
 
 -- the bytes of a mark, where its length is a number field and the buffer has as many
 size-kept :
-    (bytes : List ℕ) → isValue (fieldAt 4 bytes 20) ≡ true → 91 + 4 * markLength bytes ≤ length bytes →
+    (bytes : List ℕ) → blanksOnly (fieldAt 4 bytes 20) ≡ true → 91 + 4 * markLength bytes ≤ length bytes →
     markSize bytes ≡ 91 + 4 * markLength bytes
 unfolding markSize
 size-kept bytes e h =
     rw (le-leb 91 (length bytes) (omega arith), e, le-leb (91 + 4 * markLength bytes) (length bytes) h)
 
+-- the field of the listed count
+listed-kept : {bytes : List ℕ} → Layout bytes → blanksOnly (fieldAt 20 bytes 69) ≡ true
+listed-kept {bytes} lines =
+    allBelow-at 3 (λ (i : ℕ). blanksOnly (fieldAt 20 bytes (29 + 20 * i)))
+    (unfold fieldsKept in (lines .counts-kept)) 2 (omega arith)
+
 -- the listed count of a mark that is accepted
 pub listed-restored : (mol : Molecule) (bytes : List ℕ) (q : Search) → Restored mol bytes q → listedIn bytes ≡ q .listed
 unfolding markSearch searchAt
 listed-restored mol bytes q f =
-    sym (listed-read bytes (omega (arith, layout-facts bytes (f .layout) .size))) ∙
-    ap (λ (x : Search). x .listed) (f .search)
+    let lines = layout-facts bytes (f .layout) in
+    sym (listed-read bytes (omega (arith, lines .size)) (listed-kept lines)) ∙ ap (λ (x : Search). x .listed) (f .search)
 
 module _ (mol : Molecule) (q : Search) (formed : wellFormed mol ≡ true) (kept : restorable mol q ≡ true)
     (full : length (q .prefix) ≡ 128) where
@@ -59,20 +65,22 @@ module _ (mol : Molecule) (q : Search) (formed : wellFormed mol ≡ true) (kept 
     length-same : fieldAt 4 (markText mol q ++ rest) 20 ≡ fieldAt 4 (markText mol q) 20
     length-same = front-field 4 20 (markText mol q) rest (omega (arith, lines .size))
 
-    length-read : isValue (fieldAt 4 (markText mol q) 20) ≡ true
+    length-read : blanksOnly (fieldAt 4 (markText mol q) 20) ≡ true
     length-read =
-        allBelow-at 7 (λ (i : ℕ). isValue (fieldAt 4 (markText mol q) (0 + 4 * i)))
+        allBelow-at 7 (λ (i : ℕ). blanksOnly (fieldAt 4 (markText mol q) (0 + 4 * i)))
         (unfold fieldsKept in (lines .head-kept)) 5 (omega arith)
 
     pub mark-size : markSize (markText mol q ++ rest) ≡ length (markText mol q)
     mark-size =
         let same : markLength (markText mol q ++ rest) ≡ markLength (markText mol q) = ap valueOf length-same in
-        size-kept (markText mol q ++ rest) (ap isValue length-same ∙ length-read) (omega (arith, lines .size, whole))
+        size-kept (markText mol q ++ rest) (ap blanksOnly length-same ∙ length-read) (omega (arith, lines .size, whole))
         ∙ omega (arith, lines .size)
 
     pub mark-listed : listedIn (markText mol q ++ rest) ≡ q .listed
     mark-listed =
-        sym (listed-read (markText mol q ++ rest) (omega (arith, lines .size, whole)))
-        ∙ ap valueOf (front-field 20 69 (markText mol q) rest (omega (arith, lines .size)))
-        ∙ listed-read (markText mol q) (omega (arith, lines .size))
+        let same = front-field 20 69 (markText mol q) rest (omega (arith, lines .size)) in
+        let kept = ap blanksOnly same ∙ listed-kept lines in
+        sym (listed-read (markText mol q ++ rest) (omega (arith, lines .size, whole)) kept)
+        ∙ ap valueOf same
+        ∙ listed-read (markText mol q) (omega (arith, lines .size)) (listed-kept lines)
         ∙ listed-restored mol (markText mol q) q saved

@@ -15,7 +15,7 @@ use Rattle.sheet.specs.Read.{readSheet}
 use Rattle.search.specs.declared.Search.{Search}
 use Rattle.search.specs.declared.Made.{Made}
 use Rattle.search.specs.Entries.{startRings, runSearch, runOutput, endedNumber}
-use Rattle.search.specs.Mark.{fieldAt, isValue, valueAt, markLength, saveOutput, restoreMark}
+use Rattle.search.specs.Mark.{fieldAt, blanksOnly, valueAt, markLength, saveOutput, restoreMark}
 
 -- What the entry returns, and its two outputs after it
 pub record Resumed : Type 0 where
@@ -60,9 +60,9 @@ resume sheet mark budget rings next =
 -- in its sixth field; 0 where the buffer holds no mark of that length
 unfoldable pub markSize : List ℕ → ℕ
 markSize bytes =
-    cond (leb 91 (length bytes) && isValue (fieldAt 4 bytes 20) && leb (91 + 4 * markLength bytes) (length bytes))
+    cond (leb 91 (length bytes) && blanksOnly (fieldAt 4 bytes 20) && leb (91 + 4 * markLength bytes) (length bytes))
     (91 + 4 * markLength bytes) 0
 
 -- The listed count of a mark; 0 where there is none, as in no bytes
 unfoldable pub listedIn : List ℕ → ℕ
-listedIn bytes = cond (leb 91 (length bytes)) (valueAt 20 bytes 69) 0
+listedIn bytes = cond (leb 91 (length bytes) && blanksOnly (fieldAt 20 bytes 69)) (valueAt 20 bytes 69) 0

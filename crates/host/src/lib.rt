@@ -85,9 +85,12 @@ pub extern "C" fn ringlist_mark_length(mark: &[u8]) -> usize
         return 0;
     }
     let field = fields::number_at(mark, 4, 20);
-    let Number::Value(k) = field else {
+    let Number::Value(k, zeros) = field else {
         return 0;
     };
+    if zeros {
+        return 0;
+    }
     let size = 91 + 4 * (k as usize);
     if mark.len() < size {
         return 0;
@@ -103,5 +106,12 @@ pub extern "C" fn ringlist_listed(mark: &[u8]) -> u64
     if mark.len() < 91 {
         return 0;
     }
-    fields::value_at(mark, 20, 69)
+    let field = fields::number_at(mark, 20, 69);
+    let Number::Value(v, zeros) = field else {
+        return 0;
+    };
+    if zeros {
+        return 0;
+    }
+    v
 }
