@@ -15,7 +15,7 @@ use lib.Dec.{leb, ltb, eqb}
 use borrow.Author.Tests.{lt-ltb, le-ltb, eq-eqb, ne-eqb, leb-true, eqb-true}
 use Rattle.fields.specs.declared.Number.the-variants.{Value, Bad}
 use Rattle.fields.specs.Field.{limit, isDigit, digits, afterBlanks, zeroFirst, readField}
-use Rattle.fields.specs.Field.{column, columns, fieldText, zeroText, filledText}
+use Rattle.fields.specs.Field.{column, columns, fieldText, zeroText, filledText, isValue, valueOf, SameNumber, Refilled}
 use Rattle.fields.proofs.Laws.{passed, both, digits-snoc, text-read, digit-read, digits-end-value, digits-below}
 use Rattle.fields.proofs.Laws.{digits-limit, digits-report, one-more, zero-whole, after-blanks, field-length}
 
@@ -160,16 +160,17 @@ module _ (bs : List ℕ) (v : ℕ) (zeros : Bool) (reads : readField bs ≡ Valu
 -- ---- each text of a number reads back
 
 -- A field that was accepted when blanks alone could fill one has the same value
-pub as-before : (bs : List ℕ) (v : ℕ) → afterBlanks false bs ≡ Value v false → readField bs ≡ Value v (zeroFirst bs)
+pub as-before :
+    (bs : List ℕ) (v : ℕ) (filled : Bool) → afterBlanks false bs ≡ Value v filled → readField bs ≡ Value v (zeroFirst bs)
 unfolding readField
-as-before bs v e = go (zeroFirst bs) refl
+as-before bs v filled e = go (zeroFirst bs) refl
   where
     go : (zeros : Bool) → zeroFirst bs ≡ zeros → readField bs ≡ Value v zeros
-    go false first = rw first e
+    go false first = rw first (e ∙ ap (Value v) (blanks-read false bs v filled e .report))
     go true first =
         let (rest, is) = first-byte bs first in
-        let alone : digits false 0 rest ≡ Value v false = unfold afterBlanks in (rw is at e) in
-        let (none, value) = zero-whole rest v false alone in
+        let alone : digits false 0 rest ≡ Value v filled = unfold afterBlanks in (rw is at e) in
+        let (none, value) = zero-whole rest v filled alone in
         rw (is, none, value) (zero-begins [] ∙ unfold digits in refl)
 
 -- Either text of a number that fits reads back as that number, and the report says what its first column holds
@@ -177,14 +178,25 @@ pub written-reads-back :
     (zeros : Bool) (k v : ℕ) → v < 10 ^ k → v ≤ limit → 0 < k →
     let text = filledText zeros k v in
     readField text ≡ Value v (zeroFirst text)
-written-reads-back false k v below fits some = as-before (fieldText k v) v (text-read k v below fits some)
+written-reads-back false k v below fits some = as-before (fieldText k v) v false (text-read k v below fits some)
 written-reads-back true zero v below fits some = absurd (omega arith)
 written-reads-back true (suc k) v below fits some = go (decLt v (10 ^ k))
   where
     go : Dec (v < 10 ^ k) → readField (zeroText (suc k) v) ≡ Value v (zeroFirst (zeroText (suc k) v))
     go (yes room) = rw (zeros-lead k v room) (zero-begins (zeroText k v) ∙ zeros-digits k v room fits)
     go (no full) =
-        rw (texts-agree k v (omega arith)) (as-before (fieldText (suc k) v) v (text-read (suc k) v below fits some))
+        rw (texts-agree k v (omega arith)) (as-before (fieldText (suc k) v) v false (text-read (suc k) v below fits some))
+
+-- Fields that differ in filling only hold the same number, or none of them does
+pub refilled-same :
+    (k : ℕ) (a b : List ℕ) → 0 < k → Refilled k a b →
+    (isValue (readField a) ≡ isValue (readField b)) × (valueOf (readField a) ≡ valueOf (readField b))
+refilled-same k a b some (inl e) = (rw e, rw e)
+refilled-same k a b some (inr same) =
+    let reads : (zeros : Bool) → _ = λ zeros. written-reads-back zeros k (same .value) (same .below) (same .most) some in
+    let left = ap readField (same .left) ∙ reads (same .zeros-left) in
+    let right = ap readField (same .right) ∙ reads (same .zeros-right) in
+    (ap isValue left ∙ sym (ap isValue right), ap valueOf left ∙ sym (ap valueOf right))
 
 -- ---- what the first column of each text holds
 

@@ -1,9 +1,11 @@
 -- Number fields of document 01, as request F-2 amends them: blanks or zeros, then decimal digits, right-justified.
 -- A field has one filling; filled with blanks it has no leading zero, and zero is one digit 0.
 -- A field of 4 columns and one of 20 are the same text at another width.
-use Prim.Native.Nat.{ℕ, zero, suc, _+_, _-_, _*_, _/_, _%_}
+use Prim.Native.Nat.{ℕ, zero, suc, _+_, _-_, _*_, _/_, _%_, _^_, _≤_, _<_}
+use mathlib.Core.Path.{_≡_}
 use mathlib.Core.Bool.{Bool, true, false, _&&_, _||_, not, cond}
 use mathlib.Core.List.{List, [], _∷_, _++_}
+use mathlib.Core.Logic.{_⊎_}
 use lib.ListN.{getD, take, drop}
 use lib.Dec.{leb, ltb, eqb}
 use Rattle.fields.specs.declared.Number.{Number}
@@ -81,3 +83,17 @@ valueOf Bad = 0
 
 abbrev pub valueAt : ℕ → List ℕ → ℕ → ℕ
 valueAt columns bytes at = valueOf (fieldAt columns bytes at)
+
+-- Two texts of one number of k columns, in any fillings
+pub record SameNumber (k : ℕ) (a b : List ℕ) : Type 0 where
+  pub value : ℕ
+  pub below : value < 10 ^ k
+  pub most : value ≤ limit
+  pub zeros-left : Bool
+  pub zeros-right : Bool
+  pub left : a ≡ filledText zeros-left k value
+  pub right : b ≡ filledText zeros-right k value
+
+-- Two fields of k columns that differ in filling only, or not at all
+abbrev pub Refilled : ℕ → List ℕ → List ℕ → Type 0
+Refilled k a b = (a ≡ b) ⊎ SameNumber k a b

@@ -22,7 +22,7 @@ use Rattle.sheet.specs.Read.{lengthKept, linesKept, atomsOf, bondsOf, bo
 use Rattle.sheet.proofs.Tables.{Kept, kept-of, Joins, joins-swaps, Table, tables}
 
 -- a rule that was kept on the way to an accepted sheet
-kept-on :
+pub kept-on :
     (t : Bool) (x : SheetAnswer) (r : Refusal) → cond t x (refusedSheet r) .answer ≡ Accepted →
     (t ≡ true) × (x .answer ≡ Accepted)
 kept-on true x r e = (refl, e)

@@ -1,4 +1,5 @@
 pub mod Accepted
+pub mod Refills
 pub mod Answers
 pub mod Bits
 pub mod Cells

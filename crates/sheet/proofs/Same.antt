@@ -10,7 +10,7 @@ use Rattle.sheet.specs.Read.{readBonds}
 use Rattle.sheet.proofs.Tables.{isNew}
 use Rattle.sheet.proofs.Stored.{within, differs, atoms-kept-is, none-to-itself-is}
 
-all-same : (k : ℕ) (p q : ℕ → Bool) → ((i : ℕ) → i < k → p i ≡ q i) → allBelow k p ≡ allBelow k q
+pub all-same : (k : ℕ) (p q : ℕ → Bool) → ((i : ℕ) → i < k → p i ≡ q i) → allBelow k p ≡ allBelow k q
 all-same zero p q f = refl
 all-same (suc k) p q f = ap₂ (λ a b. a && b) (all-same k p q (λ i h. f i (omega arith))) (f k (omega arith))
 
