@@ -1,271 +1,179 @@
--- Reading and writing number fields: each text of a number reads back, and what reads as a value is one of its texts.
--- Both go column by column: a column more on the right is ten times the value and a digit.
+-- The laws of a number field: every number that fits has a text in either filling, each reads back as that number
+-- with the right report, and an accepted field is one of the two, as the report says. By the laws of each filling.
 use Prim.Native.Nat.{ℕ, zero, suc, _+_, _-_, _*_, _/_, _%_, _^_, _≤_, _<_}
-use native.Mathlib.Nat.{pow-suc, add-zero, add-suc, suc-add, zero-add, pow-zero, eq-or-lt-of-le}
+use native.Mathlib.Nat.{pow-suc, zero-add}
 use native.Mathlib.Numerals.{one-add}
 use native.Mathlib.Decide.{decLt}
 use native.Mathlib.Omega.{arith}
 use mathlib.Core.Path.{_≡_, refl, ap, sym, _∙_}
-use mathlib.Core.Bool.{Bool, true, false, _&&_, _||_, cond, or-true, true≢false}
-use mathlib.Core.List.{List, [], _∷_, _++_, append-nil}
-use mathlib.Core.Logic.{⊎-elim}
-use lib.ListN.{length, getD, replicate, length-append}
-use lib.Seq.{append-snoc}
+use mathlib.Core.Bool.{Bool, true, false, cond, true≢false}
+use mathlib.Core.List.{List, [], _∷_, append-nil}
+use mathlib.Core.Logic.{inl, inr}
+use lib.ListN.{length, length-append}
 use lib.Dec.{leb, ltb, eqb}
-use borrow.Author.Tests.{lt-ltb, le-ltb, le-leb, eq-eqb, ne-eqb, leb-true, ltb-true, eqb-true}
-use Rattle.fields.specs.declared.Number.{Number}
+use borrow.Author.Tests.{lt-ltb, le-ltb, leb-true, eqb-true}
 use Rattle.fields.specs.declared.Number.the-variants.{Value, Bad}
-use Rattle.fields.specs.Field.{limit, isDigit, digits, afterBlanks, zeroFirst, readField}
-use Rattle.fields.specs.Field.{column, columns, fieldText, zeroText, filledText}
+use Rattle.fields.specs.Field.{limit, isDigit, digits, afterBlanks, zeroFirst, readField, columns}
+use Rattle.fields.specs.Field.{fieldText, zeroText, filledText, isValue, valueOf, Refilled}
+use Rattle.fields.proofs.Digits.{passed, both, digits-below, digits-limit, digits-report, zero-whole}
+use Rattle.fields.proofs.Blanks.{text-read, after-blanks}
+use Rattle.fields.proofs.Zeros.{zeros-digits, zeros-lead, zeros-written, columns-whole, texts-agree}
+use Rattle.fields.proofs.Zeros.{columns-report}
 
--- a test that was passed on the way to a value
-pub passed : (t : Bool) (x : Number) (v : ℕ) (zeros : Bool) → cond t x Bad ≡ Value v zeros → (t ≡ true) × (x ≡ Value v zeros)
-passed true x v zeros e = (refl, e)
-passed false x v zeros e = let z : _≡_ {A = ℕ} 0 1 = cc in absurd (omega arith)
+-- ---- what an accepted field tells
 
-pub both : (a b : Bool) → (a && b) ≡ true → (a ≡ true) × (b ≡ true)
-both true b e = (refl, e)
-both false b e = absurd (true≢false (sym e))
+-- what a field that was read as a value tells
+record Read (zeros : Bool) (bs : List ℕ) (v : ℕ) (filled : Bool) : Type 0 where
+  report : filled ≡ zeros
+  below : v < 10 ^ length bs
+  most : v ≤ limit
 
--- ---- one digit more
-
-digit-byte : (d : ℕ) → d < 10 → isDigit (48 + d) ≡ true
-digit-byte d h = simp (le-leb 48 (48 + d) (omega arith), le-leb (48 + d) 57 (omega arith))
-
-digit-worth : (d : ℕ) → 48 + d - 48 ≡ d
-digit-worth d = omega arith
-
-module _ (zeros : Bool) (v d : ℕ) (digit : d < 10) (may : zeros || ltb 0 v ≡ true) (fits : v * 10 + d ≤ limit) where
-  pub digits-snoc :
-      (w : ℕ) (bs : List ℕ) → digits zeros w bs ≡ Value v zeros →
-      digits zeros w (bs ++ ((48 + d) ∷ [])) ≡ Value (v * 10 + d) zeros
-  unfolding digits
-  digits-snoc w [] e =
-      let same : w ≡ v = cc in
-      rw (same, digit-worth d)
-      (simp (le-leb 48 (48 + d) (omega arith), le-leb (48 + d) 57 (omega arith), may, le-leb (v * 10 + d) limit fits))
-  digits-snoc w (b ∷ bs) e =
-      let now = w * 10 + (b - 48) in
-      let tests = passed (isDigit b && (zeros || ltb 0 w) && leb now limit) (digits zeros now bs) v zeros e in
-      rw (tests .0) (digits-snoc now bs (tests .1))
-
-module _ (v d : ℕ) (digit : d < 10) (some : 0 < v) (fits : v * 10 + d ≤ limit) where
-  field-snoc :
-      (bs : List ℕ) → afterBlanks false bs ≡ Value v false →
-      afterBlanks false (bs ++ ((48 + d) ∷ [])) ≡ Value (v * 10 + d) false
-  unfolding afterBlanks
-  field-snoc [] e = let z : _≡_ {A = ℕ} 0 1 = cc in absurd (omega arith)
-  field-snoc (b ∷ bs) e = go (field-snoc bs) (eqb b 32) e
-    where
-      -- by whether b is a blank
-      go :
-          let longer = bs ++ ((48 + d) ∷ []) in
-          (afterBlanks false bs ≡ Value v false → afterBlanks false longer ≡ Value (v * 10 + d) false) → (t : Bool) →
-          cond t (afterBlanks false bs) (cond (isDigit b) (digits false (b - 48) bs) Bad) ≡ Value v false →
-          cond t (afterBlanks false longer) (cond (isDigit b) (digits false (b - 48) longer) Bad)
-          ≡ Value (v * 10 + d) false
-      go more true e = more e
-      go more false e =
-          let first = passed (isDigit b) (digits false (b - 48) bs) v false e in
-          rw (first .0) (digits-snoc false v d digit (lt-ltb 0 v some) fits (b - 48) bs (first .1))
-
--- ---- a text filled with blanks reads as its value, zeros not filling it
-
-abbrev blanks : ℕ → List ℕ
-blanks k = replicate k 32
-
-blank-more : (k : ℕ) → blanks k ++ blanks 1 ≡ blanks (suc k)
-blank-more zero = refl
-blank-more (suc k) = ap (λ l. 32 ∷ l) (blank-more k)
-
-columns-blank : (k : ℕ) → columns k 0 ≡ blanks k
-unfolding columns column
-columns-blank zero = refl
-columns-blank (suc k) = rw (columns-blank k) (blank-more k)
-
-lone-digit : (k d : ℕ) → d < 10 → afterBlanks false (blanks k ++ ((48 + d) ∷ [])) ≡ Value d false
-unfolding afterBlanks digits
-lone-digit zero d h = simp (ne-eqb (48 + d) 32 (λ e. omega arith), digit-byte d h, digit-worth d)
-lone-digit (suc k) d h = lone-digit k d h
-
--- a last digit after columns
-module _ (k v : ℕ) (below : v < 10 ^ suc k) (fits : v ≤ limit) where
-  last-digit :
-      ((w : ℕ) → 0 < w → w < 10 ^ k → w ≤ limit → afterBlanks false (columns k w) ≡ Value w false) →
-      afterBlanks false (columns k (v / 10) ++ ((48 + v % 10) ∷ [])) ≡ Value v false
-  last-digit front = go (v / 10) refl
-    where
-      go : (q : ℕ) → v / 10 ≡ q → afterBlanks false (columns k (v / 10) ++ ((48 + v % 10) ∷ [])) ≡ Value v false
-      go zero e =
-          let same : v % 10 ≡ v = omega arith in
-          rw (e, columns-blank k) (lone-digit k (v % 10) (omega arith) ∙ ap (λ x. Value x false) same)
-      go (suc q) e =
-          let power : 10 ^ suc k ≡ 10 ^ k * 10 = pow-suc 10 k in
-          let whole : v / 10 * 10 + v % 10 ≡ v = omega arith in
-          let before = front (v / 10) (omega arith) (omega arith) (omega arith) in
-          field-snoc (v / 10) (v % 10) (omega arith) (omega arith) (omega arith) (columns k (v / 10)) before
-          ∙ ap (λ x. Value x false) whole
-
-columns-read : (k v : ℕ) → 0 < v → v < 10 ^ k → v ≤ limit → afterBlanks false (columns k v) ≡ Value v false
-unfolding columns column
-columns-read zero v some below fits = absurd (omega (arith, pow-zero 10))
-columns-read (suc k) v some below fits = rw (ne-eqb v 0 (λ e. omega arith)) (last-digit k v below fits (columns-read k))
-
-pub text-read : (k v : ℕ) → v < 10 ^ k → v ≤ limit → 0 < k → afterBlanks false (fieldText k v) ≡ Value v false
-unfolding fieldText
-text-read zero v below fits some = absurd (omega arith)
-text-read (suc k) v below fits some = last-digit k v below fits (columns-read k)
-
--- ---- what a field that reads as a value tells
-
--- what a digit b that was read after the value w tells
-pub record DigitRead (zeros : Bool) (w b : ℕ) (bs : List ℕ) (v : ℕ) (filled : Bool) : Type 0 where
-  pub low : 48 ≤ b
-  pub high : b ≤ 57
-  pub may : zeros || ltb 0 w ≡ true
-  pub fits : w * 10 + (b - 48) ≤ limit
-  pub rest : digits zeros (w * 10 + (b - 48)) bs ≡ Value v filled
-
-pub digits-end-value : (zeros : Bool) (w v : ℕ) (filled : Bool) → digits zeros w [] ≡ Value v filled → (w ≡ v) × (zeros ≡ filled)
-unfolding digits
-digits-end-value zeros w v filled e = (cc, cc)
-
-module _ (zeros : Bool) where
-  pub digit-read :
-      (w b : ℕ) (bs : List ℕ) (v : ℕ) (filled : Bool) → digits zeros w (b ∷ bs) ≡ Value v filled →
-      DigitRead zeros w b bs v filled
-  unfolding digits
-  digit-read w b bs v filled e =
-      let now = w * 10 + (b - 48) in
-      let tests = passed (isDigit b && (zeros || ltb 0 w) && leb now limit) (digits zeros now bs) v filled e in
-      let outer = both (isDigit b && (zeros || ltb 0 w)) (leb now limit) (tests .0) in
-      let inner = both (isDigit b) (zeros || ltb 0 w) (outer .0) in
-      let digit = both (leb 48 b) (leb b 57) (inner .0) in
-      record {
-        low = leb-true 48 b (digit .0);
-        high = leb-true b 57 (digit .1);
-        may = inner .1;
-        fits = leb-true now limit (outer .1);
-        rest = tests .1;
-      }
-
-  pub digits-below :
-      (k w : ℕ) (bs : List ℕ) (v : ℕ) (filled : Bool) → w < 10 ^ k → digits zeros w bs ≡ Value v filled →
-      v < 10 ^ (k + length bs)
-  digits-below k w [] v filled below e = rw (add-zero, ← digits-end-value zeros w v filled e .0) below
-  digits-below k w (b ∷ bs) v filled below e =
-      let digit = digit-read w b bs v filled e in
-      let power : 10 ^ suc k ≡ 10 ^ k * 10 = pow-suc 10 k in
-      let more : w * 10 + (b - 48) < 10 ^ suc k = omega (arith, digit .high) in
-      rw (add-suc, ← suc-add) (digits-below (suc k) (w * 10 + (b - 48)) bs v filled more (digit .rest))
-
-  pub digits-limit :
-      (w : ℕ) (bs : List ℕ) (v : ℕ) (filled : Bool) → w ≤ limit → digits zeros w bs ≡ Value v filled → v ≤ limit
-  digits-limit w [] v filled fits e = rw (← digits-end-value zeros w v filled e .0) fits
-  digits-limit w (b ∷ bs) v filled fits e =
-      let digit = digit-read w b bs v filled e in
-      digits-limit (w * 10 + (b - 48)) bs v filled (digit .fits) (digit .rest)
-
-  -- what is reported
-  pub digits-report : (w : ℕ) (bs : List ℕ) (v : ℕ) (filled : Bool) → digits zeros w bs ≡ Value v filled → filled ≡ zeros
-  digits-report w [] v filled e = sym (digits-end-value zeros w v filled e .1)
-  digits-report w (b ∷ bs) v filled e =
-      digits-report (w * 10 + (b - 48)) bs v filled (digit-read w b bs v filled e .rest)
-
--- ---- blanks and then digits are the text filled with blanks
-
--- digits that follow columns of a value are columns of the whole value
-column-digit : (w b : ℕ) → 0 < w → 48 ≤ b → b ≤ 57 → column (w * 10 + (b - 48)) ≡ b
-unfolding column
-column-digit w b some low high = rw (ne-eqb (w * 10 + (b - 48)) 0 (λ e. omega arith)) (omega arith)
-
-columns-on :
-    (k w b : ℕ) (bs : List ℕ) → 0 < w → 48 ≤ b → b ≤ 57 →
-    columns k w ++ (b ∷ bs) ≡ columns (suc k) (w * 10 + (b - 48)) ++ bs
-unfolding columns
-columns-on k w b bs some low high =
-    let tenth : (w * 10 + (b - 48)) / 10 ≡ w = omega arith in
-    rw (tenth, column-digit w b some low high) (sym (append-snoc (columns k w) b bs))
-
-pub one-more : (k j : ℕ) → suc k + j ≡ k + suc j
-one-more k j = suc-add k j ∙ sym (add-suc k j)
-
-digits-text :
-    (k w : ℕ) (bs : List ℕ) (v : ℕ) → 0 < w → digits false w bs ≡ Value v false →
-    (columns k w ++ bs ≡ columns (k + length bs) v) × (0 < v)
-unfolding columns
-digits-text k w [] v some e = rw (add-zero, ← digits-end-value false w v false e .0) (append-nil (columns k w), some)
-digits-text k w (b ∷ bs) v some e =
-    let digit = digit-read false w b bs v false e in
-    let start = columns-on k w b bs some (digit .low) (digit .high) in
-    let more = digits-text (suc k) (w * 10 + (b - 48)) bs v (omega arith) (digit .rest) in
-    (start ∙ more .0 ∙ ap (λ j. columns j v) (one-more k (length bs)), more .1)
-
-columns-text : (k v : ℕ) → 0 < v → columns k v ≡ fieldText k v
-unfolding columns column fieldText
-columns-text zero v some = refl
-columns-text (suc k) v some = rw (ne-eqb v 0 (λ e. omega arith))
-
--- a digit 0 that comes first is the whole number
-pub zero-whole : (bs : List ℕ) (v : ℕ) (filled : Bool) → digits false 0 bs ≡ Value v filled → (bs ≡ []) × (v ≡ 0)
-zero-whole [] v filled e = (refl, sym (digits-end-value false 0 v filled e .0))
-zero-whole (x ∷ bs) v filled e = absurd (true≢false (sym (digit-read false 0 x bs v filled e .may)))
-
-zero-alone :
-    (j b : ℕ) (bs : List ℕ) (v : ℕ) → b ≡ 48 → digits false 0 bs ≡ Value v false →
-    blanks j ++ (b ∷ bs) ≡ fieldText (suc (j + length bs)) v
-unfolding fieldText
-zero-alone j b bs v z e =
-    let (none, value) = zero-whole bs v false e in
-    rw (z, none, value, add-zero j, columns-blank j)
-
--- any other first digit
-columns-first :
-    (j b : ℕ) (bs : List ℕ) → 48 < b → b ≤ 57 → columns (suc j) (b - 48) ++ bs ≡ blanks j ++ (b ∷ bs)
-unfolding columns column
-columns-first j b bs low high =
-    let none : (b - 48) / 10 ≡ 0 = omega arith in
-    let last : 48 + (b - 48) % 10 ≡ b = omega arith in
-    rw (ne-eqb (b - 48) 0 (λ e. omega arith), none, last, columns-blank j) (append-snoc (blanks j) b bs)
-
-digit-first :
-    (j b : ℕ) (bs : List ℕ) (v : ℕ) → 48 < b → b ≤ 57 → digits false (b - 48) bs ≡ Value v false →
-    blanks j ++ (b ∷ bs) ≡ fieldText (suc (j + length bs)) v
-digit-first j b bs v low high e =
-    let text = digits-text (suc j) (b - 48) bs v (omega arith) e in
-    sym (columns-first j b bs low high)
-    ∙ text .0
-    ∙ columns-text (suc j + length bs) v (text .1)
-    ∙ ap (λ k. fieldText k v) (suc-add j (length bs))
-
--- after j blanks
-pub after-blanks :
-    (j : ℕ) (bs : List ℕ) (v : ℕ) → afterBlanks false bs ≡ Value v false → blanks j ++ bs ≡ fieldText (j + length bs) v
+blanks-read :
+    (zeros : Bool) (bs : List ℕ) (v : ℕ) (filled : Bool) → afterBlanks zeros bs ≡ Value v filled →
+    Read zeros bs v filled
 unfolding afterBlanks
-after-blanks j [] v e = let z : _≡_ {A = ℕ} 0 1 = cc in absurd (omega arith)
-after-blanks j (b ∷ bs) v e = rw add-suc (go (after-blanks (suc j) bs v) (eqb b 32) refl e)
+blanks-read zeros [] v filled e = let z : _≡_ {A = ℕ} 0 1 = cc in absurd (omega arith)
+blanks-read zeros (b ∷ bs) v filled e = go (blanks-read zeros bs v filled) (eqb b 32) e
   where
-    digit :
-        isDigit b ≡ true → digits false (b - 48) bs ≡ Value v false →
-        blanks j ++ (b ∷ bs) ≡ fieldText (suc (j + length bs)) v
-    digit t e =
-        let range = both (leb 48 b) (leb b 57) t in
-        let high = leb-true b 57 (range .1) in
-        ⊎-elim
-        (λ (z : 48 ≡ b). zero-alone j b bs v (sym z) (rw (← z) at e))
-        (λ (l : 48 < b). digit-first j b bs v l high e)
-        (eq-or-lt-of-le (leb-true 48 b (range .0)))
+    power : 10 ^ suc (length bs) ≡ 10 ^ length bs * 10
+    power = pow-suc 10 (length bs)
 
     -- by whether b is a blank
     go :
-        (afterBlanks false bs ≡ Value v false → blanks (suc j) ++ bs ≡ fieldText (suc j + length bs) v) →
-        (t : Bool) → eqb b 32 ≡ t →
-        cond t (afterBlanks false bs) (cond (isDigit b) (digits false (b - 48) bs) Bad) ≡ Value v false →
-        blanks j ++ (b ∷ bs) ≡ fieldText (suc (j + length bs)) v
-    go more true t e = rw (eqb-true b 32 t) (sym (append-snoc (blanks j) 32 bs) ∙ rw (blank-more j, ← suc-add) (more e))
-    go more false t e = let tests = passed (isDigit b) (digits false (b - 48) bs) v false e in digit (tests .0) (tests .1)
+        (afterBlanks zeros bs ≡ Value v filled → Read zeros bs v filled) →
+        (t : Bool) → cond t (afterBlanks zeros bs) (cond (isDigit b) (digits zeros (b - 48) bs) Bad) ≡ Value v filled →
+        Read zeros (b ∷ bs) v filled
+    go more true e =
+        let read = more e in
+        record { report = read .report; below = omega (arith, power, read .below); most = read .most }
+    go more false e =
+        let (t, rest) = passed (isDigit b) (digits zeros (b - 48) bs) v filled e in
+        let high = leb-true b 57 (both (leb 48 b) (leb b 57) t .1) in
+        record {
+          report = digits-report zeros (b - 48) bs v filled rest;
+          below = rw (one-add (length bs)) at (digits-below zeros 1 (b - 48) bs v filled (omega arith) rest);
+          most = digits-limit zeros (b - 48) bs v filled (omega arith) rest;
+        }
 
--- a field has as many bytes as columns
+-- a field that begins with a digit 0
+first-byte : (bs : List ℕ) → zeroFirst bs ≡ true → (rest : List ℕ) × (bs ≡ 48 ∷ rest)
+first-byte [] e = absurd (true≢false (sym e))
+first-byte (b ∷ bs) e = (bs, rw (eqb-true b 48 e))
+
+zero-begins : (rest : List ℕ) → readField (48 ∷ rest) ≡ digits true 0 rest
+unfolding readField afterBlanks
+zero-begins rest = refl
+
+module _ (bs : List ℕ) (v : ℕ) (zeros : Bool) (reads : readField bs ≡ Value v zeros) where
+  told : Read (zeroFirst bs) bs v zeros
+  unfolding readField
+  told = blanks-read (zeroFirst bs) bs v zeros reads
+
+  -- The report is what the request says: whether a digit 0 stands in the first column
+  pub report-means : zeros ≡ zeroFirst bs
+  report-means = told .report
+
+  -- The value fits the columns and keeps to the limit
+  pub read-fits : (v < 10 ^ length bs) × (v ≤ limit)
+  read-fits = (told .below, told .most)
+
+  -- An accepted field is one of the two texts of its value, and the report says which
+  pub read-is-written : bs ≡ filledText zeros (length bs) v
+  unfolding readField
+  read-is-written = go zeros (sym report-means) reads
+    where
+      go :
+          (filled : Bool) → zeroFirst bs ≡ filled → readField bs ≡ Value v filled →
+          bs ≡ filledText filled (length bs) v
+      go false first e =
+          after-blanks 0 bs v (rw first at e) ∙ ap (λ k. fieldText k v) (zero-add (length bs))
+      go true first e =
+          let (rest, is) = first-byte bs first in
+          let read = sym (zero-begins rest) ∙ ap readField (sym is) ∙ e in
+          is ∙ zeros-written rest v read ∙ ap (λ (l : List ℕ). zeroText (length l) v) (sym is)
+
+-- ---- each text of a number reads back
+
+-- A field that was accepted when blanks alone could fill one has the same value
+pub as-before :
+    (bs : List ℕ) (v : ℕ) (filled : Bool) → afterBlanks false bs ≡ Value v filled →
+    readField bs ≡ Value v (zeroFirst bs)
+unfolding readField
+as-before bs v filled e = go (zeroFirst bs) refl
+  where
+    go : (zeros : Bool) → zeroFirst bs ≡ zeros → readField bs ≡ Value v zeros
+    go false first = rw first (e ∙ ap (Value v) (blanks-read false bs v filled e .report))
+    go true first =
+        let (rest, is) = first-byte bs first in
+        let alone : digits false 0 rest ≡ Value v filled = unfold afterBlanks in (rw is at e) in
+        let (none, value) = zero-whole rest v filled alone in
+        rw (is, none, value) (zero-begins [] ∙ unfold digits in refl)
+
+-- Either text of a number that fits reads back as that number, and the report says what its first column holds
+pub written-reads-back :
+    (zeros : Bool) (k v : ℕ) → v < 10 ^ k → v ≤ limit → 0 < k →
+    let text = filledText zeros k v in
+    readField text ≡ Value v (zeroFirst text)
+written-reads-back false k v below fits some = as-before (fieldText k v) v false (text-read k v below fits some)
+written-reads-back true zero v below fits some = absurd (omega arith)
+written-reads-back true (suc k) v below fits some = go (decLt v (10 ^ k))
+  where
+    go : Dec (v < 10 ^ k) → readField (zeroText (suc k) v) ≡ Value v (zeroFirst (zeroText (suc k) v))
+    go (yes room) = rw (zeros-lead k v room) (zero-begins (zeroText k v) ∙ zeros-digits k v room fits)
+    go (no full) =
+        let read = text-read (suc k) v below fits some in
+        rw (texts-agree k v (omega arith)) (as-before (fieldText (suc k) v) v false read)
+
+-- In the text filled with zeros that is a 0 exactly where the number leaves a column
+pub zeros-report : (k v : ℕ) → v < 10 ^ suc k → zeroFirst (zeroText (suc k) v) ≡ ltb v (10 ^ k)
+zeros-report k v below = go (decLt v (10 ^ k))
+  where
+    go : Dec (v < 10 ^ k) → zeroFirst (zeroText (suc k) v) ≡ ltb v (10 ^ k)
+    go (yes room) = rw (zeros-lead k v room, lt-ltb v (10 ^ k) room)
+    go (no full) =
+        let most : 10 ^ k ≤ v = omega arith in
+        ap zeroFirst (sym (append-nil (columns (suc k) v) ∙ columns-whole k v most))
+        ∙ columns-report k v [] below
+        ∙ sym (le-ltb v (10 ^ k) most)
+
+-- In the text filled with blanks it is none where there is more than one column
+pub blanks-report : (k v : ℕ) → v < 10 ^ k → 1 < k → zeroFirst (fieldText k v) ≡ false
+unfolding fieldText
+blanks-report zero v below wide = absurd (omega arith)
+blanks-report (suc zero) v below wide = absurd (omega arith)
+blanks-report (suc (suc k)) v below wide =
+    let power : 10 ^ suc (suc k) ≡ 10 ^ suc k * 10 = pow-suc 10 (suc k) in
+    columns-report k (v / 10) ((48 + v % 10) ∷ []) (omega arith)
+
+-- so each reads back with the right report: zeros fill the one where the number leaves a column,
+-- and never the other where there is more than one
+pub zeros-read-back :
+    (k v : ℕ) → v < 10 ^ suc k → v ≤ limit → readField (zeroText (suc k) v) ≡ Value v (ltb v (10 ^ k))
+zeros-read-back k v below fits =
+    written-reads-back true (suc k) v below fits (omega arith) ∙ ap (Value v) (zeros-report k v below)
+
+pub blanks-read-back : (k v : ℕ) → v < 10 ^ k → v ≤ limit → 1 < k → readField (fieldText k v) ≡ Value v false
+blanks-read-back k v below fits wide =
+    written-reads-back false k v below fits (omega arith) ∙ ap (Value v) (blanks-report k v below wide)
+
+-- Fields that differ in filling only hold the same number, or none of them does
+pub refilled-same :
+    (k : ℕ) (a b : List ℕ) → 0 < k → Refilled k a b →
+    (isValue (readField a) ≡ isValue (readField b)) × (valueOf (readField a) ≡ valueOf (readField b))
+refilled-same k a b some (inl e) = (rw e, rw e)
+refilled-same k a b some (inr same) =
+    let left = ap readField (same .left) ∙ back (same .zeros-left) in
+    let right = ap readField (same .right) ∙ back (same .zeros-right) in
+    (ap isValue left ∙ sym (ap isValue right), ap valueOf left ∙ sym (ap valueOf right))
+  where
+    back :
+        (zeros : Bool) →
+        let text = filledText zeros k (same .value) in
+        readField text ≡ Value (same .value) (zeroFirst text)
+    back zeros = written-reads-back zeros k (same .value) (same .below) (same .most) some
+
+-- ---- a field has as many bytes as columns
+
 columns-length : (k v : ℕ) → length (columns k v) ≡ k
 unfolding columns
 columns-length zero v = refl
@@ -275,3 +183,9 @@ pub field-length : (k v : ℕ) → length (fieldText k v) ≡ k
 unfolding fieldText
 field-length zero v = refl
 field-length (suc k) v = simp (length-append, columns-length k) (omega arith)
+
+pub filled-length : (zeros : Bool) (k v : ℕ) → length (filledText zeros k v) ≡ k
+unfolding zeroText
+filled-length false k v = field-length k v
+filled-length true zero v = refl
+filled-length true (suc k) v = simp (length-append, filled-length true k) (omega arith)

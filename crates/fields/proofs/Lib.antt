@@ -1,4 +1,6 @@
+pub mod Digits
+pub mod Blanks
+pub mod Zeros
 pub mod Laws
-pub mod Fillings
 pub mod Turns
 pub mod Places

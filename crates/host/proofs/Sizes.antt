@@ -47,7 +47,8 @@ pub listed-restored : (mol : Molecule) (bytes : List ℕ) (q : Search) → Resto
 unfolding markSearch searchAt
 listed-restored mol bytes q f =
     let lines = layout-facts bytes (f .layout) in
-    sym (listed-read bytes (omega (arith, lines .size)) (listed-kept lines)) ∙ ap (λ (x : Search). x .listed) (f .search)
+    sym (listed-read bytes (omega (arith, lines .size)) (listed-kept lines))
+    ∙ ap (λ (x : Search). x .listed) (f .search)
 
 module _ (mol : Molecule) (q : Search) (formed : wellFormed mol ≡ true) (kept : restorable mol q ≡ true)
     (full : length (q .prefix) ≡ 128) where

@@ -55,7 +55,8 @@ module _ {columns : ℕ} {bytes : List ℕ} {at k : ℕ} where
     passed-fails h e = sym (all-fails k isField i h (rw (p .ends) at e))
 
     pub passed-more :
-        i < k → blanksOnly (fieldAt columns bytes place) ≡ true → FieldsPassed columns bytes at k (i + 1) (place + columns)
+        i < k → blanksOnly (fieldAt columns bytes place) ≡ true →
+        FieldsPassed columns bytes at k (i + 1) (place + columns)
     unfolding fieldsKept
     passed-more h e =
         record {

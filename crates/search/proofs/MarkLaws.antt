@@ -19,7 +19,7 @@ use Rattle.enumeration.specs.RunFacts.{Bounded}
 use Rattle.fields.specs.declared.Number.{Number}
 use Rattle.fields.specs.declared.Number.the-variants.{Value, Bad}
 use Rattle.fields.specs.Field.{limit, readField}
-use Rattle.fields.proofs.Fillings.{read-fits}
+use Rattle.fields.proofs.Laws.{read-fits}
 use Rattle.refusal.specs.declared.Refusal.{Refusal}
 use Rattle.refusal.specs.declared.Refusal.the-variants as refusal
 use Rattle.molecule.specs.declared.Molecule.{Molecule}

@@ -15,8 +15,7 @@ use Rattle.graph.proofs.All.{All, _◁_}
 use Rattle.fields.specs.declared.Number.{Number}
 use Rattle.fields.specs.declared.Number.the-variants.{Value, Bad}
 use Rattle.fields.specs.Field.{limit, fieldText}
-use Rattle.fields.proofs.Laws.{field-length}
-use Rattle.fields.proofs.Fillings.{blanks-read-back, read-is-written}
+use Rattle.fields.proofs.Laws.{blanks-read-back, read-is-written, field-length}
 use Rattle.search.specs.Mark.{fieldsText, fieldAt, blanksOnly, valueOf, valueAt, fieldsKept, valuesAt}
 
 -- fields of c columns have c bytes each

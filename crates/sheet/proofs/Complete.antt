@@ -13,8 +13,7 @@ use Rattle.graph.specs.Every.{allBelow}
 use Rattle.graph.proofs.Below.{and-parts, allBelow-at, allBelow-of}
 use Rattle.fields.specs.declared.Number.the-variants.{Value}
 use Rattle.fields.specs.Field.{readField, fieldText, fieldAt}
-use Rattle.fields.proofs.Laws.{field-length}
-use Rattle.fields.proofs.Fillings.{blanks-read-back}
+use Rattle.fields.proofs.Laws.{blanks-read-back, field-length}
 use Rattle.molecule.specs.Record.{isAtom}
 use Rattle.molecule.proofs.Bonds.{atom-bounds}
 use Rattle.sheet.specs.Bonds.{Bond, atomsKept, noneToItself, noneTwice}
@@ -112,14 +111,16 @@ module _ (x : Bond) (xs : List Bond) (i : ℕ) where
 
 -- the parts of line i
 text-left :
-    (xs : List Bond) (i : ℕ) → i < length xs → Small xs → fieldAt 4 (linesText xs) (9 * i + 0) ≡ Value (bondAt xs i .0) false
+    (xs : List Bond) (i : ℕ) → i < length xs → Small xs →
+    fieldAt 4 (linesText xs) (9 * i + 0) ≡ Value (bondAt xs i .0) false
 unfolding Small
 text-left [] i h small = absurd (omega arith)
 text-left (x ∷ xs) zero h small = first-left x xs (small 0 h .0)
 text-left (x ∷ xs) (suc i) h small = shift-field x xs i 0 ∙ text-left xs i (omega arith) (fewer-small x xs small)
 
 text-right :
-    (xs : List Bond) (i : ℕ) → i < length xs → Small xs → fieldAt 4 (linesText xs) (9 * i + 4) ≡ Value (bondAt xs i .1) false
+    (xs : List Bond) (i : ℕ) → i < length xs → Small xs →
+    fieldAt 4 (linesText xs) (9 * i + 4) ≡ Value (bondAt xs i .1) false
 unfolding Small
 text-right [] i h small = absurd (omega arith)
 text-right (x ∷ xs) zero h small = first-right x xs (small 0 h .1)

@@ -14,7 +14,7 @@ use Rattle.graph.specs.Every.{allBelow}
 use Rattle.graph.proofs.Loops.{all-fails, all-more}
 use Rattle.fields.specs.declared.Number.the-variants.{Value, Bad}
 use Rattle.fields.specs.Field.{fieldAt}
-use Rattle.fields.proofs.Fillings.{read-fits}
+use Rattle.fields.proofs.Laws.{read-fits}
 use Rattle.sheet.specs.declared.Entry.{Entry}
 use Rattle.sheet.specs.Bonds.{Bond}
 use Rattle.sheet.specs.Read.{lineKept, lineOf}

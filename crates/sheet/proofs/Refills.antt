@@ -1,19 +1,19 @@
 -- Sheets that differ in fillings only are read as the same record, and one that was accepted before is read as before.
 -- The rules past rule 2 look at the numbers of the lines alone, and a number is the same in every filling.
-use Prim.Native.Nat.{ℕ, zero, suc, _+_, _*_, _/_, _%_, _≤_, _<_}
+use Prim.Native.Nat.{ℕ, suc, _+_, _*_, _/_, _%_, _<_}
 use native.Mathlib.Omega.{arith}
-use mathlib.Core.Path.{_≡_, refl, ap, ap₂, sym, _∙_}
+use mathlib.Core.Path.{_≡_, refl, ap, sym, _∙_}
 use mathlib.Core.Bool.{Bool, true, false, _&&_, cond, true≢false}
 use mathlib.Core.List.{List}
-use lib.ListN.{length, getD}
+use lib.ListN.{length}
 use lib.Dec.{leb, eqb}
 use borrow.Author.Tests.{leb-true, eqb-true}
 use Rattle.graph.specs.Every.{allBelow}
 use Rattle.graph.proofs.Below.{and-parts, allBelow-at, allBelow-of}
 use Rattle.fields.specs.declared.Number.{Number}
 use Rattle.fields.specs.declared.Number.the-variants.{Value, Bad}
-use Rattle.fields.specs.Field.{afterBlanks, zeroFirst, readField, fieldAt, isValue, valueOf}
-use Rattle.fields.proofs.Fillings.{refilled-same, as-before}
+use Rattle.fields.specs.Field.{fieldAt, isValue, valueOf}
+use Rattle.fields.proofs.Laws.{refilled-same, as-before}
 use Rattle.refusal.specs.declared.Refusal.the-variants as refusal
 use Rattle.refusal.specs.declared.Answer.the-variants.{Accepted}
 use Rattle.sheet.specs.declared.SheetAnswer.{SheetAnswer}

@@ -2,7 +2,6 @@
 -- By the test that was made.
 use Rattle.fields.proofs.may_follow.Statement.{statement}
 use Rattle.fields.proofs.may_follow.Tie as tie
-use borrow.Author.Needs.{needs}
 
 returns : tie.Need-returns
 returns c = rw (c .if1 .taken)

@@ -1,7 +1,7 @@
 -- A whole slice as one number field, by `readField`.
 -- Invariant: the blanks passed change nothing; the first digit hands over to `more_digits`.
 use Prim.Native.Nat.{_-_}
-use mathlib.Core.Path.{_≡_, refl, sym, _∙_}
+use mathlib.Core.Path.{_≡_, sym, _∙_}
 use lib.ListN.{length, drop}
 use native.Mathlib.Omega.{arith}
 use Rattle.fields.specs.Field.{afterBlanks, readField}
@@ -63,5 +63,5 @@ pub read-number-spec : {M : Type 1} → statement M
 read-number-spec =
     tie.close
     (tie.spec
-    Inv-loop μ-loop (λ c κs. tt) loop-holds (λ c. omega arith) returns returns-2 (λ c. omega arith) (λ c κs. tt) (λ c κs. tt)
-    returns-3 (λ c. omega arith) (λ c. omega arith) loop-again returns-4)
+    Inv-loop μ-loop (λ c κs. tt) loop-holds (λ c. omega arith) returns returns-2 (λ c. omega arith) (λ c κs. tt)
+    (λ c κs. tt) returns-3 (λ c. omega arith) (λ c. omega arith) loop-again returns-4)

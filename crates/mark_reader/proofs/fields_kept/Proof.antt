@@ -1,5 +1,5 @@
 -- `mark_reader::fields_kept` meets its contract.
--- The invariant is `FieldsPassed`: the first i fields are number fields that zeros do not fill, and `place` is where they end.
+-- The invariant is `FieldsPassed`: the first i fields are such as a mark accepts, and `place` is where they end.
 use Prim.Native.Nat.{_-_}
 use native.Mathlib.Omega.{arith}
 use mathlib.Core.Path.{_∙_}
