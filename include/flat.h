@@ -9,10 +9,11 @@
 extern "C" {
 #endif
 
-/* Reads a bond sheet. `record` is 2,052 bytes: atoms and bonds as 2 bytes
-   each, low byte first, then 2,048 bytes of rows. Returns 0 (accepted, record
-   written) or the refusal 1 to 8 (record unchanged); 200 when record_len is
-   not 2,052 (nothing written, nothing read). */
+/* Reads a bond sheet, each of its fields filled by blanks or by zeros. `record`
+   is 2,052 bytes: atoms and bonds as 2 bytes each, low byte first, then 2,048
+   bytes of rows. Returns 0 (accepted, record written) or the refusal 1 to 8
+   (record unchanged); 200 when record_len is not 2,052 (nothing written,
+   nothing read). */
 uint32_t flat_read_sheet(const uint8_t *sheet, size_t sheet_len,
                          uint8_t *record, size_t record_len);
 
@@ -33,9 +34,16 @@ uint32_t flat_judge_path(uint64_t atoms, uint64_t bonds,
 
 /* Reads a number field of any width: its value (at most
    9,999,999,999,999,999,999), or UINT64_MAX when the bytes are no number field
-   (blanks, then digits, right-justified, no leading zero, at least one digit)
-   or the value is above that limit. */
+   or the value is above that limit. A number field is digits only, at least
+   one, or blanks and then digits of which the first is not 0 unless it is the
+   only one. So the number stands to the right, and blanks or zeros, but not
+   both, fill the columns in front of it. */
 uint64_t flat_read_field(const uint8_t *field, size_t field_len);
+
+/* Whether zeros fill a number field: 1 exactly when flat_read_field gives a
+   value and the first column is a digit 0, 0 otherwise. In 4 columns zeros fill
+   "0012" and "0000", but not "  12", "   0" and "1234". */
+uint32_t flat_zero_filled(const uint8_t *field, size_t field_len);
 
 /* Writes value right-justified into the whole field, blanks in front; a value
    with more digits than columns keeps its lowest digits (then with zeros where
@@ -78,7 +86,7 @@ uint32_t flat_save(uint64_t atoms, uint64_t bonds,
                    uint8_t *mark, size_t mark_len);
 
 /* 0: the mark's search is written (used and made 0); 9, 14, 15, 16, 17:
-   refused. */
+   refused. A field that zeros fill falls under 14: marks have blanks only. */
 uint32_t flat_restore(uint64_t atoms, uint64_t bonds,
                       const uint8_t *rows, size_t rows_len,
                       const uint8_t *mark, size_t mark_len,

@@ -94,6 +94,9 @@ static uint32_t read_sheet(const char *sheet, size_t len, uint8_t record[RECORD]
     return answer;
 }
 
+/* Reads a sheet written as a string into `record`. */
+#define READ_SHEET(sheet) read_sheet((sheet), sizeof(sheet) - 1, record)
+
 /* A sheet, its answer, and the record left alone. */
 static void refused(const char *sheet, size_t len, uint32_t rule, int line) {
     uint8_t record[RECORD];
@@ -116,8 +119,20 @@ static void sheets(void) {
     EQUAL(read_sheet(document, sizeof document - 1, record), 0);
     CHECK(memcmp(record, expected, RECORD) == 0);
 
+    /* The same sheet filled by zeros, and by both from field to field. */
+    EQUAL(READ_SHEET("00040005\n00010002\n00020003\n00030004\n00010004\n00010003\n"), 0);
+    CHECK(memcmp(record, expected, RECORD) == 0);
+    EQUAL(READ_SHEET("0004   5\n   10002\n0002   3\n   30004\n00010004\n   1   3\n"), 0);
+    CHECK(memcmp(record, expected, RECORD) == 0);
+    EQUAL(READ_SHEET("   40005\n0001   2\n   20003\n0003   4\n   1   4\n00010003\n"), 0);
+    CHECK(memcmp(record, expected, RECORD) == 0);
+
     /* No atoms: all bytes 0. */
-    EQUAL(read_sheet("   0   0\n", 9, record), 0);
+    EQUAL(READ_SHEET("   0   0\n"), 0);
+    CHECK(all_are(record, RECORD, 0));
+    EQUAL(READ_SHEET("00000000\n"), 0);
+    CHECK(all_are(record, RECORD, 0));
+    EQUAL(READ_SHEET("   00000\n"), 0);
     CHECK(all_are(record, RECORD, 0));
 
     /* 128 atoms, the bonds 128-1 and 9-128.
@@ -132,7 +147,11 @@ static void sheets(void) {
     expected[4 + 143] = 0x80;
     expected[4 + 2032] = 0x01;
     expected[4 + 2033] = 0x01;
-    EQUAL(read_sheet(" 128   2\n 128   1\n   9 128\n", 27, record), 0);
+    EQUAL(READ_SHEET(" 128   2\n 128   1\n   9 128\n"), 0);
+    CHECK(memcmp(record, expected, RECORD) == 0);
+    EQUAL(READ_SHEET("01280002\n01280001\n00090128\n"), 0);
+    CHECK(memcmp(record, expected, RECORD) == 0);
+    EQUAL(READ_SHEET("0128   2\n 1280001\n00090128\n"), 0);
     CHECK(memcmp(record, expected, RECORD) == 0);
 
     /* 1,024 bonds are 0x0400: byte 2 is 0, byte 3 is 4. They join each of
@@ -173,8 +192,14 @@ static void sheets(void) {
     REFUSED("   0   0\r\n", 1);
     /* 2: a field or a line end has the wrong bytes. */
     REFUSED("   0    \n", 2);
-    REFUSED("0000   0\n", 2);
     REFUSED("  04   0\n", 2);
+    REFUSED(" 012   0\n", 2);
+    REFUSED("0 12   0\n", 2);
+    REFUSED("00 4   0\n", 2);
+    REFUSED("012    0\n", 2);
+    REFUSED("0004  00\n", 2);
+    REFUSED("00040001\n00010 02\n", 2);
+    REFUSED("00040001\n 0010002\n", 2);
     REFUSED("4      0\n", 2);
     REFUSED(" 4     0\n", 2);
     REFUSED(" 1 2   0\n", 2);
@@ -206,6 +231,16 @@ static void sheets(void) {
     /* 8: the same bond twice, in either order. */
     REFUSED("   4   2\n   1   2\n   1   2\n", 8);
     REFUSED("   4   2\n   1   2\n   2   1\n", 8);
+    /* The same rules on sheets that zeros fill, in whole or in part. */
+    REFUSED("00040000\n0", 1);
+    REFUSED("00040000\r", 2);
+    REFUSED("01290000\n", 3);
+    REFUSED("01281025\n", 4);
+    REFUSED("00040001\n", 5);
+    REFUSED("00040001\n00000002\n", 6);
+    REFUSED("00040001\n00020005\n", 6);
+    REFUSED("00040001\n0003   3\n", 7);
+    REFUSED("00040002\n00010002\n0002   1\n", 8);
 
     /* The order of the rules: each over the whole sheet before the next. */
     REFUSED("  04   0\n\n", 1);
@@ -396,14 +431,17 @@ static void judge(void) {
     EQUAL(flat_judge_path(4, 5, rows, ROWS - 1, 0, 0, rows, 0), 200);
 }
 
-static uint64_t read_field(const char *field, size_t len) {
+/* A field, its value, and whether zeros fill it. */
+static void field_is(const char *field, size_t len, uint64_t value, uint32_t zeros, int line) {
     uint8_t *given = exact(field, len);
-    uint64_t value = flat_read_field(given, len);
+    check_number(flat_read_field(given, len), value, line, "value of the field");
+    check_number(flat_zero_filled(given, len), zeros, line, "zeros fill the field");
     free(given);
-    return value;
 }
 
-#define READ(field) read_field((field), sizeof(field) - 1)
+#define ZEROS(field, value) field_is((field), sizeof(field) - 1, (value), 1, __LINE__)
+#define NO_ZEROS(field, value) field_is((field), sizeof(field) - 1, (value), 0, __LINE__)
+#define NO_NUMBER(field) NO_ZEROS(field, UINT64_MAX)
 
 /* Writes a value into a field with a byte on either side. */
 static int writes(uint64_t value, const char *expected) {
@@ -416,31 +454,63 @@ static int writes(uint64_t value, const char *expected) {
 }
 
 static void fields(void) {
-    EQUAL(READ("   0"), 0);
-    EQUAL(READ("   7"), 7);
-    EQUAL(READ("  10"), 10);
-    EQUAL(READ(" 128"), 128);
-    EQUAL(READ("9999"), 9999);
-    EQUAL(READ("5"), 5);
-    EQUAL(READ("                   0"), 0);
-    EQUAL(READ(" 9999999999999999999"), UINT64_C(9999999999999999999));
-    EQUAL(READ("9999999999999999999"), UINT64_C(9999999999999999999));
+    NO_ZEROS("   0", 0);
+    NO_ZEROS("   7", 7);
+    NO_ZEROS("  10", 10);
+    NO_ZEROS("  12", 12);
+    NO_ZEROS(" 128", 128);
+    NO_ZEROS("                   0", 0);
+    NO_ZEROS(" 9999999999999999999", UINT64_C(9999999999999999999));
+    /* Filled by zeros: a digit 0 in the first column. */
+    ZEROS("0012", 12);
+    ZEROS("0000", 0);
+    ZEROS("0007", 7);
+    ZEROS("0128", 128);
+    ZEROS("0999", 999);
+    ZEROS("0", 0);
+    ZEROS("00", 0);
+    ZEROS("00000000000000000000", 0);
+    ZEROS("00000000000000000012", 12);
+    ZEROS("09999999999999999999", UINT64_C(9999999999999999999));
+    ZEROS("0000000000000000000000000000000000000000000000000000000000000007", 7);
+    /* Filled by neither. */
+    NO_ZEROS("1234", 1234);
+    NO_ZEROS("1000", 1000);
+    NO_ZEROS("9999", 9999);
+    NO_ZEROS("5", 5);
+    NO_ZEROS("9999999999999999999", UINT64_C(9999999999999999999));
     /* One above the limit, and 2 to the 64th plus one. */
-    EQUAL(READ("10000000000000000000"), UINT64_MAX);
-    EQUAL(READ("18446744073709551617"), UINT64_MAX);
+    NO_NUMBER("10000000000000000000");
+    NO_NUMBER(" 10000000000000000000");
+    NO_NUMBER("010000000000000000000");
+    NO_NUMBER("18446744073709551617");
+    NO_NUMBER("00018446744073709551617");
+    /* Two fillings. */
+    NO_NUMBER(" 012");
+    NO_NUMBER("0 12");
+    NO_NUMBER("00 1");
+    NO_NUMBER("  00");
+    NO_NUMBER(" 000");
+    NO_NUMBER("0   ");
+    NO_NUMBER(" 0000000000000000012");
+    NO_NUMBER("0                 12");
     /* No fields. */
-    EQUAL(READ(""), UINT64_MAX);
-    EQUAL(READ("    "), UINT64_MAX);
-    EQUAL(READ("0012"), UINT64_MAX);
-    EQUAL(READ("  00"), UINT64_MAX);
-    EQUAL(READ("12  "), UINT64_MAX);
-    EQUAL(READ("1 2 "), UINT64_MAX);
-    EQUAL(READ(" 1 2"), UINT64_MAX);
-    EQUAL(READ("\t\t\t1"), UINT64_MAX);
-    EQUAL(READ("\0\0\0001"), UINT64_MAX);
-    EQUAL(READ("   /"), UINT64_MAX);
-    EQUAL(READ("   :"), UINT64_MAX);
-    EQUAL(READ("  +1"), UINT64_MAX);
+    NO_NUMBER("");
+    NO_NUMBER(" ");
+    NO_NUMBER("    ");
+    NO_NUMBER("12  ");
+    NO_NUMBER("012 ");
+    NO_NUMBER("1 2 ");
+    NO_NUMBER(" 1 2");
+    NO_NUMBER("\t\t\t1");
+    NO_NUMBER("\0\0\0001");
+    NO_NUMBER("   /");
+    NO_NUMBER("   :");
+    NO_NUMBER("000/");
+    NO_NUMBER("000:");
+    NO_NUMBER("00\n1");
+    NO_NUMBER("0x12");
+    NO_NUMBER("  +1");
 
     CHECK(writes(0, "   0"));
     CHECK(writes(7, "   7"));
@@ -722,6 +792,22 @@ static void searches(void) {
     MARK_REFUSED("   0   0   0   4   5   1   3\n" LINE_2 LINE_3, 14);
     MARK_REFUSED("   0   0   0   4   5 128   3\n" LINE_2 LINE_3, 14);
     MARK_REFUSED(LINE_1 "                   5                   210000000000000000000\n" LINE_3, 14);
+    /* Each field of the mark filled by zeros, then all. */
+    MARK_REFUSED("0000   0   0   4   5   2   3\n" LINE_2 LINE_3, 14);
+    MARK_REFUSED("   00000   0   4   5   2   3\n" LINE_2 LINE_3, 14);
+    MARK_REFUSED("   0   00000   4   5   2   3\n" LINE_2 LINE_3, 14);
+    MARK_REFUSED("   0   0   00004   5   2   3\n" LINE_2 LINE_3, 14);
+    MARK_REFUSED("   0   0   0   40005   2   3\n" LINE_2 LINE_3, 14);
+    MARK_REFUSED("   0   0   0   4   50002   3\n" LINE_2 LINE_3, 14);
+    MARK_REFUSED("   0   0   0   4   5   20003\n" LINE_2 LINE_3, 14);
+    MARK_REFUSED(LINE_1 "00000000000000000005                   2                   0\n" LINE_3, 14);
+    MARK_REFUSED(LINE_1 "                   500000000000000000002                   0\n" LINE_3, 14);
+    MARK_REFUSED(LINE_1 "                   5                   200000000000000000000\n" LINE_3, 14);
+    MARK_REFUSED(LINE_1 LINE_2 "0001   2\n", 14);
+    MARK_REFUSED(LINE_1 LINE_2 "   10002\n", 14);
+    MARK_REFUSED("0000000000000004000500020003\n"
+                 "000000000000000000050000000000000000000200000000000000000000\n"
+                 "00010002\n", 14);
     /* 15: n or m. 16: kind, s, t. 17: p or c. */
     MARK_REFUSED("   0   0   0   5   5   2   3\n" LINE_2 LINE_3, 15);
     MARK_REFUSED("   0   0   0   4   6   2   3\n" LINE_2 LINE_3, 15);

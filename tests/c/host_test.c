@@ -213,6 +213,28 @@ static void document_by_output(void) {
     wrote(call(SHEET, NULL, 0, 16, 30, 700), 101, records, 8, mark, mark_len, __LINE__);
 }
 
+/* The document's sheet filled by zeros, and by both: the same answers, rings and
+   marks, and blanks in the marks. */
+static void document_by_filling(void) {
+    static const char sheets[2][55] = {
+        "00040005\n00010002\n00020003\n00030004\n00010004\n00010003\n",
+        "0004   5\n   10002\n0002   3\n   30004\n00010004\n   1   3\n",
+    };
+    char mark[128], start[128];
+    for (int i = 0; i < 2; i++) {
+        for (int trials = 0; trials <= 16; trials++) {
+            size_t mark_len = mark_after(trials, mark);
+            size_t used = 4 * (size_t)after[trials].listed;
+            wrote(call(sheets[i], 54, NULL, 0, (uint64_t)trials, 8, MARK), trials < 16 ? 103 : 101,
+                  records, used, mark, mark_len, __LINE__);
+        }
+        /* From a mark that a call on the sheet filled by blanks wrote. */
+        size_t start_len = mark_after(5, start), mark_len = mark_after(16, mark);
+        wrote(call(sheets[i], 54, start, start_len, 16, 8, MARK), 101, records, 8, mark, mark_len,
+              __LINE__);
+    }
+}
+
 /* A call refused, with neither output written. */
 #define REFUSED(sheet, mark, room, rule)                                                          \
     wrote(call(sheet, sizeof(sheet) - 1, mark, sizeof(mark) - 1, 16, 20, room), rule, "", 0, "", 0, \
@@ -226,6 +248,10 @@ static void refusals(void) {
     REFUSED(" 1291025\n   x   2\n", "", MARK, 2);
     REFUSED("   4   1\n   1   2\r", "", MARK, 2);
     REFUSED("  04   1\n   1   2\n", "", MARK, 2);
+    REFUSED("0 04   1\n   1   2\n", "", MARK, 2);
+    REFUSED("00040001\n0001 002\n", "", MARK, 2);
+    REFUSED("01291025\n00000000\n", "", MARK, 3);
+    REFUSED("00040003\n00010002\n0003   4\n   20001\n", "", MARK, 8);
     REFUSED(" 1291025\n   0   0\n", "", MARK, 3);
     REFUSED(" 1281025\n   0   0\n", "", MARK, 4);
     REFUSED("   4   2\n   0   0\n", "", MARK, 5);
@@ -240,6 +266,15 @@ static void refusals(void) {
     REFUSED(document, LINE_1 LINE_2 "   1   2", MARK, 14);
     REFUSED(document, LINE_1 LINE_2 LINE_3 "\n", MARK, 14);
     REFUSED(document, LINE_1 LINE_2 "   1  02\n", MARK, 14);
+    /* Fields filled by zeros, of 4 columns and of 20. */
+    REFUSED(document, LINE_1 LINE_2 "   10002\n", MARK, 14);
+    REFUSED(document, "0000   0   0   4   5   2   3\n" LINE_2 LINE_3, MARK, 14);
+    REFUSED(document, "   0   0   00004   5   2   3\n" LINE_2 LINE_3, MARK, 14);
+    REFUSED(document, "   0   0   0   4   50002   3\n" LINE_2 LINE_3, MARK, 14);
+    REFUSED(document, LINE_1 "00000000000000000005                   2                   0\n" LINE_3,
+            MARK, 14);
+    REFUSED(document, LINE_1 "                   5                   200000000000000000000\n" LINE_3,
+            MARK, 14);
     REFUSED(document, "   2   0   0   9   5   2   0\n" LINE_2 "   1\n", MARK, 14);
     REFUSED(document, "   2   0   0   5   5   2   0\n" LINE_2 LINE_3, MARK, 15);
     REFUSED(document, "   0   0   0   4   4   2   3\n" LINE_2 LINE_3, MARK, 15);
@@ -357,6 +392,13 @@ static void mark_readers(void) {
     EQUAL(ringlist_listed(mark, 90), 0);
     memcpy(mark + 69, "                 042", 20);
     EQUAL(ringlist_listed(mark, 700), 0);
+    memcpy(mark + 69, "00000000000000000042", 20);
+    EQUAL(ringlist_listed(mark, 700), 0);
+    EQUAL(ringlist_mark_length(mark, 700), 99);
+    memcpy(mark + 69, "09999999999999999999", 20);
+    EQUAL(ringlist_listed(mark, 700), 0);
+    memcpy(mark + 69, " 9999999999999999999", 20);
+    EQUAL(ringlist_listed(mark, 700), UINT64_C(9999999999999999999));
     memcpy(mark + 20, " 127", 4);
     EQUAL(ringlist_mark_length(mark, 700), 599);
     EQUAL(ringlist_mark_length(mark, 599), 599);
@@ -365,6 +407,13 @@ static void mark_readers(void) {
     EQUAL(ringlist_mark_length(mark, 700), 0);
     memcpy(mark + 20, "   0", 4);
     EQUAL(ringlist_mark_length(mark, 91), 91);
+    memcpy(mark + 20, "0000", 4);
+    EQUAL(ringlist_mark_length(mark, 700), 0);
+    memcpy(mark + 20, "0002", 4);
+    EQUAL(ringlist_mark_length(mark, 700), 0);
+    EQUAL(ringlist_listed(mark, 700), UINT64_C(9999999999999999999));
+    memcpy(mark + 20, " 002", 4);
+    EQUAL(ringlist_mark_length(mark, 700), 0);
 }
 
 static void *resume_in_thread(void *calls) {
@@ -417,6 +466,7 @@ int main(int words, char **word) {
     (void)word;
     document_by_budget();
     document_by_output();
+    document_by_filling();
     refusals();
     zero_lengths();
     overlap();

@@ -28,6 +28,7 @@ mod c {
             list_len: usize,
         ) -> u32;
         pub fn flat_read_field(field: *const u8, field_len: usize) -> u64;
+        pub fn flat_zero_filled(field: *const u8, field_len: usize) -> u32;
         pub fn flat_write_field(field: *mut u8, field_len: usize, value: u64);
         pub fn flat_start_rings(
             atoms: u64,
@@ -148,6 +149,13 @@ pub fn judge_path(atoms: u64, bonds: u64, rows: &[u8], s: u64, t: u64, list: &[u
 pub fn read_field(field: &[u8]) -> u64 {
     // SAFETY: the pointer comes with the length of a live slice, only read.
     unsafe { c::flat_read_field(field.as_ptr(), field.len()) }
+}
+
+pub fn zero_filled(field: &[u8]) -> bool {
+    // SAFETY: the pointer comes with the length of a live slice, only read.
+    let answer = unsafe { c::flat_zero_filled(field.as_ptr(), field.len()) };
+    assert!(answer <= 1, "flat_zero_filled answers {answer}");
+    answer == 1
 }
 
 pub fn write_field(field: &mut [u8], value: u64) {

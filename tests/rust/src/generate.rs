@@ -1,7 +1,7 @@
 //! Molecules, sheets, records and atom lists, right and damaged.
 
 use crate::model::sheet::LINE;
-use crate::model::{Record, MAX_ATOMS, MAX_BONDS, ROWS};
+use crate::model::{self, Record, MAX_ATOMS, MAX_BONDS, ROWS};
 use crate::rng::Rng;
 
 /// Values at the edges of the rules and of a 4-column field.
@@ -53,6 +53,11 @@ pub fn field(value: u64) -> [u8; 4] {
     field
 }
 
+/// The same filled by zeros.
+pub fn zero_field(value: u64) -> [u8; 4] {
+    field(value).map(|byte| if byte == b' ' { b'0' } else { byte })
+}
+
 /// A line of two fields.
 pub fn line(first: u64, second: u64) -> [u8; LINE] {
     let mut line = [b'\n'; LINE];
@@ -68,6 +73,33 @@ pub fn sheet(n: u64, m: u64, bonds: &[(u64, u64)]) -> Vec<u8> {
         sheet.extend_from_slice(&line(a, b));
     }
     sheet
+}
+
+/// The sheet with each field that is a number written anew, filled by zeros
+/// where `zeros` says so and by blanks elsewhere. All other bytes stay.
+fn refilled(sheet: &[u8], mut zeros: impl FnMut() -> bool) -> Vec<u8> {
+    let mut sheet = sheet.to_vec();
+    for line in sheet.chunks_mut(LINE) {
+        for bytes in line.chunks_exact_mut(4) {
+            if let Some(reading) = model::field::read(bytes) {
+                bytes.copy_from_slice(&match zeros() {
+                    true => zero_field(reading.value),
+                    false => field(reading.value),
+                });
+            }
+        }
+    }
+    sheet
+}
+
+/// The sheet with each number filled by zeros.
+pub fn zero_filled(sheet: &[u8]) -> Vec<u8> {
+    refilled(sheet, || true)
+}
+
+/// The sheet with each number filled by blanks or by zeros, at random.
+pub fn mixed(rng: &mut Rng, sheet: &[u8]) -> Vec<u8> {
+    refilled(sheet, || rng.one_in(2))
 }
 
 /// Atoms 1 to n, each bonded to the next.
@@ -289,8 +321,9 @@ fn put_edge(rng: &mut Rng, sheet: &mut [u8]) {
     put(sheet, line, rng.index(2), value);
 }
 
-/// A number written wrongly: zeros in front, not to the right, with a sign,
-/// with a hole, or not at all.
+/// A number written wrongly: with zeros behind blanks, blanks behind a zero, not
+/// to the right, with a sign, with a hole, or not at all. A long number may
+/// come out right.
 fn put_wrong_filling(rng: &mut Rng, sheet: &mut [u8]) {
     let value = match rng.below(4) {
         0 => 0,
@@ -298,14 +331,15 @@ fn put_wrong_filling(rng: &mut Rng, sheet: &mut [u8]) {
         2 => rng.below(130),
         _ => rng.below(1026),
     };
-    let text = match rng.below(8) {
-        0 => format!("{value:04}"),
+    let text = match rng.below(9) {
+        0 => format!("0{value:>3}"),
         1 => format!("{value:03}"),
         2 => format!("{value:02}"),
         3 => format!("{value:<4}"),
         4 => format!("{value} "),
-        5 => format!("+{value}"),
-        6 => format!("1 {}", value % 10),
+        5 => format!("{value:03} "),
+        6 => format!("+{value}"),
+        7 => format!("1 {}", value % 10),
         _ => String::new(),
     };
     let text = format!("{text:>4}");

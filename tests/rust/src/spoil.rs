@@ -121,6 +121,21 @@ pub fn put(mark: &mut [u8], at: usize, columns: usize, text: &str) {
     mark[at..at + columns].copy_from_slice(&text.as_bytes()[text.len() - columns..]);
 }
 
+/// Writes a field, right before, with zeros for its blanks.
+pub fn zero_fill(mark: &mut [u8], at: usize, columns: usize) {
+    for byte in &mut mark[at..at + columns] {
+        if *byte == b' ' {
+            *byte = b'0';
+        }
+    }
+}
+
+/// The places and columns of all fields of a mark that follows the layout.
+pub fn places(mark: &[u8]) -> Vec<(usize, usize)> {
+    let third = (THIRD..mark.len() - 1).step_by(4).map(|at| (at, 4));
+    (0..10).map(place).chain(third).collect()
+}
+
 /// The place of one of the seven fields of line 1, or of one of the three
 /// counts.
 pub fn place(which: usize) -> (usize, usize) {
@@ -188,16 +203,17 @@ pub fn mark(rng: &mut Rng, n: u64, kind: u64, mark: &mut Vec<u8>) {
             let count = rng.pick(&COUNTS);
             put(mark, FIRST + 20 * rng.index(3), 20, count);
         }
-        // Zeros in front, not to the right, with a sign, with a hole, or
-        // nothing at all.
+        // Filled by zeros, zeros behind blanks, not to the right, with a sign,
+        // with a hole, or nothing at all.
         7 => {
             let value = rng.below(130);
-            let text = match rng.below(6) {
+            let text = match rng.below(7) {
                 0 => format!("{value:0columns$}"),
                 1 => format!("{value:02}"),
                 2 => format!("{value:<columns$}"),
                 3 => format!("+{value}"),
                 4 => format!("1 {}", value % 10),
+                5 => return zero_fill(mark, field_at, columns),
                 _ => String::new(),
             };
             put(mark, field_at, columns, &text);

@@ -221,7 +221,11 @@ fn random_calls_of(name: &'static str, seed: u64) -> u64 {
             } else {
                 &reached
             },
-            sheet: molecule.sheet(),
+            sheet: match rng.below(4) {
+                0 => generate::zero_filled(&molecule.sheet()),
+                1 => generate::mixed(&mut rng, &molecule.sheet()),
+                _ => molecule.sheet(),
+            },
             places: places(&mut rng, &listed),
         };
         calls_on(&mut entry, &subject, &other, &mut rng);
@@ -252,13 +256,16 @@ fn order_of_rules() {
         (1, line("   4   5\n   1   2\n  ")),
         (1, line(" 129   5\nx  1   1\n  ")),
         (2, line(" 1299999\n   1   x\n")),
+        (2, line("01299999\n00010 01\n")),
         (3, line(" 1299999\n   1   1\n")),
+        (3, line("01299999\n00010001\n")),
         (4, line("   41025\n   0   0\n")),
         (4, line(&format!("   41025\n{many}"))),
         (5, line("   4   2\n   0   0\n")),
         (6, line("   4   3\n   1   1\n   1   1\n   0   2\n")),
         (7, line("   4   3\n   1   2\n   1   2\n   2   2\n")),
         (8, line("   4   3\n   1   2\n   3   4\n   2   1\n")),
+        (8, line("00040003\n   10002\n00030004\n0002   1\n")),
     ];
     let mark = |line1: &str, line3: &str| {
         let counts = "                   5                   2                   0";
@@ -272,6 +279,9 @@ fn order_of_rules() {
         (Some(14), line("\n")),
         (Some(14), mark("   2   0   0   5   5   1   0", "   0   9")),
         (Some(14), mark("   0   0   0   4   5  -2   3", "   1   2")),
+        (Some(14), mark("0000   0   0   4   5   2   3", "   1   2")),
+        (Some(14), mark("   2   0   0   5   50002   0", "   9   9")),
+        (Some(14), mark("   0   0   0   4   5   2   3", "   10002")),
         (Some(15), mark("   2   0   0   5   5   2   0", "   9   9")),
         (Some(15), mark("   0   0   0   4   4   2   3", "   1   2")),
         (Some(16), mark("   2   0   0   4   5   2   0", "   9   9")),
@@ -399,6 +409,106 @@ fn longest() {
     assert_eq!(sheet.len(), 9_225);
     let call = (sheet.as_slice(), Ok(&lists as &dyn Lists));
     entry.resume(call, &[], 10, (500, 599)).expect("accepted");
+}
+
+/// Sheets filled by zeros, and by blanks or zeros from field to field: the same
+/// answers, rings and marks as from the sheet filled by blanks, call by call, and
+/// blanks only in the marks.
+#[test]
+fn both_fillings() {
+    let mut entry = Entry::new(85);
+    let mut with_both = 0;
+    let cases = sampled(3_000);
+    for case in 0..cases {
+        let _case = Case("both_fillings", case);
+        let mut rng = Rng::of_case(0x48_4F53_5436, case);
+        let molecule = generate::any_searched(&mut rng);
+        let (record, blanks) = (molecule.record(), molecule.sheet());
+        let zeros = generate::zero_filled(&blanks);
+        let mixed = generate::mixed(&mut rng, &blanks);
+        with_both += u64::from(mixed != blanks && mixed != zeros);
+        let (listed, reached) = (Listed::new(&record), Reached::new(&record));
+        let lists: &dyn Lists = if record.atoms <= BRUTE {
+            &listed
+        } else {
+            &reached
+        };
+        let mut mark = Vec::new();
+        for _ in 0..3 {
+            let (budget, room) = (
+                any_budget(&mut rng, record.atoms),
+                any_room(&mut rng, record.atoms),
+            );
+            let [first, second, third] = [&blanks, &zeros, &mixed].map(|sheet| {
+                let call = (sheet.as_slice(), Ok(lists));
+                let resumed = entry.resume(call, &mark, budget, (room, 599));
+                resumed.expect("accepted")
+            });
+            assert!(first == second && first == third);
+            mark = first.mark;
+            for (at, columns) in spoil::places(&mark) {
+                assert_ne!(mark[at], b'0', "a field of {columns} columns at {at}");
+            }
+        }
+        // Whole listings of small molecules, by the library alone.
+        if record.atoms <= BRUTE {
+            let [first, second, third] = [&blanks, &zeros, &mixed].map(|sheet| {
+                let whole = host::list(sheet, &[], || (1_000, 129));
+                (whole.sheet, whole.calls, whole.stop, whole.mark)
+            });
+            assert!(first == second && first == third);
+        }
+    }
+    entry.print();
+    println!("{cases} molecules, {with_both} sheets with both fillings");
+    assert!(with_both >= cases / 2);
+    entry.at_least(300, &[101, 103, 104]);
+}
+
+/// The two readers of a mark take a field that zeros fill as no number, and do
+/// not look at the others.
+#[test]
+fn mark_readers_and_zeros() {
+    for case in 0..sampled(2_000) {
+        let _case = Case("mark_readers_and_zeros", case);
+        let mut rng = Rng::of_case(0x48_4F53_5437, case);
+        let n = rng.between(1, 128);
+        let p = generate::random_list(&mut rng, n, 127);
+        let mut search = Search::at(Task::Rings, &p, rng.between(0, n + 1));
+        search.listed = match rng.below(8) {
+            0 => 0,
+            1 => LIMIT,
+            _ => (rng.next() >> rng.below(64)).min(LIMIT),
+        };
+        let mark = mark::write(&Record::new(n), &search);
+        let right = (91 + 4 * p.len(), search.listed);
+        let readers = |bytes: &[u8]| {
+            let answers = (host::mark_length(bytes), host::listed(bytes));
+            let model = (model::host::mark_length(bytes), model::host::listed(bytes));
+            assert_eq!(answers, model, "{}", bytes.escape_ascii());
+            answers
+        };
+        assert_eq!(readers(&mark), right);
+        let mut every = mark.clone();
+        for (at, columns) in spoil::places(&mark) {
+            let mut changed = mark.clone();
+            spoil::zero_fill(&mut changed, at, columns);
+            assert_ne!(changed, mark);
+            let expected = match at {
+                20 => (0, right.1),
+                69 => (right.0, 0),
+                _ => right,
+            };
+            assert_eq!(readers(&changed), expected, "the field at {at}");
+            spoil::zero_fill(&mut every, at, columns);
+        }
+        assert_eq!(readers(&every), (0, 0));
+    }
+    // A length of four digits fills its columns.
+    let mut long = vec![b' '; 91 + 4_000];
+    long[20..24].copy_from_slice(b"1000");
+    assert_eq!(host::mark_length(&long), 4_091);
+    assert_eq!(host::mark_length(&long[..4_090]), 0);
 }
 
 /// The two readers of a mark, on marks, damaged marks and noise.

@@ -8,7 +8,7 @@ use flat_tests::model::machine::{Search, Stop};
 use flat_tests::model::mark::{self, LONGEST_MARK};
 use flat_tests::model::{lister, Record};
 use flat_tests::rng::Rng;
-use flat_tests::spoil::{lengthened, place, put, COUNTS, EDGES};
+use flat_tests::spoil::{lengthened, place, places, put, zero_fill, COUNTS, EDGES};
 use flat_tests::{sample, sampled, spoil};
 
 /// Compares the answer to a mark. An accepted one, saved again, gives the same
@@ -153,6 +153,93 @@ fn edges_of_fields() {
     }
     calls.print();
     calls.at_least(1_000, "restore", &[0, 14, 15, 16, 17]);
+}
+
+/// Each field of a mark filled by zeros, of 4 and of 20 columns, 0 among the
+/// numbers, and all fields: rule 14, as marks have blanks only.
+#[test]
+fn filled_by_zeros() {
+    let mut calls = Calls::new(70);
+    let (mut fields, mut of_zero) = (0, [0, 0]);
+    for (record, marks) in small_marks() {
+        let lists = Listed::new(&record);
+        for mark in marks.iter().step_by(sample().min(9) as usize) {
+            assert!(compare(&mut calls, &lists, mark).is_ok());
+            let mut every = mark.clone();
+            for (at, columns) in places(mark) {
+                let mut changed = mark.clone();
+                zero_fill(&mut changed, at, columns);
+                assert_ne!(&changed, mark);
+                assert_eq!(compare(&mut calls, &lists, &changed), Err(14));
+                zero_fill(&mut every, at, columns);
+                fields += 1;
+                if changed[at..at + columns].iter().all(|&byte| byte == b'0') {
+                    of_zero[usize::from(columns == 20)] += 1;
+                }
+                // Two fillings, if two columns or more are filled.
+                if mark[at + 1] == b' ' {
+                    changed[at] = b' ';
+                    assert_eq!(compare(&mut calls, &lists, &changed), Err(14));
+                }
+            }
+            assert!(!every.contains(&b' '));
+            assert_eq!(compare(&mut calls, &lists, &every), Err(14));
+        }
+    }
+    // 4 and 4, 6 and 2, 12 and 12 marks of ten fields, with 145 atoms in their
+    // beginnings. Kind, s and t are 0 in 22 ring marks, the length in one mark of
+    // each task; in the first of each extensions and listed.
+    if sample() == 1 {
+        assert_eq!(fields, 400 + 145);
+        assert_eq!(of_zero, [3 * 22 + 6, 2 * 6]);
+    }
+}
+
+/// A number that fills its columns is filled by neither, and right in a mark:
+/// 1,024 bonds. In 20 columns none does: it would be above the limit.
+#[test]
+fn full_columns() {
+    let mut calls = Calls::new(71);
+    let record = generate::random_molecule(&mut Rng::new(72), 128, 1024).record();
+    let reached = Reached::new(&record);
+    for task in [Task::Rings, Task::Paths { s: 100, t: 127 }] {
+        let mut search = Search::at(task, &[], 128);
+        [search.trials, search.extensions, search.listed] = [LIMIT, 0, LIMIT / 10];
+        let mark = mark::write(&record, &search);
+        assert_eq!(mark[16..20], *b"1024");
+        assert_eq!(compare(&mut calls, &reached, &mark), Ok(search));
+        for (at, columns) in places(&mark) {
+            let mut changed = mark.clone();
+            zero_fill(&mut changed, at, columns);
+            let answer = compare(&mut calls, &reached, &changed);
+            assert_eq!(answer.is_ok(), at == 16);
+            assert!(at == 16 || answer == Err(14));
+        }
+    }
+}
+
+/// Every field over blank, 0, 1, 9, line feed and x, 6 to the 4th, in each field
+/// of 4 columns. 81 of them follow the layout, 27 filled by blanks and 54 by
+/// neither; of the length only the one that tells it.
+#[test]
+fn every_field() {
+    let mut calls = Calls::new(73);
+    let record = generate::document().record();
+    let lists = Listed::new(&record);
+    let mark = mark::write(&record, &Search::at(Task::Rings, &[1], 3));
+    for (at, _) in places(&mark).iter().filter(|(_, columns)| *columns == 4) {
+        let mut numbers = 0;
+        for number in (0..6usize.pow(4)).step_by(sample().min(5) as usize) {
+            let mut changed = mark.clone();
+            for (place, byte) in changed[*at..at + 4].iter_mut().enumerate() {
+                *byte = b" 019\nx"[number / 6usize.pow(place as u32) % 6];
+            }
+            numbers += u64::from(compare(&mut calls, &lists, &changed) != Err(14));
+        }
+        if sample() == 1 {
+            assert_eq!(numbers, if *at == 20 { 1 } else { 81 }, "fields at {at}");
+        }
+    }
 }
 
 /// Lengths up to 127 belong to the layout, longer ones do not, whatever the

@@ -131,6 +131,9 @@ fn refusals() {
         (2, "   4   5\r"),
         (2, "   4  05\n"),
         (2, "   4 5  \n"),
+        (2, " 004   5\n"),
+        (2, "00040 05\n"),
+        (2, "0004005 \n"),
         (3, " 129   0\n"),
         (4, "   41025\n"),
         (5, "   4   1\n"),
@@ -139,6 +142,10 @@ fn refusals() {
         (6, "   4   1\n   0   2\n"),
         (7, "   4   1\n   2   2\n"),
         (8, "   4   2\n   1   2\n   2   1\n"),
+        (3, "01290000\n"),
+        (5, "00040001\n"),
+        (6, "0004   1\n   10005\n"),
+        (8, "00040002\n   10002\n0002   1\n"),
     ] {
         expect(input.as_bytes(), &format!("refused{rule:4}\n"));
     }
@@ -207,6 +214,43 @@ fn example_sheets() {
     }
 }
 
+/// Sheets filled by zeros, and by both: the same text, with blanks as before.
+#[test]
+fn both_fillings() {
+    let text = "   1   2   3\n   1   3   4\n                   2                   3                  16\n";
+    expect(
+        b"00040005\n00010002\n00020003\n00030004\n00010004\n00010003\n",
+        text,
+    );
+    expect(
+        b"0004   5\n   10002\n0002   3\n   30004\n00010004\n   1   3\n",
+        text,
+    );
+    expect(
+        b"00000000\n",
+        "                   0                   0                   0\n",
+    );
+    let mut rng = Rng::new(10);
+    let others = examples::NAMES
+        .iter()
+        .filter(|name| **name != "buckminsterfullerene");
+    let mut sheets: Vec<Vec<u8>> = others.map(|name| examples::bytes(name)).collect();
+    sheets.push(generate::ring(128).sheet());
+    for _ in 0..sampled(200) {
+        sheets.push(generate::any_searched(&mut rng).sheet());
+    }
+    for blanks in sheets {
+        let text = run(&blanks);
+        assert!(text == expected(&blanks));
+        for sheet in [
+            generate::zero_filled(&blanks),
+            generate::mixed(&mut rng, &blanks),
+        ] {
+            assert!(run(&sheet) == text, "{}", sheet.escape_ascii());
+        }
+    }
+}
+
 #[test]
 fn reference_molecules() {
     for (molecule, ..) in generate::references() {
@@ -226,7 +270,10 @@ fn random_sheets() {
     let cases = sampled(1_500);
     for case in 0..cases {
         let mut rng = Rng::of_case(0x5249_4E47, case);
-        let right = generate::any_searched(&mut rng).sheet();
+        let mut right = generate::any_searched(&mut rng).sheet();
+        if rng.one_in(2) {
+            right = generate::mixed(&mut rng, &right);
+        }
         match case % 3 {
             0 => compare(&right),
             _ => {

@@ -1,7 +1,8 @@
 //! The sheet reader against the model: the answer and every byte of the
 //! record, over sheets that keep the rules and sheets that break them.
 
-use flat_tests::generate::{self, line, random_molecule, sheet, Molecule, EDGES};
+use flat_tests::generate::{self, line, mixed, random_molecule, sheet, zero_filled};
+use flat_tests::generate::{Molecule, EDGES, SHEET_KINDS};
 use flat_tests::guard::Guarded;
 use flat_tests::model::{self, MAX_ATOMS, MAX_BONDS, RECORD};
 use flat_tests::rng::Rng;
@@ -41,13 +42,24 @@ fn expect(answer: u32, sheet: &[u8]) {
     assert_eq!(compare(sheet, 1), answer, "{}", sheet.escape_ascii());
 }
 
+/// The answer to a sheet, and the record if it is accepted.
+fn answer_and_record(sheet: &[u8]) -> (u32, Option<Vec<u8>>) {
+    let mut record = vec![0xAA; RECORD];
+    let answer = ffi::read_sheet(sheet, &mut record);
+    (answer, (answer == 0).then_some(record))
+}
+
+/// Every second sheet of each kind has both fillings.
 #[test]
 fn random_sheets() {
     let cases = sampled(240_000);
     let mut counts = [0u64; 9];
     for case in 0..cases {
         let mut rng = Rng::of_case(0x5348_4545_5453, case);
-        let sheet = generate::any_sheet(&mut rng, case % generate::SHEET_KINDS);
+        let mut sheet = generate::any_sheet(&mut rng, case % SHEET_KINDS);
+        if case / SHEET_KINDS % 2 == 1 {
+            sheet = mixed(&mut rng, &sheet);
+        }
         counts[compare(&sheet, case) as usize] += 1;
     }
     println!("{cases} sheets, answers 0 to 8: {counts:?}");
@@ -74,6 +86,134 @@ fn document_sheet() {
     expected[4 + 32] = 0b1011;
     expected[4 + 48] = 0b0101;
     assert_eq!(record, expected);
+    // The same sheet filled by zeros, and by both.
+    for other in [
+        b"00040005\n00010002\n00020003\n00030004\n00010004\n00010003\n",
+        b"0004   5\n   10002\n0002   3\n   30004\n00010004\n   1   3\n",
+    ] {
+        expect(0, other);
+        let mut record = vec![0xAA; RECORD];
+        assert_eq!(ffi::read_sheet(other, &mut record), 0);
+        assert_eq!(record, expected);
+    }
+    assert_eq!(
+        zero_filled(text),
+        b"00040005\n00010002\n00020003\n00030004\n00010004\n00010003\n"
+    );
+}
+
+/// Any molecule's sheet filled by zeros, and by blanks or zeros from field to
+/// field: the record is that of the sheet filled by blanks, byte for byte.
+#[test]
+fn both_fillings() {
+    let cases = sampled(40_000);
+    let mut with_both = 0;
+    for case in 0..cases {
+        let mut rng = Rng::of_case(0x46_494C_4C31, case);
+        let blanks = generate::any_molecule(&mut rng).sheet();
+        let (answer, record) = answer_and_record(&blanks);
+        assert_eq!(answer, 0);
+        let (zeros, mixed) = (zero_filled(&blanks), mixed(&mut rng, &blanks));
+        for sheet in [&zeros, &mixed] {
+            assert_eq!(compare(sheet, case), 0);
+            assert!(
+                answer_and_record(sheet).1 == record,
+                "record of case {case}"
+            );
+        }
+        with_both += u64::from(mixed != blanks && mixed != zeros);
+    }
+    println!("{cases} molecules, {with_both} sheets with both fillings");
+    assert!(with_both >= cases / 2);
+}
+
+/// Sheets with each kind of damage: in other fillings they get the same answer,
+/// and the same record if they are accepted all the same.
+#[test]
+fn damage_in_both_fillings() {
+    let cases = sampled(80_000);
+    let mut counts = [0u64; 9];
+    let mut changed = 0;
+    for case in 0..cases {
+        let mut rng = Rng::of_case(0x46_494C_4C32, case);
+        let sheet = generate::any_sheet(&mut rng, case % SHEET_KINDS);
+        let expected = answer_and_record(&sheet);
+        assert_eq!(compare(&sheet, case), expected.0);
+        for other in [zero_filled(&sheet), mixed(&mut rng, &sheet)] {
+            assert_eq!(compare(&other, case), expected.0);
+            assert!(
+                answer_and_record(&other) == expected,
+                "record of case {case}"
+            );
+            changed += u64::from(other != sheet);
+        }
+        counts[expected.0 as usize] += 1;
+    }
+    println!("{cases} sheets, answers 0 to 8: {counts:?}, {changed} refilled sheets");
+    for (answer, &count) in counts.iter().enumerate() {
+        assert!(
+            count >= sampled(500),
+            "answer {answer} occurred {count} times"
+        );
+    }
+    assert!(changed >= cases);
+}
+
+/// Both fillings in one field, which makes it no number: each kind of field, and
+/// of each number every row of blanks and zeros in front but the two that are
+/// fillings.
+#[test]
+fn two_fillings_in_a_field() {
+    let whole = sheet(128, 2, &[(3, 128), (12, 99)]);
+    let mut refused = 0;
+    for value in [0, 1, 2, 7, 9, 10, 12, 99, 100, 128, 999] {
+        let digits = value.to_string();
+        let free = 4 - digits.len();
+        for set in 0..1u32 << free {
+            let front: String = (0..free)
+                .map(|column| if set >> column & 1 == 1 { '0' } else { ' ' })
+                .collect();
+            let uniform = front.bytes().all(|byte| byte == front.as_bytes()[0]);
+            for at in [0, 4, 9, 13, 18, 22] {
+                let mut sheet = whole.clone();
+                sheet[at..at + 4].copy_from_slice(format!("{front}{digits}").as_bytes());
+                let answer = compare(&sheet, value);
+                assert_eq!(answer == 2, !uniform, "{}", sheet.escape_ascii());
+                refused += u64::from(answer == 2);
+            }
+        }
+    }
+    // One digit: 8 - 2 rows of three; two digits: 4 - 2 rows of two; three
+    // digits: none. Five and three numbers, six places.
+    assert_eq!(refused, (5 * 6 + 3 * 2) * 6);
+    for text in [
+        "0 12", "00 1", "012 ", "12  ", "0   ", "1 02", " 0 1", "000 ", "0\n12", "0x12",
+    ] {
+        for at in [0, 4, 9, 13, 18, 22] {
+            let mut sheet = whole.clone();
+            sheet[at..at + 4].copy_from_slice(text.as_bytes());
+            expect(2, &sheet);
+        }
+    }
+}
+
+/// Every field over blank, 0, 1, 9, line feed and x, 6 to the 4th, in every kind
+/// of field. 108 of them are numbers: 27 filled by blanks, 54 by neither, 27 by
+/// zeros (see the number fields).
+#[test]
+fn every_field() {
+    let whole = sheet(128, 1, &[(3, 12)]);
+    for at in [0, 4, 9, 13] {
+        let mut numbers = 0;
+        for number in 0..6usize.pow(4) {
+            let mut sheet = whole.clone();
+            for (place, byte) in sheet[at..at + 4].iter_mut().enumerate() {
+                *byte = b" 019\nx"[number / 6usize.pow(place as u32) % 6];
+            }
+            numbers += u64::from(compare(&sheet, number as u64) != 2);
+        }
+        assert_eq!(numbers, 108, "fields at {at}");
+    }
 }
 
 /// Every set of rules broken at once, with the lines that break the later
@@ -169,15 +309,22 @@ fn edges() {
     }
 }
 
-/// Every number that a field can hold, in every kind of field.
+/// Every number that a field can hold, in every kind of field and both fillings.
 #[test]
 fn every_value() {
+    let mut rng = Rng::new(15);
     for value in (0..=9999).step_by(sample() as usize) {
-        compare(&sheet(value, 0, &[]), value);
-        compare(&sheet(5, value, &[]), value);
-        compare(&sheet(5, value, &[(1, 2)]), value);
-        compare(&sheet(128, 1, &[(value, 7)]), value);
-        compare(&sheet(99, 1, &[(8, value)]), value);
+        for sheet in [
+            sheet(value, 0, &[]),
+            sheet(5, value, &[]),
+            sheet(5, value, &[(1, 2)]),
+            sheet(128, 1, &[(value, 7)]),
+            sheet(99, 1, &[(8, value)]),
+        ] {
+            let answer = compare(&sheet, value);
+            assert_eq!(compare(&zero_filled(&sheet), value), answer);
+            assert_eq!(compare(&mixed(&mut rng, &sheet), value), answer);
+        }
     }
 }
 
@@ -193,8 +340,13 @@ fn every_bond() {
 /// Every byte value at every place of small sheets.
 #[test]
 fn every_byte() {
-    let turned = Molecule::new(12, &[(10, 2), (1, 12)]);
-    for whole in [turned.sheet(), generate::document().sheet()] {
+    let turned = Molecule::new(12, &[(10, 2), (1, 12)]).sheet();
+    for whole in [
+        zero_filled(&turned),
+        b"00120002\n  100002\n0001  12\n".to_vec(),
+        turned,
+        generate::document().sheet(),
+    ] {
         for case in (0..whole.len() * 256).step_by(sample() as usize) {
             let mut sheet = whole.clone();
             sheet[case / 256] = (case % 256) as u8;

@@ -49,7 +49,7 @@ pub fn mark_length(bytes: &[u8]) -> usize {
     if bytes.len() < SHORTEST_MARK {
         return 0;
     }
-    match field::read(&bytes[20..24]) {
+    match field::read_without_zeros(&bytes[20..24]) {
         Some(atoms) if SHORTEST_MARK + 4 * atoms as usize <= bytes.len() => {
             SHORTEST_MARK + 4 * atoms as usize
         }
@@ -62,7 +62,7 @@ pub fn listed(bytes: &[u8]) -> u64 {
     if bytes.len() < SHORTEST_MARK {
         return 0;
     }
-    field::read(&bytes[69..89]).unwrap_or(0)
+    field::read_without_zeros(&bytes[69..89]).unwrap_or(0)
 }
 
 /// The lines that `ringlist` prints for joined records.
@@ -91,6 +91,7 @@ pub fn refusal_line(number: u32) -> Vec<u8> {
 
 #[cfg(test)]
 mod tests {
+    use super::super::field::LIMIT;
     use super::super::list::Listed;
     use super::*;
     use crate::generate;
@@ -117,5 +118,33 @@ mod tests {
         assert_eq!(refusal_line(17), b"refused  17\n");
         let line = b"                   2                   3                  16\n";
         assert_eq!(count_line(2, 3, 16), line);
+    }
+    /// A field that zeros fill is no number in a mark.
+    #[test]
+    fn zeros_by_hand() {
+        let line_2 = "                   5                   2                   3\n";
+        let mark = format!("   0   0   0   4   5   2   3\n{line_2}   1   2\n").into_bytes();
+        assert_eq!((mark_length(&mark), listed(&mark)), (99, 3));
+        let with = |at: usize, text: &[u8]| {
+            let mut changed = mark.clone();
+            changed[at..at + text.len()].copy_from_slice(text);
+            (mark_length(&changed), listed(&changed))
+        };
+        assert_eq!(with(20, b"0002"), (0, 3));
+        assert_eq!(with(20, b"0000"), (0, 3));
+        assert_eq!(with(20, b"   0"), (91, 3));
+        assert_eq!(with(20, b" 002"), (0, 3));
+        assert_eq!(with(69, b"00000000000000000003"), (99, 0));
+        assert_eq!(with(69, b"09999999999999999999"), (99, 0));
+        assert_eq!(with(69, b" 9999999999999999999"), (99, LIMIT));
+        // The other fields are not looked at.
+        assert_eq!(with(16, b"0005"), (99, 3));
+        assert_eq!(with(49, b"00000000000000000002"), (99, 3));
+        // A length of four digits fills its columns.
+        let mut long = mark.clone();
+        long[20..24].copy_from_slice(b"1000");
+        long.resize(4_091, b' ');
+        assert_eq!(mark_length(&long), 4_091);
+        assert_eq!(mark_length(&long[..4_090]), 0);
     }
 }

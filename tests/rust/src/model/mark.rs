@@ -40,11 +40,11 @@ pub fn write(record: &Record, search: &Search) -> Vec<u8> {
     mark
 }
 
-/// The numbers of a line of fields, or none when one has the wrong bytes or
-/// columns are left over.
+/// The numbers of a line of fields, or none when one has the wrong bytes or is
+/// filled by zeros, or columns are left over.
 fn read_line(line: &[u8], columns: usize) -> Option<Vec<u64>> {
     line.chunks(columns)
-        .map(|chunk| field::read(chunk).filter(|_| chunk.len() == columns))
+        .map(|chunk| field::read_without_zeros(chunk).filter(|_| chunk.len() == columns))
         .collect()
 }
 
@@ -91,7 +91,7 @@ pub fn read(lists: &dyn Lists, mark: &[u8]) -> Result<Search, u32> {
 
 #[cfg(test)]
 mod tests {
-    use super::super::list::Listed;
+    use super::super::list::{Listed, Reached};
     use super::*;
     use crate::generate;
 
@@ -127,5 +127,52 @@ mod tests {
         assert_eq!(answer("   1   2\n", "   1   4\n"), Err(17));
         assert_eq!(answer("   1   2\n", "   1 258\n"), Err(17));
         assert_eq!(answer("5       ", "5 1     "), Err(14));
+    }
+    /// Each field of the mark in turn written with zeros in front, and all of
+    /// them.
+    #[test]
+    fn refuses_zeros_by_hand() {
+        let record = generate::document().record();
+        let lists = Listed::new(&record);
+        let mark = MARK.as_bytes();
+        let first = (0..7).map(|which| 4 * which..4 * which + 4);
+        let second = (0..3).map(|which| 29 + 20 * which..49 + 20 * which);
+        let third = (0..2).map(|which| 90 + 4 * which..94 + 4 * which);
+        let mut every = mark.to_vec();
+        for field in first.chain(second).chain(third) {
+            let value = field::read_without_zeros(&mark[field.clone()]).expect("a field");
+            let text = field::write_zeros(field.len(), value);
+            let mut changed = mark.to_vec();
+            changed[field.clone()].copy_from_slice(&text);
+            assert_ne!(changed, mark);
+            assert_eq!(read(&lists, &changed), Err(14));
+            every[field].copy_from_slice(&text);
+        }
+        let text = "0000000000000004000500020003\n\
+            000000000000000000050000000000000000000200000000000000000000\n00010002\n";
+        assert_eq!(every, text.as_bytes());
+        assert_eq!(read(&lists, &every), Err(14));
+        // Rules 15 to 17 come after.
+        let answer = |from: &str, to: &str| {
+            assert_eq!(MARK.matches(from).count(), 1, "{from:?}");
+            read(&lists, MARK.replace(from, to).as_bytes()).map(|_| ())
+        };
+        assert_eq!(answer("   4   5", "0009   5"), Err(14));
+        assert_eq!(answer("   4   5", "   9   5"), Err(15));
+        assert_eq!(answer("   1   2\n", "   10004\n"), Err(14));
+        assert_eq!(answer("   1   2\n", "   1   4\n"), Err(17));
+    }
+
+    /// A number that fills its columns is filled by neither: 1,024 bonds.
+    #[test]
+    fn full_columns_by_hand() {
+        let mut record = Record::new(128);
+        for (a, b) in (1..=16).flat_map(|a| (17..=80).map(move |b| (a, b))) {
+            record.join(a, b);
+        }
+        let lists = Reached::new(&record);
+        let mark = "   0   0   0 1281024   0   1\n                   0                   0 9999999999999999999\n\n";
+        let search = read(&lists, mark.as_bytes()).expect("a mark");
+        assert_eq!(write(&record, &search), mark.as_bytes());
     }
 }

@@ -5,13 +5,16 @@ use super::{field, Record, MAX_ATOMS, MAX_BONDS};
 /// Bytes of a line: two fields of 4 columns and a line feed.
 pub const LINE: usize = 9;
 
-/// The two numbers of a line, or none when a field or the line end has the
-/// wrong bytes.
+/// The two numbers of a line, each filled by blanks or by zeros, or none when a
+/// field or the line end has the wrong bytes.
 fn read_line(line: &[u8]) -> Option<(u64, u64)> {
     if line[8] != b'\n' {
         return None;
     }
-    Some((field::read(&line[0..4])?, field::read(&line[4..8])?))
+    Some((
+        field::read(&line[0..4])?.value,
+        field::read(&line[4..8])?.value,
+    ))
 }
 
 /// The record of a sheet, or the number of the first rule it breaks.
@@ -80,5 +83,50 @@ mod tests {
         assert_eq!(read(b"   2   1\n   1   3\n"), Err(6));
         assert_eq!(read(b"   2   1\n   2   2\n"), Err(7));
         assert_eq!(read(b"   2   2\n   1   2\n   2   1\n"), Err(8));
+    }
+    #[test]
+    fn reads_zeros_by_hand() {
+        let record = read(b"   2   1\n   2   1\n").expect("a sheet");
+        for sheet in [
+            b"00020001\n00020001\n",
+            b"0002   1\n   20001\n",
+            b"   20001\n0002   1\n",
+            b"00020001\n   2   1\n",
+            b"   2   1\n00020001\n",
+        ] {
+            assert_eq!(read(sheet), Ok(record.clone()));
+        }
+        assert_eq!(read(b"00000000\n"), Ok(Record::new(0)));
+        assert_eq!(read(b"0128   0\n"), Ok(Record::new(128)));
+        let mut record = Record::new(128);
+        record.join(128, 9);
+        assert_eq!(read(b"01280001\n 1280009\n"), Ok(record.clone()));
+        assert_eq!(read(b" 128   1\n0009 128\n"), Ok(record));
+    }
+
+    #[test]
+    fn refuses_zeros_by_hand() {
+        assert_eq!(read(b"00020000\n0"), Err(1));
+        // One field, two fillings.
+        assert_eq!(read(b"  02   0\n"), Err(2));
+        assert_eq!(read(b" 012   0\n"), Err(2));
+        assert_eq!(read(b"0 12   0\n"), Err(2));
+        assert_eq!(read(b"0012  00\n"), Err(2));
+        assert_eq!(read(b"00020001\n00 10002\n"), Err(2));
+        assert_eq!(read(b"00020001\n0001 002\n"), Err(2));
+        assert_eq!(read(b"012    0\n"), Err(2));
+        assert_eq!(read(b"00020000\r"), Err(2));
+        assert_eq!(read(b"01290000\n"), Err(3));
+        assert_eq!(read(b"9999   0\n"), Err(3));
+        assert_eq!(read(b"00021025\n"), Err(4));
+        assert_eq!(read(b"00020001\n"), Err(5));
+        assert_eq!(read(b"00020000\n00010002\n"), Err(5));
+        assert_eq!(read(b"00020001\n00000002\n"), Err(6));
+        assert_eq!(read(b"00020001\n00010003\n"), Err(6));
+        assert_eq!(read(b"00020001\n   20003\n"), Err(6));
+        assert_eq!(read(b"00020001\n00020002\n"), Err(7));
+        assert_eq!(read(b"00020001\n0002   2\n"), Err(7));
+        assert_eq!(read(b"00020002\n00010002\n00020001\n"), Err(8));
+        assert_eq!(read(b"00020002\n00010002\n   1   2\n"), Err(8));
     }
 }
