@@ -4,14 +4,14 @@ use Prim.Native.Nat.{ℕ, suc, _+_, _-_, _*_, _^_, _≤_, _<_}
 use native.Mathlib.Nat.{pow-suc, add-zero, add-suc, suc-add}
 use native.Mathlib.Omega.{arith}
 use mathlib.Core.Path.{_≡_, refl, sym, _∙_}
-use mathlib.Core.Bool.{Bool, true, false, _&&_, _||_, cond, true≢false}
+use mathlib.Core.Bool.{Bool, true, false, _&&_, cond, true≢false}
 use mathlib.Core.List.{List, [], _∷_, _++_}
 use lib.ListN.{length}
-use lib.Dec.{leb, ltb}
+use lib.Dec.{leb}
 use borrow.Author.Tests.{le-leb, leb-true}
 use Rattle.fields.specs.declared.Number.{Number}
 use Rattle.fields.specs.declared.Number.the-variants.{Value, Bad}
-use Rattle.fields.specs.Field.{limit, isDigit, digits}
+use Rattle.fields.specs.Field.{limit, isDigit, mayFollow, digits}
 
 -- a test that was passed on the way to a value
 pub passed :
@@ -30,7 +30,7 @@ both false b e = absurd (true≢false (sym e))
 pub record DigitRead (zeros : Bool) (w b : ℕ) (bs : List ℕ) (v : ℕ) (filled : Bool) : Type 0 where
   pub low : 48 ≤ b
   pub high : b ≤ 57
-  pub may : zeros || ltb 0 w ≡ true
+  pub may : mayFollow zeros w ≡ true
   pub fits : w * 10 + (b - 48) ≤ limit
   pub rest : digits zeros (w * 10 + (b - 48)) bs ≡ Value v filled
 
@@ -46,9 +46,9 @@ module _ (zeros : Bool) where
   unfolding digits
   digit-read w b bs v filled e =
       let now = w * 10 + (b - 48) in
-      let tests = passed (isDigit b && (zeros || ltb 0 w) && leb now limit) (digits zeros now bs) v filled e in
-      let outer = both (isDigit b && (zeros || ltb 0 w)) (leb now limit) (tests .0) in
-      let inner = both (isDigit b) (zeros || ltb 0 w) (outer .0) in
+      let tests = passed (isDigit b && mayFollow zeros w && leb now limit) (digits zeros now bs) v filled e in
+      let outer = both (isDigit b && mayFollow zeros w) (leb now limit) (tests .0) in
+      let inner = both (isDigit b) (mayFollow zeros w) (outer .0) in
       let digit = both (leb 48 b) (leb b 57) (inner .0) in
       record {
         low = leb-true 48 b (digit .0);
@@ -95,7 +95,7 @@ digit-byte d h = simp (le-leb 48 (48 + d) (omega arith), le-leb (48 + d) 57 (ome
 pub digit-worth : (d : ℕ) → 48 + d - 48 ≡ d
 digit-worth d = omega arith
 
-module _ (zeros : Bool) (v d : ℕ) (digit : d < 10) (may : zeros || ltb 0 v ≡ true) (fits : v * 10 + d ≤ limit) where
+module _ (zeros : Bool) (v d : ℕ) (digit : d < 10) (may : mayFollow zeros v ≡ true) (fits : v * 10 + d ≤ limit) where
   pub digits-snoc :
       (w : ℕ) (bs : List ℕ) → digits zeros w bs ≡ Value v zeros →
       digits zeros w (bs ++ ((48 + d) ∷ [])) ≡ Value (v * 10 + d) zeros
@@ -106,7 +106,7 @@ module _ (zeros : Bool) (v d : ℕ) (digit : d < 10) (may : zeros || ltb 0 v ≡
       (simp (le-leb 48 (48 + d) (omega arith), le-leb (48 + d) 57 (omega arith), may, le-leb (v * 10 + d) limit fits))
   digits-snoc w (b ∷ bs) e =
       let now = w * 10 + (b - 48) in
-      let tests = passed (isDigit b && (zeros || ltb 0 w) && leb now limit) (digits zeros now bs) v zeros e in
+      let tests = passed (isDigit b && mayFollow zeros w && leb now limit) (digits zeros now bs) v zeros e in
       rw (tests .0) (digits-snoc now bs (tests .1))
 
 pub one-more : (k j : ℕ) → suc k + j ≡ k + suc j

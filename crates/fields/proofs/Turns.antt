@@ -5,14 +5,14 @@ use native.Mathlib.Nat.{le-of-lt}
 use native.Mathlib.Numerals.{add-one}
 use native.Mathlib.Omega.{arith}
 use mathlib.Core.Path.{_≡_, refl, sym, _∙_}
-use mathlib.Core.Bool.{Bool, true, false, _&&_, _||_, cond, or-true}
+use mathlib.Core.Bool.{Bool, true, false, _&&_, cond, or-true}
 use mathlib.Core.List.{List, [], _∷_, _++_}
 use lib.ListN.{length, getD, take, drop, set, length-set, drop-of-length-le}
 use lib.Seq.{drop-cons, set-split, drop-at, length-take-le, append-snoc}
 use lib.Dec.{leb, ltb, eqb}
 use borrow.Author.Tests.{lt-ltb, le-leb, lt-leb, eq-eqb, ne-eqb}
 use Rattle.fields.specs.declared.Number.the-variants.{Value, Bad}
-use Rattle.fields.specs.Field.{limit, isDigit, digits, afterBlanks, zeroFirst, column, columns, fieldText}
+use Rattle.fields.specs.Field.{limit, isDigit, mayFollow, digits, afterBlanks, zeroFirst, column, columns, fieldText}
 
 -- a digit that may follow v: the sum keeps to the limit exactly when v has at most 18 digits
 room-for-digit : (v b : ℕ) → 48 ≤ b → b ≤ 57 → v ≤ 999999999999999999 → leb (v * 10 + (b - 48)) limit ≡ true
@@ -55,7 +55,7 @@ module _ (s : List ℕ) (i : ℕ) where
           (v : ℕ) →
           let more = v * 10 + worthAt in
           digits zeros v (drop i s)
-          ≡ cond (isDigit byteAt && (zeros || ltb 0 v) && leb more limit) (digits zeros more restAt) Bad
+          ≡ cond (isDigit byteAt && mayFollow zeros v && leb more limit) (digits zeros more restAt) Bad
       unfolding digits
       digits-turn v = rw (drop-cons s i 0 inside, add-one)
 
@@ -89,7 +89,7 @@ module _ (zeros : Bool) {s : List ℕ} {i : ℕ} (digit : DigitAt s i) where
   digit-turn :
       (v : ℕ) →
       let more = v * 10 + worthAt s i in
-      digits zeros v (drop i s) ≡ cond ((zeros || ltb 0 v) && leb more limit) (digits zeros more (restAt s i)) Bad
+      digits zeros v (drop i s) ≡ cond (mayFollow zeros v && leb more limit) (digits zeros more (restAt s i)) Bad
   digit-turn v =
       digits-turn s i zeros (digit .inside) v
       ∙ simp (le-leb 48 (byteAt s i) (digit .low), le-leb (byteAt s i) 57 (digit .high))
@@ -101,7 +101,7 @@ module _ (zeros : Bool) {s : List ℕ} {i : ℕ} (digit : DigitAt s i) where
       ∙ simp (ne-eqb (byteAt s i) 32 other, le-leb 48 (byteAt s i) (digit .low), le-leb (byteAt s i) 57 (digit .high))
 
   module _ (v : ℕ) where
-    pub digits-alone : zeros || ltb 0 v ≡ false → digits zeros v (drop i s) ≡ Bad
+    pub digits-alone : mayFollow zeros v ≡ false → digits zeros v (drop i s) ≡ Bad
     digits-alone alone = digit-turn v ∙ simp alone
 
     pub digits-full : 999999999999999999 < v → digits zeros v (drop i s) ≡ Bad
@@ -110,7 +110,7 @@ module _ (zeros : Bool) {s : List ℕ} {i : ℕ} (digit : DigitAt s i) where
         digit-turn v ∙ simp (some, or-true zeros, no-room-for-digit v (byteAt s i) full)
 
     pub digits-more :
-        zeros || ltb 0 v ≡ true → v ≤ 999999999999999999 →
+        mayFollow zeros v ≡ true → v ≤ 999999999999999999 →
         digits zeros v (drop i s) ≡ digits zeros (v * 10 + worthAt s i) (restAt s i)
     digits-more may room =
         let fits = room-for-digit v (byteAt s i) (digit .low) (digit .high) room in

@@ -18,11 +18,15 @@ limit = 9999999999999999999
 abbrev pub isDigit : ℕ → Bool
 isDigit b = leb 48 b && leb b 57
 
--- digits that follow digits worth v; unless zeros fill the field, a 0 stands alone
+-- whether a digit may follow digits worth v: unless zeros fill the field, a 0 stands alone
+abbrev pub mayFollow : Bool → ℕ → Bool
+mayFollow zeros v = zeros || ltb 0 v
+
+-- digits that follow digits worth v
 unfoldable pub digits : Bool → ℕ → List ℕ → Number
 digits zeros v [] = Value v zeros
 digits zeros v (b ∷ bs) =
-    cond (isDigit b && (zeros || ltb 0 v) && leb (v * 10 + (b - 48)) limit) (digits zeros (v * 10 + (b - 48)) bs) Bad
+    cond (isDigit b && mayFollow zeros v && leb (v * 10 + (b - 48)) limit) (digits zeros (v * 10 + (b - 48)) bs) Bad
 
 -- blanks, then one digit or more
 unfoldable pub afterBlanks : Bool → List ℕ → Number

@@ -1,10 +1,8 @@
 // Number fields (document 01, "Bond sheet" and "Marks"), of any number of columns.
 ghost use mathlib.Core.Path.{_≡_};
-ghost use mathlib.Core.Bool.{_||_};
 ghost use Prim.Native.Nat.{_+_, _≤_};
 ghost use lib.ListN.{length, drop};
-ghost use lib.Dec.{ltb};
-ghost use Rattle.fields.specs.Field.{digits, zeroFirst, readField, column, fieldText};
+ghost use Rattle.fields.specs.Field.{mayFollow, digits, zeroFirst, readField, column, fieldText};
 ghost use Rattle.fields.specs.Field.{fieldAt, blanksOnly, valueAt};
 use widen::u8_u64;
 
@@ -16,7 +14,7 @@ pub enum Number {
 
 // Whether a digit may follow digits worth v: unless zeros fill the field, a 0 stands alone.
 fn may_follow(v: u64, zeros: bool) -> bool
-    ensures { λ r. ⌜ r ≡ zeros || ltb 0 v ⌝ }
+    ensures { λ r. ⌜ r ≡ mayFollow zeros v ⌝ }
 {
     if zeros {
         return true;

@@ -7,7 +7,7 @@ use mathlib.Core.Bool.{Bool, true, false, _&&_, cond}
 use mathlib.Core.List.{List}
 use mathlib.Core.Logic.{_⊎_, inl, inr, _↔_}
 use lib.ListN.{length}
-use lib.Dec.{leb, eqb}
+use lib.Dec.{eqb}
 use borrow.Author.Tests.{leb-true, eqb-true, eq-eqb}
 use Rattle.graph.proofs.Below.{apart, either, and-parts}
 use Rattle.refusal.specs.declared.Refusal.{Refusal}
@@ -18,7 +18,8 @@ use Rattle.molecule.proofs.Rules.{Sound, bytes-of-sound, rule-in-range}
 use Rattle.molecule.proofs.Bonds.{bonded-cell, bonded-facts}
 use Rattle.sheet.specs.declared.SheetAnswer.{SheetAnswer}
 use Rattle.sheet.specs.Bonds.{Bond, atomsKept, noneToItself, samePair, noneTwice, rowsOf}
-use Rattle.sheet.specs.Read.{lengthKept, linesKept, atomsOf, bondsOf, bondOf, refusedSheet, acceptedSheet, readBonds, readSheet}
+use Rattle.sheet.specs.Read.{lengthKept, linesKept, atomsOf, bondsOf, bondOf, refusedSheet, acceptedSheet}
+use Rattle.sheet.specs.Read.{readBonds, fewAtoms, fewBonds, sizeKept, readSheet}
 use Rattle.sheet.proofs.Tables.{Kept, kept-of, Joins, joins-swaps, Table, tables}
 
 -- a rule that was kept on the way to an accepted sheet
@@ -45,9 +46,9 @@ unfolding readSheet readBonds
 accepted-rules s e =
     let r1 = kept-on (lengthKept s) _ _ e in
     let r2 = kept-on (linesKept s) _ _ (r1 .1) in
-    let r3 = kept-on (leb (atomsOf s) 128) _ _ (r2 .1) in
-    let r4 = kept-on (leb (bondsOf s) 1024) _ _ (r3 .1) in
-    let r5 = kept-on (eqb (length s) (9 * suc (bondsOf s))) _ _ (r4 .1) in
+    let r3 = kept-on (fewAtoms (atomsOf s)) _ _ (r2 .1) in
+    let r4 = kept-on (fewBonds (bondsOf s)) _ _ (r3 .1) in
+    let r5 = kept-on (sizeKept (length s) (bondsOf s)) _ _ (r4 .1) in
     let r6 = kept-on (atomsKept (atomsOf s) (bondOf s) (bondsOf s)) _ _ (r5 .1) in
     let r7 = kept-on (noneToItself (bondOf s) (bondsOf s)) _ _ (r6 .1) in
     let r8 = kept-on (noneTwice (bondOf s) (bondsOf s)) _ _ (r7 .1) in

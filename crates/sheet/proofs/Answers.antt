@@ -5,13 +5,12 @@ use mathlib.Core.Path.{_≡_}
 use mathlib.Core.Bool.{true, false}
 use mathlib.Core.List.{List}
 use lib.ListN.{length}
-use lib.Dec.{leb}
 use borrow.Author.Tests.{le-leb, lt-leb, eq-eqb, ne-eqb}
 use Rattle.graph.specs.Every.{allBelow}
 use Rattle.refusal.specs.declared.Refusal.the-variants as refusal
 use Rattle.sheet.specs.Bonds.{Bond, atomsKept, noneToItself, noneTwice}
 use Rattle.sheet.specs.Read.{lengthKept, linesKept, lineKept, atomsOf, bondsOf, bondOf}
-use Rattle.sheet.specs.Read.{refusedSheet, acceptedSheet, readBonds, readSheet}
+use Rattle.sheet.specs.Read.{refusedSheet, acceptedSheet, readBonds, fewAtoms, fewBonds, readSheet}
 
 -- rules 6 to 8
 module _ (n : ℕ) (bond : ℕ → Bond) (m : ℕ) where
@@ -73,7 +72,7 @@ module _ {s : List ℕ} (lined : Lined s) where
   sheet-atoms many = rw (length-kept, lines-kept, lt-leb (atomsOf s) 128 many)
 
   module _ (few : atomsOf s ≤ 128) where
-    atoms-kept : leb (atomsOf s) 128 ≡ true
+    atoms-kept : fewAtoms (atomsOf s) ≡ true
     atoms-kept = le-leb (atomsOf s) 128 few
 
     pub sheet-bonds : 1024 < bondsOf s → readSheet s ≡ refusedSheet refusal.TooManyBonds
@@ -81,7 +80,7 @@ module _ {s : List ℕ} (lined : Lined s) where
     sheet-bonds many = rw (length-kept, lines-kept, atoms-kept, lt-leb (bondsOf s) 1024 many)
 
     module _ (light : bondsOf s ≤ 1024) where
-      bonds-kept : leb (bondsOf s) 1024 ≡ true
+      bonds-kept : fewBonds (bondsOf s) ≡ true
       bonds-kept = le-leb (bondsOf s) 1024 light
 
       pub sheet-size : (length s ≡ 9 * suc (bondsOf s) → ⊥) → readSheet s ≡ refusedSheet refusal.SheetSize

@@ -18,7 +18,8 @@ use Rattle.refusal.specs.declared.Refusal.the-variants as refusal
 use Rattle.refusal.specs.declared.Answer.the-variants.{Accepted}
 use Rattle.sheet.specs.declared.SheetAnswer.{SheetAnswer}
 use Rattle.sheet.specs.Bonds.{Bond}
-use Rattle.sheet.specs.Read.{lengthKept, lineKept, linesKept, lineOf, refusedSheet, readBonds, readNumbers, readSheet}
+use Rattle.sheet.specs.Read.{lengthKept, lineKept, linesKept, lineOf, refusedSheet, readBonds}
+use Rattle.sheet.specs.Read.{fewAtoms, fewBonds, sizeKept, readNumbers, readSheet}
 use Rattle.sheet.specs.Fillings.{fourAt, OtherFillings, fieldBefore, lineKeptBefore, lineBefore, readBefore}
 use Rattle.sheet.proofs.Same.{all-same, bonds-same}
 use Rattle.sheet.proofs.Accepted.{kept-on}
@@ -30,8 +31,8 @@ numbers-same :
 numbers-same size line line′ first same =
     rw first
     (ap (λ (x : SheetAnswer).
-    cond (leb n 128) (cond (leb m 1024) x (refusedSheet refusal.TooManyBonds)) (refusedSheet refusal.TooManyAtoms))
-    (go (eqb size (9 * suc m)) refl))
+    cond (fewAtoms n) (cond (fewBonds m) x (refusedSheet refusal.TooManyBonds)) (refusedSheet refusal.TooManyAtoms))
+    (go (sizeKept size m) refl))
   where
     n : ℕ
     n = line′ 0 .0
@@ -41,7 +42,7 @@ numbers-same size line line′ first same =
 
     -- by whether the size is that of m bonds
     go :
-        (t : Bool) → eqb size (9 * suc m) ≡ t →
+        (t : Bool) → sizeKept size m ≡ t →
         cond t (readBonds n (λ k. line (suc k)) m) (refusedSheet refusal.SheetSize)
         ≡ cond t (readBonds n (λ k. line′ (suc k)) m) (refusedSheet refusal.SheetSize)
     go true e =

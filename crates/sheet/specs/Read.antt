@@ -57,13 +57,24 @@ readBonds n bond m =
     (refusedSheet refusal.SelfBond))
     (refusedSheet refusal.BondAtom)
 
--- what the numbers of the lines of so many bytes are read as: rule 3 (n is at most 128),
--- rule 4 (m is at most 1,024), rule 5 (the sheet is 9 × (m + 1) bytes), then rules 6, 7, 8
+-- Rule 3 kept: n is at most 128
+abbrev pub fewAtoms : ℕ → Bool
+fewAtoms n = leb n 128
+
+-- Rule 4 kept: m is at most 1,024
+abbrev pub fewBonds : ℕ → Bool
+fewBonds m = leb m 1024
+
+-- Rule 5 kept: the sheet is 9 × (m + 1) bytes
+abbrev pub sizeKept : ℕ → ℕ → Bool
+sizeKept size m = eqb size (9 * suc m)
+
+-- What the numbers of the lines of so many bytes are read as: rules 3, 4, 5, then rules 6, 7, 8
 abbrev pub readNumbers : ℕ → (ℕ → Bond) → SheetAnswer
 readNumbers size line =
-    cond (leb (line 0 .0) 128)
-    (cond (leb (line 0 .1) 1024)
-    (cond (eqb size (9 * suc (line 0 .1)))
+    cond (fewAtoms (line 0 .0))
+    (cond (fewBonds (line 0 .1))
+    (cond (sizeKept size (line 0 .1))
     (readBonds (line 0 .0) (λ k. line (suc k)) (line 0 .1))
     (refusedSheet refusal.SheetSize))
     (refusedSheet refusal.TooManyBonds))
