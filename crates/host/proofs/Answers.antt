@@ -3,10 +3,11 @@
 use Prim.Native.Nat.{ℕ, _+_, _*_, _^_, _≤_, _<_}
 use native.Mathlib.Omega.{arith}
 use mathlib.Core.Path.{_≡_, ap, sym, _∙_}
-use mathlib.Core.Bool.{Bool, true, false, cond}
+use mathlib.Core.Bool.{Bool, true, false, _&&_, cond}
 use mathlib.Core.List.{List}
 use lib.ListN.{length, take, drop, length-drop}
 use lib.Seq.{length-take-le}
+use lib.Dec.{leb}
 use borrow.Author.Tests.{eq-eqb, ne-eqb, le-leb, lt-leb}
 use Rattle.fields.specs.declared.Number.the-variants.{Value}
 use Rattle.fields.proofs.Laws.{read-fits}
@@ -22,7 +23,7 @@ use Rattle.search.specs.declared.Made.{Made}
 use Rattle.search.specs.declared.Ran.{Ran}
 use Rattle.search.specs.Place.{freshSearch}
 use Rattle.search.specs.Entries.{acceptedSearch, runSearch, runOutput, endedNumber}
-use Rattle.search.specs.Mark.{fieldAt, blanksOnly, valueAt, saveOutput, restoreMark}
+use Rattle.search.specs.Mark.{fieldAt, fieldKept, valueAt, markLength, saveOutput, restoreMark}
 use Rattle.start.proofs.Starts.{rings-started}
 use Rattle.host.specs.Resume.{Resumed, refusedCall, searchFor, runAndSave, resume, markSize, listedIn}
 
@@ -111,17 +112,20 @@ module _ (bytes : List ℕ) where
   listed-short h = rw (lt-leb 91 (length bytes) h)
 
   module _ (room : 91 ≤ length bytes) where
-    pub listed-none : blanksOnly (fieldAt 20 bytes 69) ≡ false → 0 ≡ listedIn bytes
+    pub listed-none : fieldKept 20 bytes 69 ≡ false → 0 ≡ listedIn bytes
     unfolding listedIn
-    listed-none e = rw (le-leb 91 (length bytes) room, e)
+    listed-none e = rw (le-leb 91 (length bytes) room) (sym (ap (λ (t : Bool). cond t (valueAt 20 bytes 69) 0) e))
 
-    pub listed-read : blanksOnly (fieldAt 20 bytes 69) ≡ true → valueAt 20 bytes 69 ≡ listedIn bytes
+    pub listed-read : fieldKept 20 bytes 69 ≡ true → valueAt 20 bytes 69 ≡ listedIn bytes
     unfolding listedIn
-    listed-read e = rw (le-leb 91 (length bytes) room, e)
+    listed-read e = rw (le-leb 91 (length bytes) room) (sym (ap (λ (t : Bool). cond t (valueAt 20 bytes 69) 0) e))
 
-    pub size-none : blanksOnly (fieldAt 4 bytes 20) ≡ false → 0 ≡ markSize bytes
+    pub size-none : fieldKept 4 bytes 20 ≡ false → 0 ≡ markSize bytes
     unfolding markSize
-    size-none e = rw (le-leb 91 (length bytes) room, e)
+    size-none e =
+        let size = 91 + 4 * markLength bytes in
+        rw (le-leb 91 (length bytes) room)
+        (sym (ap (λ (t : Bool). cond (t && leb size (length bytes)) size 0) e))
 
 -- What is known where the field of the length holds k
 pub record LengthRead (bytes : List ℕ) (k : ℕ) : Type 0 where

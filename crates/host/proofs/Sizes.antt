@@ -14,7 +14,8 @@ use Rattle.molecule.specs.declared.Molecule.{Molecule}
 use Rattle.molecule.specs.Record.{wellFormed}
 use Rattle.search.specs.declared.Search.{Search}
 use Rattle.search.specs.Place.{searchAt, restorable}
-use Rattle.search.specs.Mark.{fieldAt, blanksOnly, valueOf, fieldsKept, markText, markLength, markSearch}
+use Rattle.search.specs.Mark.{fieldAt, blanksOnly, fieldKept, valueOf, fieldsKept, markText}
+use Rattle.search.specs.Mark.{markLength, markSearch}
 use Rattle.search.proofs.Lines.{Layout, layout-facts}
 use Rattle.search.proofs.Restores.{Restored, restored-facts}
 use Rattle.search.proofs.MarkLaws.{saved-restores}
@@ -30,16 +31,16 @@ front-field c at front rest h =
 
 -- the bytes of a mark, where its length is a number field and the buffer has as many
 size-kept :
-    (bytes : List ℕ) → blanksOnly (fieldAt 4 bytes 20) ≡ true → 91 + 4 * markLength bytes ≤ length bytes →
+    (bytes : List ℕ) → fieldKept 4 bytes 20 ≡ true → 91 + 4 * markLength bytes ≤ length bytes →
     markSize bytes ≡ 91 + 4 * markLength bytes
 unfolding markSize
 size-kept bytes e h =
     rw (le-leb 91 (length bytes) (omega arith), e, le-leb (91 + 4 * markLength bytes) (length bytes) h)
 
 -- the field of the listed count
-listed-kept : {bytes : List ℕ} → Layout bytes → blanksOnly (fieldAt 20 bytes 69) ≡ true
+listed-kept : {bytes : List ℕ} → Layout bytes → fieldKept 20 bytes 69 ≡ true
 listed-kept {bytes} lines =
-    allBelow-at 3 (λ (i : ℕ). blanksOnly (fieldAt 20 bytes (29 + 20 * i)))
+    allBelow-at 3 (λ (i : ℕ). fieldKept 20 bytes (29 + 20 * i))
     (unfold fieldsKept in (lines .counts-kept)) 2 (omega arith)
 
 -- the listed count of a mark that is accepted
@@ -66,9 +67,9 @@ module _ (mol : Molecule) (q : Search) (formed : wellFormed mol ≡ true) (kept 
     length-same : fieldAt 4 (markText mol q ++ rest) 20 ≡ fieldAt 4 (markText mol q) 20
     length-same = front-field 4 20 (markText mol q) rest (omega (arith, lines .size))
 
-    length-read : blanksOnly (fieldAt 4 (markText mol q) 20) ≡ true
+    length-read : fieldKept 4 (markText mol q) 20 ≡ true
     length-read =
-        allBelow-at 7 (λ (i : ℕ). blanksOnly (fieldAt 4 (markText mol q) (0 + 4 * i)))
+        allBelow-at 7 (λ (i : ℕ). fieldKept 4 (markText mol q) (0 + 4 * i))
         (unfold fieldsKept in (lines .head-kept)) 5 (omega arith)
 
     pub mark-size : markSize (markText mol q ++ rest) ≡ length (markText mol q)

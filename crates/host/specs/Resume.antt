@@ -15,7 +15,7 @@ use Rattle.sheet.specs.Read.{readSheet}
 use Rattle.search.specs.declared.Search.{Search}
 use Rattle.search.specs.declared.Made.{Made}
 use Rattle.search.specs.Entries.{startRings, runSearch, runOutput, endedNumber}
-use Rattle.search.specs.Mark.{fieldAt, blanksOnly, valueAt, markLength, saveOutput, restoreMark}
+use Rattle.search.specs.Mark.{fieldKept, valueAt, markLength, saveOutput, restoreMark}
 
 -- What the entry returns, and its two outputs after it
 pub record Resumed : Type 0 where
@@ -56,13 +56,13 @@ resume sheet mark budget rings next =
     (cond (leb 599 (length next)) (runAndSave mol (made .search) budget rings next)
     (refusedCall refusal.MarkRoom rings next)))
 
--- The bytes of the mark at the start of a buffer, by the length of p
--- in its sixth field; 0 where the buffer holds no mark of that length
+-- The bytes of the mark at the start of a buffer, by the length of p in its sixth field; 0 where
+-- that is no field of a mark (one that zeros fill is none), or the buffer has fewer bytes
 unfoldable pub markSize : List ℕ → ℕ
 markSize bytes =
-    cond (leb 91 (length bytes) && blanksOnly (fieldAt 4 bytes 20) && leb (91 + 4 * markLength bytes) (length bytes))
+    cond (leb 91 (length bytes) && fieldKept 4 bytes 20 && leb (91 + 4 * markLength bytes) (length bytes))
     (91 + 4 * markLength bytes) 0
 
--- The listed count of a mark; 0 where there is none, as in no bytes
+-- The listed count of a mark; 0 where there is none, as in no bytes or in a field that zeros fill
 unfoldable pub listedIn : List ℕ → ℕ
-listedIn bytes = cond (leb 91 (length bytes) && blanksOnly (fieldAt 20 bytes 69)) (valueAt 20 bytes 69) 0
+listedIn bytes = cond (leb 91 (length bytes) && fieldKept 20 bytes 69) (valueAt 20 bytes 69) 0

@@ -11,7 +11,7 @@ use Rattle.fields.specs.declared.Number.{Number}
 use Rattle.fields.proofs.Places.{place-first, place-on, place-fits}
 use Rattle.graph.proofs.Below.{clash, false-of, same-test}
 use Rattle.graph.proofs.Loops.{all-fails, all-more, all-done}
-use Rattle.search.specs.Mark.{fieldAt, blanksOnly, fieldsKept, isFeed, markLength, layoutKept}
+use Rattle.search.specs.Mark.{blanksOnly, fieldKept, fieldsKept, isFeed, markLength, layoutKept}
 use Rattle.search.proofs.Lines.{Layout, layout-of, layout-facts}
 
 -- ---- a test t with the result r, and the branch on its negation
@@ -45,17 +45,17 @@ module _ {columns : ℕ} {bytes : List ℕ} {at k : ℕ} where
 
   module _ {i place : ℕ} (p : FieldsPassed columns bytes at k i place) where
     abbrev isField : ℕ → Bool
-    isField j = blanksOnly (fieldAt columns bytes (at + columns * j))
+    isField j = fieldKept columns bytes (at + columns * j)
 
     pub next-fits : i < k → place + columns ≤ length bytes
     next-fits h = place-fits at columns k (length bytes) i place (p .room) h (p .ends)
 
-    pub passed-fails : i < k → blanksOnly (fieldAt columns bytes place) ≡ false → false ≡ fieldsKept columns bytes at k
+    pub passed-fails : i < k → fieldKept columns bytes place ≡ false → false ≡ fieldsKept columns bytes at k
     unfolding fieldsKept
     passed-fails h e = sym (all-fails k isField i h (rw (p .ends) at e))
 
     pub passed-more :
-        i < k → blanksOnly (fieldAt columns bytes place) ≡ true →
+        i < k → fieldKept columns bytes place ≡ true →
         FieldsPassed columns bytes at k (i + 1) (place + columns)
     unfolding fieldsKept
     passed-more h e =

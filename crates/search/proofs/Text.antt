@@ -16,7 +16,7 @@ use Rattle.fields.specs.declared.Number.{Number}
 use Rattle.fields.specs.declared.Number.the-variants.{Value, Bad}
 use Rattle.fields.specs.Field.{limit, fieldText}
 use Rattle.fields.proofs.Laws.{blanks-read-back, read-is-written, field-length}
-use Rattle.search.specs.Mark.{fieldsText, fieldAt, blanksOnly, valueOf, valueAt, fieldsKept, valuesAt}
+use Rattle.search.specs.Mark.{fieldsText, fieldAt, blanksOnly, fieldKept, valueOf, valueAt, fieldsKept, valuesAt}
 
 -- fields of c columns have c bytes each
 pub fields-length : (c : ℕ) (vs : List ℕ) → length (fieldsText c vs) ≡ c * length vs
@@ -82,8 +82,8 @@ module _ (c : ℕ) (wide : 1 < c) (bytes : List ℕ) where
       length vs ≡ k → fieldsKept c bytes at k ≡ true
   unfolding fieldsKept
   fields-keep vs post at k fits e l =
-      allBelow-of k (λ i. blanksOnly (fieldAt c bytes (at + c * i)))
-      (λ i h. ap blanksOnly (fields-read vs post at fits e i (omega arith)))
+      allBelow-of k (λ i. fieldKept c bytes (at + c * i))
+      (λ i h. rw (fields-read vs post at fits e i (omega arith)))
 
   values-by :
       (vs : List ℕ) (at : ℕ) → ((i : ℕ) → i < length vs → fieldAt c bytes (at + c * i) ≡ Value (getD vs i 0) false) →
@@ -107,7 +107,7 @@ value-of Bad e = absurd (apart (sym e))
 -- the other way round: fields that are kept are the text of their values
 module _ (c : ℕ) (bytes : List ℕ) where
   one-written :
-      (at : ℕ) → at + c ≤ length bytes → blanksOnly (fieldAt c bytes at) ≡ true →
+      (at : ℕ) → at + c ≤ length bytes → fieldKept c bytes at ≡ true →
       take c (drop at bytes) ≡ fieldText c (valueAt c bytes at)
   one-written at h e =
       let room : c ≤ length (drop at bytes) = rw (length-drop at bytes) (omega arith) in
@@ -115,12 +115,12 @@ module _ (c : ℕ) (bytes : List ℕ) where
       ∙ ap (λ k. fieldText k (valueAt c bytes at)) (length-take-le c (drop at bytes) room)
 
   all-written :
-      (at k : ℕ) → at + c * k ≤ length bytes → ((i : ℕ) → i < k → blanksOnly (fieldAt c bytes (at + c * i)) ≡ true) →
+      (at k : ℕ) → at + c * k ≤ length bytes → ((i : ℕ) → i < k → fieldKept c bytes (at + c * i) ≡ true) →
       take (c * k) (drop at bytes) ≡ fieldsText c (valuesOf c bytes at k)
   unfolding fieldsText
   all-written at zero h f = rw mul-zero
   all-written at (suc k) h f =
-      let here : blanksOnly (fieldAt c bytes at) ≡ true = rw (mul-zero, add-zero) at (f 0 (omega arith)) in
+      let here : fieldKept c bytes at ≡ true = rw (mul-zero, add-zero) at (f 0 (omega arith)) in
       let size : c * suc k ≡ c + c * k = omega (arith, mul-suc c k) in
       let more = all-written (at + c) k (omega arith) (λ i j. rw (← place-on c at i) (f (suc i) (omega arith))) in
       let first = one-written at (omega (arith, mul-suc c k)) here in
@@ -130,7 +130,7 @@ module _ (c : ℕ) (bytes : List ℕ) where
       (at k : ℕ) → at + c * k ≤ length bytes → fieldsKept c bytes at k ≡ true →
       take (c * k) (drop at bytes) ≡ fieldsText c (valuesOf c bytes at k)
   unfolding fieldsKept
-  fields-written at k h e = all-written at k h (allBelow-at k (λ i. blanksOnly (fieldAt c bytes (at + c * i))) e)
+  fields-written at k h e = all-written at k h (allBelow-at k (λ i. fieldKept c bytes (at + c * i)) e)
 
   -- so the bytes from a place on are that text and the bytes past it
   pub fields-split :

@@ -50,9 +50,13 @@ savedBytes (Refused r) mol q out = out
 unfoldable pub saveOutput : Molecule → Search → List ℕ → List ℕ
 saveOutput mol q out = savedBytes (saveAnswer mol q out) mol q out
 
--- the first k fields from a place on are number fields that zeros do not fill
+-- a field that a mark may have: a number field that zeros do not fill
+abbrev pub fieldKept : ℕ → List ℕ → ℕ → Bool
+fieldKept columns bytes at = blanksOnly (fieldAt columns bytes at)
+
+-- the first k fields from a place on are such fields
 unfoldable pub fieldsKept : ℕ → List ℕ → ℕ → ℕ → Bool
-fieldsKept columns bytes at k = allBelow k (λ i. blanksOnly (fieldAt columns bytes (at + columns * i)))
+fieldsKept columns bytes at k = allBelow k (λ i. fieldKept columns bytes (at + columns * i))
 
 abbrev pub isFeed : List ℕ → ℕ → Bool
 isFeed bytes at = eqb (getD bytes at 0) 10
@@ -61,7 +65,7 @@ isFeed bytes at = eqb (getD bytes at 0) 10
 abbrev pub markLength : List ℕ → ℕ
 markLength bytes = valueAt 4 bytes 20
 
--- Rule 14 kept: three lines of number fields that zeros do not fill, 91 + 4 × length bytes, length at most 127
+-- Rule 14 kept: three lines of number fields, none filled with zeros, 91 + 4 × length bytes, length at most 127
 unfoldable pub layoutKept : List ℕ → Bool
 layoutKept bytes =
     leb 91 (length bytes)
