@@ -1,68 +1,76 @@
--- Every n and list of bonds that keep the rules have a sheet, and it
--- reads to exactly that record: no reader that refuses all would do.
+-- Every n and list of bonds that keep the rules have a sheet in any choice of fillings, and it
+-- reads to exactly that record: no reader that refuses all, or one of the fillings, would do.
 -- Line i of the text is what its two numbers are written as, and a written field reads back.
 use Prim.Native.Nat.{ℕ, zero, suc, _+_, _*_, _/_, _≤_, _<_}
 use native.Mathlib.Nat.{add-zero, mul-mod-right, mul-div-right}
 use native.Mathlib.Omega.{arith}
 use mathlib.Core.Path.{_≡_, refl, ap, ap₂, sym, _∙_}
-use mathlib.Core.Bool.{true, false}
+use mathlib.Core.Bool.{Bool, true}
 use mathlib.Core.List.{List, [], _∷_, _++_, append-assoc}
 use lib.ListN.{length, getD, take, drop, length-append}
 use lib.Seq.{take-at, drop-at, drop-append-add, getD-append-add, getD-drop}
 use Rattle.graph.specs.Every.{allBelow}
 use Rattle.graph.proofs.Below.{and-parts, allBelow-at, allBelow-of}
+use Rattle.fields.specs.declared.Number.{Number}
 use Rattle.fields.specs.declared.Number.the-variants.{Value}
-use Rattle.fields.specs.Field.{readField, fieldText, fieldAt}
-use Rattle.fields.proofs.Laws.{blanks-read-back, field-length}
+use Rattle.fields.specs.Field.{zeroFirst, readField, filledText, fieldAt}
+use Rattle.fields.proofs.Laws.{written-reads-back, filled-length}
 use Rattle.molecule.specs.Record.{isAtom}
 use Rattle.molecule.proofs.Bonds.{atom-bounds}
 use Rattle.sheet.specs.Bonds.{Bond, atomsKept, noneToItself, noneTwice}
 use Rattle.sheet.specs.Read.{lineKept, lineOf, atomsOf, bondsOf, bondOf, acceptedSheet, readBonds, readSheet}
-use Rattle.sheet.specs.Text.{linesText, sheetText, bondAt}
+use Rattle.sheet.specs.Text.{Fillings, later, linesText, sheetText, bondAt}
 use Rattle.sheet.specs.Parts.{ReadsLine}
 use Rattle.sheet.proofs.Lines.{entry, line-good}
 use Rattle.sheet.proofs.Answers.{Lined, bonds-read, sheet-read}
 use Rattle.sheet.proofs.Same.{bonds-same}
 use Rattle.sheet.proofs.Stored.{within, atoms-kept-is}
 
-lines-length : (xs : List Bond) → length (linesText xs) ≡ 9 * length xs
+lines-length : (zeros : Fillings) (xs : List Bond) → length (linesText zeros xs) ≡ 9 * length xs
 unfolding linesText
-lines-length [] = refl
-lines-length (x ∷ xs) =
-    simp (length-append, field-length 4 (x .0), field-length 4 (x .1), lines-length xs) (omega arith)
+lines-length zeros [] = refl
+lines-length zeros (x ∷ xs) =
+    let left = filled-length (zeros 0 .0) 4 (x .0) in
+    let right = filled-length (zeros 0 .1) 4 (x .1) in
+    simp (length-append, left, right, lines-length (later zeros) xs) (omega arith)
 
 -- ---- the first line of a text
 
-module _ (x : Bond) (xs : List Bond) where
+-- a field holds v, in one filling or the other
+abbrev Holds : Number → ℕ → Type 0
+Holds field v = (filled : Bool) × (field ≡ Value v filled)
+
+module _ (zeros : Fillings) (x : Bond) (xs : List Bond) where
   abbrev leftText : List ℕ
-  leftText = fieldText 4 (x .0)
+  leftText = filledText (zeros 0 .0) 4 (x .0)
 
   abbrev rightText : List ℕ
-  rightText = fieldText 4 (x .1)
+  rightText = filledText (zeros 0 .1) 4 (x .1)
 
   abbrev restText : List ℕ
-  restText = linesText xs
+  restText = linesText (later zeros) xs
 
   left-length : length leftText ≡ 4
-  left-length = field-length 4 (x .0)
+  left-length = filled-length (zeros 0 .0) 4 (x .0)
 
   right-length : length rightText ≡ 4
-  right-length = field-length 4 (x .1)
+  right-length = filled-length (zeros 0 .1) 4 (x .1)
 
-  first-left : x .0 < 10000 → fieldAt 4 (linesText (x ∷ xs)) 0 ≡ Value (x .0) false
+  first-left : x .0 < 10000 → Holds (fieldAt 4 (linesText zeros (x ∷ xs)) 0) (x .0)
   unfolding linesText
   first-left small =
-      rw (take-at leftText (rightText ++ (10 ∷ restText)) 4 left-length)
-      (blanks-read-back 4 (x .0) small (omega arith) (omega arith))
+      let field = take-at leftText (rightText ++ (10 ∷ restText)) 4 left-length in
+      (zeroFirst leftText, rw field (written-reads-back (zeros 0 .0) 4 (x .0) small (omega arith) (omega arith)))
 
-  first-right : x .1 < 10000 → fieldAt 4 (linesText (x ∷ xs)) 4 ≡ Value (x .1) false
+  first-right : x .1 < 10000 → Holds (fieldAt 4 (linesText zeros (x ∷ xs)) 4) (x .1)
   unfolding linesText
   first-right small =
       let skip = drop-at leftText (rightText ++ (10 ∷ restText)) 4 left-length in
       let field = take-at rightText (10 ∷ restText) 4 right-length in
-      rw (skip, field) (blanks-read-back 4 (x .1) small (omega arith) (omega arith))
+      let read = written-reads-back (zeros 0 .1) 4 (x .1) small (omega arith) (omega arith) in
+      (zeroFirst rightText, rw (skip, field) read)
 
-  first-end : getD (linesText (x ∷ xs)) 8 0 ≡ 10
+  first-end : getD (linesText zeros (x ∷ xs)) 8 0 ≡ 10
   unfolding linesText
   first-end =
       let outer = getD-append-add leftText (rightText ++ (10 ∷ restText)) 4 0 in
@@ -76,13 +84,13 @@ module _ (x : Bond) (xs : List Bond) where
   nine-length : length nine ≡ 9
   nine-length = simp (length-append, left-length, right-length)
 
-  nine-first : linesText (x ∷ xs) ≡ nine ++ restText
+  nine-first : linesText zeros (x ∷ xs) ≡ nine ++ restText
   unfolding linesText
   nine-first =
       let inner = append-assoc rightText (10 ∷ []) restText in
       sym (append-assoc leftText (rightText ++ (10 ∷ [])) restText ∙ ap (λ l. leftText ++ l) inner)
 
-  skip-line : (k : ℕ) → drop (9 + k) (linesText (x ∷ xs)) ≡ drop k (linesText xs)
+  skip-line : (k : ℕ) → drop (9 + k) (linesText zeros (x ∷ xs)) ≡ drop k (linesText (later zeros) xs)
   skip-line k = rw (nine-first, ← nine-length) (drop-append-add nine restText k)
 
 -- ---- any line of a text
@@ -95,53 +103,63 @@ unfolding Small
 fewer-small x xs small i h = small (suc i) (omega arith)
 
 -- a line further on is the line before it of the rest
-module _ (x : Bond) (xs : List Bond) (i : ℕ) where
-  shift-field : (k : ℕ) → fieldAt 4 (linesText (x ∷ xs)) (9 * suc i + k) ≡ fieldAt 4 (linesText xs) (9 * i + k)
-  shift-field k =
-      let sum : 9 * suc i + k ≡ 9 + (9 * i + k) = omega arith in
-      let skipped = ap (λ d. drop d (linesText (x ∷ xs))) sum ∙ skip-line x xs (9 * i + k) in
-      ap (λ l. readField (take 4 l)) skipped
+module _ (zeros : Fillings) (x : Bond) (xs : List Bond) (i : ℕ) where
+  abbrev whole : List ℕ
+  whole = linesText zeros (x ∷ xs)
 
-  shift-byte : getD (linesText (x ∷ xs)) (9 * suc i + 8) 0 ≡ getD (linesText xs) (9 * i + 8) 0
+  abbrev rest : List ℕ
+  rest = linesText (later zeros) xs
+
+  shift-field : (k v : ℕ) → Holds (fieldAt 4 rest (9 * i + k)) v → Holds (fieldAt 4 whole (9 * suc i + k)) v
+  shift-field k v (filled, holds) =
+      let sum : 9 * suc i + k ≡ 9 + (9 * i + k) = omega arith in
+      let skipped = ap (λ d. drop d whole) sum ∙ skip-line zeros x xs (9 * i + k) in
+      (filled, ap (λ l. readField (take 4 l)) skipped ∙ holds)
+
+  shift-byte : getD whole (9 * suc i + 8) 0 ≡ getD rest (9 * i + 8) 0
   shift-byte =
       let sum : 9 * suc i + 8 ≡ 9 + (9 * i + 8) = omega arith in
-      ap (λ d. getD (linesText (x ∷ xs)) d 0) sum
-      ∙ sym (getD-drop 9 (linesText (x ∷ xs)) (9 * i + 8) 0)
-      ∙ ap (λ l. getD l (9 * i + 8) 0) (skip-line x xs 0)
+      ap (λ d. getD whole d 0) sum
+      ∙ sym (getD-drop 9 whole (9 * i + 8) 0)
+      ∙ ap (λ l. getD l (9 * i + 8) 0) (skip-line zeros x xs 0)
 
 -- the parts of line i
 text-left :
-    (xs : List Bond) (i : ℕ) → i < length xs → Small xs →
-    fieldAt 4 (linesText xs) (9 * i + 0) ≡ Value (bondAt xs i .0) false
+    (zeros : Fillings) (xs : List Bond) (i : ℕ) → i < length xs → Small xs →
+    Holds (fieldAt 4 (linesText zeros xs) (9 * i + 0)) (bondAt xs i .0)
 unfolding Small
-text-left [] i h small = absurd (omega arith)
-text-left (x ∷ xs) zero h small = first-left x xs (small 0 h .0)
-text-left (x ∷ xs) (suc i) h small = shift-field x xs i 0 ∙ text-left xs i (omega arith) (fewer-small x xs small)
+text-left zeros [] i h small = absurd (omega arith)
+text-left zeros (x ∷ xs) zero h small = first-left zeros x xs (small 0 h .0)
+text-left zeros (x ∷ xs) (suc i) h small =
+    shift-field zeros x xs i 0 (bondAt xs i .0) (text-left (later zeros) xs i (omega arith) (fewer-small x xs small))
 
 text-right :
-    (xs : List Bond) (i : ℕ) → i < length xs → Small xs →
-    fieldAt 4 (linesText xs) (9 * i + 4) ≡ Value (bondAt xs i .1) false
+    (zeros : Fillings) (xs : List Bond) (i : ℕ) → i < length xs → Small xs →
+    Holds (fieldAt 4 (linesText zeros xs) (9 * i + 4)) (bondAt xs i .1)
 unfolding Small
-text-right [] i h small = absurd (omega arith)
-text-right (x ∷ xs) zero h small = first-right x xs (small 0 h .1)
-text-right (x ∷ xs) (suc i) h small = shift-field x xs i 4 ∙ text-right xs i (omega arith) (fewer-small x xs small)
+text-right zeros [] i h small = absurd (omega arith)
+text-right zeros (x ∷ xs) zero h small = first-right zeros x xs (small 0 h .1)
+text-right zeros (x ∷ xs) (suc i) h small =
+    shift-field zeros x xs i 4 (bondAt xs i .1) (text-right (later zeros) xs i (omega arith) (fewer-small x xs small))
 
-text-end : (xs : List Bond) (i : ℕ) → i < length xs → getD (linesText xs) (9 * i + 8) 0 ≡ 10
-text-end [] i h = absurd (omega arith)
-text-end (x ∷ xs) zero h = first-end x xs
-text-end (x ∷ xs) (suc i) h = shift-byte x xs i ∙ text-end xs i (omega arith)
+text-end :
+    (zeros : Fillings) (xs : List Bond) (i : ℕ) → i < length xs → getD (linesText zeros xs) (9 * i + 8) 0 ≡ 10
+text-end zeros [] i h = absurd (omega arith)
+text-end zeros (x ∷ xs) zero h = first-end zeros x xs
+text-end zeros (x ∷ xs) (suc i) h = shift-byte zeros x xs i ∙ text-end (later zeros) xs i (omega arith)
 
 -- each line is kept, and holds its two numbers
-module _ (xs : List Bond) (small : Small xs) (i : ℕ) (h : i < length xs) where
-  text-read : ReadsLine (linesText xs) i (entry (bondAt xs i .0) (bondAt xs i .1))
+module _ (zeros : Fillings) (xs : List Bond) (small : Small xs) (i : ℕ) (h : i < length xs) where
+  text-read : ReadsLine (linesText zeros xs) i (entry (bondAt xs i .0) (bondAt xs i .1))
   text-read =
-      let left = rw (add-zero (9 * i)) at (text-left xs i h small) in
-      line-good left (text-right xs i h small) (text-end xs i h)
+      let left = rw (add-zero (9 * i)) at (text-left zeros xs i h small) in
+      let right = text-right zeros xs i h small in
+      line-good (left .1) (right .1) (text-end zeros xs i h)
 
-  text-kept : lineKept (linesText xs) i ≡ true
+  text-kept : lineKept (linesText zeros xs) i ≡ true
   text-kept = sym (text-read .ok)
 
-  text-line : lineOf (linesText xs) i ≡ bondAt xs i
+  text-line : lineOf (linesText zeros xs) i ≡ bondAt xs i
   text-line = sym (text-read .values refl)
 
 -- the numbers of a sheet that keeps the rules are small
@@ -158,36 +176,36 @@ sheet-small n bonds few light kept (suc k) h =
     let right = atom-bounds n (bondAt bonds k .1) (both .1) in
     (omega arith, omega arith)
 
--- The sheet of n atoms and some bonds reads to their record
+-- The sheet of n atoms and some bonds reads to their record, whatever fills its fields
 pub every-molecule-has-a-sheet :
-    (n : ℕ) (bonds : List Bond) → n ≤ 128 → length bonds ≤ 1024 →
+    (zeros : Fillings) (n : ℕ) (bonds : List Bond) → n ≤ 128 → length bonds ≤ 1024 →
     atomsKept n (bondAt bonds) (length bonds) ≡ true → noneToItself (bondAt bonds) (length bonds) ≡ true →
     noneTwice (bondAt bonds) (length bonds) ≡ true →
-    readSheet (sheetText n bonds) ≡ acceptedSheet n (bondAt bonds) (length bonds)
+    readSheet (sheetText zeros n bonds) ≡ acceptedSheet n (bondAt bonds) (length bonds)
 unfolding sheetText
-every-molecule-has-a-sheet n bonds few light atoms apart twice =
+every-molecule-has-a-sheet zeros n bonds few light atoms apart twice =
     sheet-read lined (rw (← atoms-here) at few) (rw (← bonds-here) at light) size-here
     ∙ ap₂ (λ x y. readBonds x (bondOf text) y) atoms-here bonds-here
-    ∙ bonds-same n (bondOf text) (bondAt bonds) (length bonds) (λ k h. text-line all small (suc k) (omega arith))
+    ∙ bonds-same n (bondOf text) (bondAt bonds) (length bonds) (λ k h. text-line zeros all small (suc k) (omega arith))
     ∙ bonds-read n (bondAt bonds) (length bonds) atoms apart twice
   where
     all : List Bond
     all = (n, length bonds) ∷ bonds
 
     text : List ℕ
-    text = linesText all
+    text = linesText zeros all
 
     small : Small all
     small = sheet-small n bonds few light atoms
 
     size : length text ≡ 9 * suc (length bonds)
-    size = lines-length all
+    size = lines-length zeros all
 
     count : length text / 9 ≡ suc (length bonds)
     count = rw size (mul-div-right (suc (length bonds)) (omega arith))
 
     lines : allBelow (length text / 9) (lineKept text) ≡ true
-    lines = rw count (allBelow-of (suc (length bonds)) (lineKept text) (λ i h. text-kept all small i h))
+    lines = rw count (allBelow-of (suc (length bonds)) (lineKept text) (λ i h. text-kept zeros all small i h))
 
     lined : Lined text
     lined =
@@ -198,10 +216,10 @@ every-molecule-has-a-sheet n bonds few light atoms apart twice =
         }
 
     atoms-here : atomsOf text ≡ n
-    atoms-here = ap (λ x. x .0) (text-line all small 0 (omega arith))
+    atoms-here = ap (λ x. x .0) (text-line zeros all small 0 (omega arith))
 
     bonds-here : bondsOf text ≡ length bonds
-    bonds-here = ap (λ x. x .1) (text-line all small 0 (omega arith))
+    bonds-here = ap (λ x. x .1) (text-line zeros all small 0 (omega arith))
 
     size-here : length text ≡ 9 * suc (bondsOf text)
     size-here = size ∙ sym (ap (λ b. 9 * suc b) bonds-here)

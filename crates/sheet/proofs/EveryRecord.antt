@@ -21,7 +21,7 @@ use Rattle.molecule.proofs.Rules.{Mirror, Sound, sound-of-rules}
 use Rattle.molecule.proofs.Bonds.{rule9}
 use Rattle.sheet.specs.Bonds.{Bond, atomsKept, noneToItself, samePair, noneTwice, rowsOf}
 use Rattle.sheet.specs.Read.{readSheet}
-use Rattle.sheet.specs.Text.{sheetText, bondAt}
+use Rattle.sheet.specs.Text.{Fillings, sheetText, bondAt}
 use Rattle.sheet.proofs.Bits.{bit-half, bit-first}
 use Rattle.sheet.proofs.Cells.{Rows}
 use Rattle.sheet.proofs.Stored.{within, differs, atoms-kept-is, none-to-itself-is}
@@ -355,6 +355,10 @@ every-record-has-a-sheet mol formed size byte =
     let listed = pairs-listed (mol .rows) 16384 in
     go (bondsTo (mol .rows) 16384) listed (rule .atoms-high) (rule .bonds-high) sound ones-count
   where
+    -- blanks fill every field
+    blanks : Fillings
+    blanks i = (false, false)
+
     bytes : Rows (mol .rows)
     bytes = record { size = size; byte = byte }
 
@@ -368,5 +372,5 @@ every-record-has-a-sheet mol formed size byte =
         let same : rowsOf (bondAt bonds) (length bonds) ≡ mol .rows = rows-are few bytes sound f in
         let atoms = bonds-atoms few bytes sound f in
         let apart = bonds-apart few bytes sound f in
-        let sheet = every-molecule-has-a-sheet (mol .atoms) bonds few (omega arith) atoms apart (f .once) in
-        (sheetText (mol .atoms) bonds, sheet ∙ rw (same, as-many))
+        let sheet = every-molecule-has-a-sheet blanks (mol .atoms) bonds few (omega arith) atoms apart (f .once) in
+        (sheetText blanks (mol .atoms) bonds, sheet ∙ rw (same, as-many))
