@@ -19,7 +19,10 @@ extern "C" {
 
    sheet      the bond sheet, sheet_len bytes: a line of atoms n and bonds m,
               then m lines of two atoms; two fields of 4 columns and a line
-              feed each, 9 bytes.
+              feed each, 9 bytes. A field is a number in decimal digits,
+              right-justified; blanks or zeros, and not both, fill the columns
+              before it: "  12" and "0012" are both 12, " 012" is no number.
+              Each field of a sheet may have its own filling.
    mark       the mark that the call before wrote, mark_len bytes exactly;
               mark_len 0 starts a fresh ring search. A mark belongs to any
               sheet with its n and m; that is checked (15), and that its place
@@ -56,7 +59,9 @@ extern "C" {
    lines. Line 1: kind (0 rings, 1 paths), s and t (0 and 0 for rings), n, m,
    the number of atoms in the present beginning, and the next atom, 4 columns
    each. Line 2: trials, extensions and rings listed so far, 20 columns each.
-   Line 3: the atoms of the beginning, 4 columns each.
+   Line 3: the atoms of the beginning, 4 columns each. Blanks fill the fields of
+   a mark, whatever fills those of the sheet; a mark with a field that zeros
+   fill, also "0000" for 0, is refused (14).
 
    Returned when the call was accepted:
      101  done: all rings that follow the mark have been listed; from a fresh
@@ -73,14 +78,16 @@ extern "C" {
    Returned when it was refused, by the first rule that is broken in the order
    1 to 8, 14 to 17, 13. A refused call writes to neither output.
        1  the sheet is shorter than 9 bytes or not a multiple of 9
-       2  a sheet field or line end has the wrong bytes
+       2  a sheet field or line end has the wrong bytes; blanks or zeros may
+          fill a field, and not both
        3  n is above 128
        4  m is above 1,024
        5  the sheet is not 9 * (m + 1) bytes
        6  a bond names atom 0 or an atom above n
        7  a bond joins an atom to itself
        8  two bonds join the same two atoms, in either order
-      14  the mark's bytes do not follow the layout
+      14  the mark's bytes do not follow the layout; zeros fill none of its
+          fields
       15  the mark's n or m differs from the sheet's
       16  the mark's kind is not 0 or 1, or its s and t are not 0 and 0 for
           rings, or not two different atoms for paths
@@ -113,13 +120,14 @@ uint32_t ringlist_resume(const uint8_t *sheet, size_t sheet_len,
 
 /* The bytes of the mark at the start of a buffer: 91 + 4 * the number in
    columns 21 to 24 of its first line. 0 where the buffer has fewer bytes than
-   that, or fewer than 91, or those columns hold no number. The rest of the mark
-   is not looked at. */
+   that, or fewer than 91, or those columns hold no number, for which a field
+   that zeros fill ("0002") counts too. The rest of the mark is not looked at. */
 size_t ringlist_mark_length(const uint8_t *mark, size_t mark_len);
 
 /* The listed count of a mark, in columns 41 to 60 of its second line. 0 where
    the buffer has fewer than 91 bytes (so for mark_len 0), or those columns hold no
-   number up to 9,999,999,999,999,999,999. */
+   number up to 9,999,999,999,999,999,999, for which a field that zeros fill counts
+   too. */
 uint64_t ringlist_listed(const uint8_t *mark, size_t mark_len);
 
 #ifdef __cplusplus

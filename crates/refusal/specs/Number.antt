@@ -6,7 +6,7 @@ use Rattle.refusal.specs.declared.Refusal.the-variants.{SheetLength, She
 abbrev pub numberOf : Refusal → ℕ
 -- the sheet is shorter than 9 bytes or not a multiple of 9
 numberOf SheetLength = 1
--- a sheet field or line end has the wrong bytes
+-- a sheet field or line end has the wrong bytes; blanks or zeros may fill a field, and not both
 numberOf SheetBytes = 2
 -- n is above 128
 numberOf TooManyAtoms = 3
