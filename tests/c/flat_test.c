@@ -190,7 +190,7 @@ static void sheets(void) {
     REFUSED("   0   0", 1);
     REFUSED("   0   0\n\n", 1);
     REFUSED("   0   0\r\n", 1);
-    /* 2: a field or a line end has the wrong bytes. */
+    /* 2: a field or a line end has the wrong bytes; blanks or zeros may fill a field, and not both. */
     REFUSED("   0    \n", 2);
     REFUSED("  04   0\n", 2);
     REFUSED(" 012   0\n", 2);

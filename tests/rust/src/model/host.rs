@@ -119,6 +119,7 @@ mod tests {
         let line = b"                   2                   3                  16\n";
         assert_eq!(count_line(2, 3, 16), line);
     }
+
     /// A field that zeros fill is no number in a mark.
     #[test]
     fn zeros_by_hand() {

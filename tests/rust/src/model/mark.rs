@@ -128,6 +128,7 @@ mod tests {
         assert_eq!(answer("   1   2\n", "   1 258\n"), Err(17));
         assert_eq!(answer("5       ", "5 1     "), Err(14));
     }
+
     /// Each field of the mark in turn written with zeros in front, and all of
     /// them.
     #[test]

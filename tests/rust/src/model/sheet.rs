@@ -84,6 +84,7 @@ mod tests {
         assert_eq!(read(b"   2   1\n   2   2\n"), Err(7));
         assert_eq!(read(b"   2   2\n   1   2\n   2   1\n"), Err(8));
     }
+
     #[test]
     fn reads_zeros_by_hand() {
         let record = read(b"   2   1\n   2   1\n").expect("a sheet");
