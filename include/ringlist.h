@@ -86,8 +86,8 @@ extern "C" {
        6  a bond names atom 0 or an atom above n
        7  a bond joins an atom to itself
        8  two bonds join the same two atoms, in either order
-      14  the mark's bytes do not follow the layout; zeros fill none of its
-          fields
+      14  the mark's bytes do not follow the layout, in which zeros fill no
+          field
       15  the mark's n or m differs from the sheet's
       16  the mark's kind is not 0 or 1, or its s and t are not 0 and 0 for
           rings, or not two different atoms for paths
@@ -120,14 +120,14 @@ uint32_t ringlist_resume(const uint8_t *sheet, size_t sheet_len,
 
 /* The bytes of the mark at the start of a buffer: 91 + 4 * the number in
    columns 21 to 24 of its first line. 0 where the buffer has fewer bytes than
-   that, or fewer than 91, or those columns hold no number, for which a field
-   that zeros fill ("0002") counts too. The rest of the mark is not looked at. */
+   that, or fewer than 91, or those columns hold no number; a field that zeros
+   fill, as "0002", is none in a mark. The rest of the mark is not looked at. */
 size_t ringlist_mark_length(const uint8_t *mark, size_t mark_len);
 
 /* The listed count of a mark, in columns 41 to 60 of its second line. 0 where
    the buffer has fewer than 91 bytes (so for mark_len 0), or those columns hold no
-   number up to 9,999,999,999,999,999,999, for which a field that zeros fill counts
-   too. */
+   number up to 9,999,999,999,999,999,999; a field that zeros fill is none in a
+   mark. */
 uint64_t ringlist_listed(const uint8_t *mark, size_t mark_len);
 
 #ifdef __cplusplus

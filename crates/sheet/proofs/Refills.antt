@@ -12,7 +12,7 @@ use Rattle.graph.specs.Every.{allBelow}
 use Rattle.graph.proofs.Below.{and-parts, allBelow-at, allBelow-of}
 use Rattle.fields.specs.declared.Number.{Number}
 use Rattle.fields.specs.declared.Number.the-variants.{Value, Bad}
-use Rattle.fields.specs.Field.{fieldAt, isValue, valueOf}
+use Rattle.fields.specs.Field.{fieldAt, isValue, valueOf, valueAt, Refilled}
 use Rattle.fields.proofs.Laws.{refilled-same, as-before}
 use Rattle.refusal.specs.declared.Refusal.the-variants as refusal
 use Rattle.refusal.specs.declared.Answer.the-variants.{Accepted}
@@ -53,19 +53,20 @@ numbers-same size line line′ first same =
 -- ---- fillings alone
 
 module _ (s s′ : List ℕ) (other : OtherFillings s s′) where
+  -- the fields at a place of both sheets hold the same number, or none of them does
+  field-same :
+      (at : ℕ) → Refilled 4 (fourAt s at) (fourAt s′ at) →
+      (isValue (fieldAt 4 s at) ≡ isValue (fieldAt 4 s′ at)) × (valueAt 4 s at ≡ valueAt 4 s′ at)
+  field-same at refilled = refilled-same 4 (fourAt s at) (fourAt s′ at) (omega arith) refilled
+
   line-kept-same : (i : ℕ) → lineKept s i ≡ lineKept s′ i
   unfolding lineKept
   line-kept-same i =
-      let left = refilled-same 4 (fourAt s (9 * i)) (fourAt s′ (9 * i)) (omega arith) (other .left i) in
-      let right = refilled-same 4 (fourAt s (9 * i + 4)) (fourAt s′ (9 * i + 4)) (omega arith) (other .right i) in
-      rw (left .0, right .0, other .ends i)
+      rw (field-same (9 * i) (other .left i) .0, field-same (9 * i + 4) (other .right i) .0, other .ends i)
 
   line-same : (i : ℕ) → lineOf s i ≡ lineOf s′ i
   unfolding lineOf
-  line-same i =
-      let left = refilled-same 4 (fourAt s (9 * i)) (fourAt s′ (9 * i)) (omega arith) (other .left i) in
-      let right = refilled-same 4 (fourAt s (9 * i + 4)) (fourAt s′ (9 * i + 4)) (omega arith) (other .right i) in
-      rw (left .1, right .1)
+  line-same i = rw (field-same (9 * i) (other .left i) .1, field-same (9 * i + 4) (other .right i) .1)
 
   -- Two sheets that differ in fillings only are read as the same record, or refused by the same number
   pub fillings-alone : readSheet s ≡ readSheet s′
