@@ -6,6 +6,7 @@
 - Each `old:` text of an edit stands once in the file that the edit names, and no two edits of a crate are the same.
 - docs/TRACE.md names every edit, and no other; its last table has every edit of a definition (a file of specs/). An edit is
   named as CRATE/NAME; `CRATE/NAME, NAME` names two of one crate.
+- Each row of a table of docs/TRACE.md has as many cells as the row above it.
 
 Prints a line for each fault; the exit code is 1 if there is any.
 """
@@ -79,10 +80,19 @@ def trace_faults(root, there):
             yield "crates/%s/must-fail/%s.edit: the table of docs/TRACE.md has no law for it" % (crate, name)
 
 
+def table_faults(root):
+    """Rows of docs/TRACE.md with more or fewer cells than the row above."""
+    cells = 0
+    for number, line in enumerate(read(root, "docs", "TRACE.md").splitlines(), 1):
+        above, cells = cells, line.count("|") if line.startswith("|") else 0
+        if above and cells and cells != above:
+            yield "docs/TRACE.md:%d: a row of %d cells below one of %d" % (number, cells - 1, above - 1)
+
+
 def main():
     root = sys.argv[1] if len(sys.argv) > 1 else "."
     there = edits(root)
-    found = [*text_faults(root, there), *trace_faults(root, there)]
+    found = [*text_faults(root, there), *trace_faults(root, there), *table_faults(root)]
     print("\n".join(found) if found else "edits.py: %d must-fail edits fit the code, and docs/TRACE.md names them" % len(there))
     sys.exit(1 if found or not there else 0)
 

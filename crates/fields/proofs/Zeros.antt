@@ -13,7 +13,7 @@ use Rattle.fields.specs.declared.Number.the-variants.{Value}
 use Rattle.fields.specs.Field.{limit, digits, zeroFirst, column, columns, fieldText, zeroText}
 use Rattle.fields.proofs.Digits.{digits-end-value, digit-read, digits-below, digits-snoc, one-more}
 
--- they are worth their number
+-- the text filled with zeros is digits worth its number
 pub zeros-digits : (k v : ℕ) → v < 10 ^ k → v ≤ limit → digits true 0 (zeroText k v) ≡ Value v true
 unfolding zeroText digits
 zeros-digits zero v below fits =
@@ -83,7 +83,7 @@ texts-agree (suc k) v most =
 
 -- ---- what the first column of each text holds
 
--- a column that is left of a number holds no 0
+-- the first column of a number holds no 0
 no-zero : (v : ℕ) → v < 10 → column v ≡ 48 → ⊥
 unfolding column
 no-zero zero h e = omega arith

@@ -98,6 +98,6 @@ pub record SameNumber (k : ℕ) (a b : List ℕ) : Type 0 where
   pub left : a ≡ filledText zeros-left k value
   pub right : b ≡ filledText zeros-right k value
 
--- Two fields of k columns that differ in filling only, or not at all
+-- Two fields that differ in filling only, as texts of k columns, or not at all
 abbrev pub Refilled : ℕ → List ℕ → List ℕ → Type 0
 Refilled k a b = (a ≡ b) ⊎ SameNumber k a b

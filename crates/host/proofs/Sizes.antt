@@ -29,7 +29,7 @@ front-field c at front rest h =
     ap (λ (l : List ℕ). readField (take c l)) (drop-append-le at front rest (omega arith))
     ∙ ap readField (take-append-le c (drop at front) rest (rw length-drop (omega arith)))
 
--- the bytes of a mark, where its length is a number field and the buffer has as many
+-- the bytes of a mark, where its length is a field that a mark may have and the buffer has as many
 size-kept :
     (bytes : List ℕ) → fieldKept 4 bytes 20 ≡ true → 91 + 4 * markLength bytes ≤ length bytes →
     markSize bytes ≡ 91 + 4 * markLength bytes

@@ -1,4 +1,4 @@
--- Rule 14 is kept exactly by three lines of number fields, the sixth of which counts those of the third line.
+-- Rule 14 is kept exactly by three lines of fields that a mark may have, the sixth of which counts those of line 3.
 -- Along the bytes from front to back: what stands past each line is known from what stands past the one before it.
 use Prim.Native.Nat.{ℕ, suc, _+_, _*_, _≤_, _<_}
 use native.Mathlib.Nat.{add-zero}

@@ -1,6 +1,6 @@
 -- The laws of marks (document 01, "Marks" and rules 12 to 17): a saved mark restores the search, an accepted
 -- mark is saved again as the same bytes, and rule 12 allows exactly the searches that some mark restores.
--- A mark is three lines of number fields, and each field is the one way to
+-- A mark is three lines of number fields that zeros do not fill, and such a field is the one way to
 -- write its value; readings of the definitions stand in Readings and Views.
 use Prim.Native.Nat.{ℕ, _+_, _*_, _≤_, _<_}
 use native.Mathlib.Omega.{arith}

@@ -1,5 +1,4 @@
 pub mod Accepted
-pub mod Refills
 pub mod Answers
 pub mod Bits
 pub mod Cells
@@ -8,6 +7,7 @@ pub mod EveryRecord
 pub mod Filling
 pub mod Lines
 pub mod Reading
+pub mod Refills
 pub mod Same
 pub mod Stored
 pub mod Tables

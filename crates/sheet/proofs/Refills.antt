@@ -20,7 +20,7 @@ use Rattle.sheet.specs.declared.SheetAnswer.{SheetAnswer}
 use Rattle.sheet.specs.Bonds.{Bond}
 use Rattle.sheet.specs.Read.{lengthKept, lineKept, linesKept, lineOf, refusedSheet, readBonds}
 use Rattle.sheet.specs.Read.{fewAtoms, fewBonds, sizeKept, readNumbers, readSheet}
-use Rattle.sheet.specs.Fillings.{fourAt, OtherFillings, fieldBefore, lineKeptBefore, lineBefore, readBefore}
+use Rattle.sheet.specs.OtherFillings.{fourAt, OtherFillings, fieldBefore, lineKeptBefore, lineBefore, readBefore}
 use Rattle.sheet.proofs.Same.{all-same, bonds-same}
 use Rattle.sheet.proofs.Accepted.{kept-on}
 

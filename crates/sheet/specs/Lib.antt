@@ -1,5 +1,5 @@
 pub mod Bonds
-pub mod Fillings
+pub mod OtherFillings
 pub mod Parts
 pub mod Read
 pub mod Text

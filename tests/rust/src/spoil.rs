@@ -121,7 +121,7 @@ pub fn put(mark: &mut [u8], at: usize, columns: usize, text: &str) {
     mark[at..at + columns].copy_from_slice(&text.as_bytes()[text.len() - columns..]);
 }
 
-/// Writes a field, right before, with zeros for its blanks.
+/// Puts zeros for the blanks of a field that was right.
 pub fn zero_fill(mark: &mut [u8], at: usize, columns: usize) {
     for byte in &mut mark[at..at + columns] {
         if *byte == b' ' {

@@ -16,12 +16,14 @@ use Rattle.host.proofs.ringlist_listed.Tie as tie
 abbrev reads : tie.After-field → tie.After-number-at
 reads c = c .before .before
 
+abbrev start : tie.After-number-at → tie.Start
+start c = c .before .before .before
+
 -- ---- what is known there
 
 field-read :
     (c : tie.After-field) →
-    let mark = reads c .before .before .before .args .mark .now in
-    fieldAt 20 mark 69 ≡ Value (c .field .given .0 .0) (c .field .given .0 .1 .0)
+    fieldAt 20 (start (reads c) .args .mark .now) 69 ≡ Value (c .field .given .0 .0) (c .field .given .0 .1 .0)
 field-read c = sym (reads c .number-at .ensures) ∙ c .field .given .1
 
 -- ---- the needs
