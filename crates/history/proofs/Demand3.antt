@@ -15,11 +15,10 @@ use Rattle.enumeration.proofs.Theorems.{list-ascending, list-once, list-exactly
 use Rattle.molecule.specs.declared.Molecule.{Molecule}
 use Rattle.molecule.specs.Record.{wellFormed}
 use Rattle.search.specs.Place.{familyOf, stateOf, freshSearch, kindKept}
-use Rattle.search.proofs.Readings.{family-lawful}
+use Rattle.search.proofs.Readings.{family-atoms, family-lawful}
 use Rattle.history.specs.Calls.{Call, Standing, start, standing, History, saidDone}
 use Rattle.history.specs.Demand.{OneList, Whole, Demand}
 use Rattle.history.specs.Resumed.{restoredStart}
-use Rattle.history.proofs.Entered.{family-atoms}
 use Rattle.history.proofs.Reached.{Reached, stateAt, reached-start, list-reached}
 use Rattle.history.proofs.Stands.{Stood, stood}
 

@@ -10,7 +10,7 @@ use Rattle.graph.proofs.Below.{and-parts}
 use Rattle.chordless.specs.Families.{rings, paths}
 use Rattle.molecule.specs.declared.Molecule.{Molecule}
 use Rattle.molecule.specs.Record.{wellFormed, bonded, isAtom}
-use Rattle.search.specs.Place.{familyOf, endsKept, kindKept}
+use Rattle.search.specs.Place.{familyIn, familyOf, endsKept, kindKept}
 use Rattle.search.specs.Entries.{acceptedSearch, startRings, startPaths}
 use Rattle.history.specs.Calls.{Call, start, standing, History}
 use Rattle.history.specs.Demand.{Demand}
@@ -20,11 +20,11 @@ use Rattle.history.proofs.Demand3.{demand3}
 
 -- The list of kind 0 is the rings of the record, that of kind 1 its paths from s to t
 pub rings-listed : (R : Molecule) (s t : ℕ) → familyOf R 0 s t ≡ rings (R .atoms) (bonded (R .atoms) (R .rows))
-unfolding familyOf
+unfolding familyOf familyIn
 rings-listed R s t = refl
 
 pub paths-listed : (R : Molecule) (s t : ℕ) → familyOf R 1 s t ≡ paths (R .atoms) (bonded (R .atoms) (R .rows)) s t
-unfolding familyOf
+unfolding familyOf familyIn
 paths-listed R s t = refl
 
 -- The start of a history is what the start entries return

@@ -3,19 +3,18 @@
 use Prim.Native.Nat.{ℕ, _+_, _≤_}
 use native.Mathlib.Omega.{arith}
 use mathlib.Core.Path.{_≡_, refl, ap, _∙_}
-use mathlib.Core.Bool.{Bool, true, false, _&&_, cond}
+use mathlib.Core.Bool.{true, _&&_, cond}
 use mathlib.Core.List.{List, _++_}
 use lib.ListN.{length, take, drop, length-append, length-replicate, length-reverse}
 use lib.Seq.{take-append-seam}
-use lib.Dec.{leb, eqb}
+use lib.Dec.{leb}
 use borrow.Author.Tests.{leb-true, le-leb}
 use Rattle.graph.proofs.Below.{and-left}
 use Rattle.enumeration.specs.Machine.{State}
 use Rattle.enumeration.specs.Run.{Outcome, run}
-use Rattle.chordless.specs.Families.{rings, paths}
 use Rattle.refusal.specs.declared.Refusal.the-variants as refusal
 use Rattle.molecule.specs.declared.Molecule.{Molecule}
-use Rattle.molecule.specs.Record.{wellFormed, bonded, symmetric, loopless, within}
+use Rattle.molecule.specs.Record.{wellFormed, symmetric, loopless, within}
 use Rattle.search.specs.declared.Search.{Search}
 use Rattle.search.specs.declared.Ran.{Ran}
 use Rattle.search.specs.declared.Ended.the-variants.{Stopped}
@@ -56,17 +55,6 @@ atoms-most mol e =
     let to-d = and-left (a && b && c && d) w to-w in
     let to-c = and-left (a && b && c) d to-d in
     leb-true (mol .atoms) 128 (and-left a b (and-left (a && b) c to-c))
-
-pub family-atoms : (mol : Molecule) (kind s t : ℕ) → familyOf mol kind s t .atoms ≡ mol .atoms
-unfolding familyOf
-family-atoms mol kind s t = go (eqb kind 0)
-  where
-    go :
-        (b : Bool) →
-        let adj = bonded (mol .atoms) (mol .rows) in
-        cond b (rings (mol .atoms) adj) (paths (mol .atoms) adj s t) .atoms ≡ mol .atoms
-    go true = refl
-    go false = refl
 
 -- the array of a search at a state has 128 places
 pub prefix-size : (kind s t : ℕ) (st : State) → length (st .stack) ≤ 128 → length (searchAt kind s t st .prefix) ≡ 128

@@ -24,14 +24,14 @@ use Rattle.search.specs.declared.Search.{Search}
 use Rattle.search.specs.declared.Ended.{Ended}
 use Rattle.search.specs.declared.Ended.the-variants as ended
 use Rattle.search.proofs.MarkLaws.{saved-restores}
-use Rattle.search.proofs.Readings.{family-lawful}
+use Rattle.search.proofs.Readings.{family-atoms, family-lawful}
 use Rattle.search.proofs.Views.{state-search, valid-restorable}
 use Rattle.search.specs.Place.{familyOf, stateOf, searchAt, kindKept, restorable}
 use Rattle.search.specs.Entries.{acceptedSearch, runSearch, runOutput}
 use Rattle.search.specs.Mark.{markText, restoreMark}
 use Rattle.history.specs.Calls.{Call, runs, saves, restores, Standing, runRefused, refused, afterAccepted, afterCall, standing, Handed, Allowed, History, isDoneStop, endedDone, saysDone, saidDone}
 use Rattle.history.specs.Resumed.{restoredStart}
-use Rattle.history.proofs.Entered.{ranAt, movedBy, atoms-most, family-atoms, prefix-size, run-at, wrote-at}
+use Rattle.history.proofs.Entered.{ranAt, movedBy, atoms-most, prefix-size, run-at, wrote-at}
 
 -- the search of a kind, s and t, k trials after the state that it began with
 abbrev pub stateAt : Molecule → ℕ → ℕ → ℕ → State → ℕ → State

@@ -22,9 +22,10 @@ use Rattle.search.specs.declared.Ran.{Ran}
 use Rattle.search.specs.declared.Ended.the-variants.{Stopped}
 use Rattle.search.specs.Place.{familyOf, stateOf, searchAt, kindKept}
 use Rattle.search.specs.Entries.{runSearch}
+use Rattle.search.proofs.Readings.{family-atoms}
 use Rattle.history.specs.Calls.{Standing}
 use Rattle.history.specs.Demand.{Progress, GoesOn}
-use Rattle.history.proofs.Entered.{ranAt, family-atoms, save-at, save-wrote}
+use Rattle.history.proofs.Entered.{ranAt, save-at, save-wrote}
 use Rattle.history.proofs.Reached.{Reached, stateAt, lawful, valid-at, back-of, reached-restorable, reached-restores, reached-state, reached-runs}
 
 -- ---- what is said

@@ -4,20 +4,18 @@
 use Prim.Native.Nat.{ℕ, _≤_}
 use native.Mathlib.Omega.{arith}
 use mathlib.Core.Path.{_≡_, ap, fun-ext, _∙_}
-use mathlib.Core.Bool.{true, cond}
+use mathlib.Core.Bool.{true}
 use mathlib.Core.List.{List, [], _∷_, _++_}
 use lib.ListN.{length, take}
-use lib.Dec.{eqb}
 use Rattle.graph.specs.Chordless.{Adjacency}
 use Rattle.enumeration.specs.Words.{Family, isOpen}
-use Rattle.chordless.specs.Families.{rings, paths}
 use Rattle.molecule.specs.declared.Molecule.{Molecule}
 use Rattle.molecule.specs.Record.{bonded, wellFormed}
 use Rattle.molecule.proofs.Bonds.{rule9, bonded-irreflexive}
 use Rattle.atomset.specs.Set.{has, linkedBy, WordsOf}
 use Rattle.atomset.proofs.Bonds.{linked-bonded, linked-symmetric}
 use Rattle.search.specs.declared.Search.{Search}
-use Rattle.search.specs.Place.{familyOf, family, beginning, kindKept}
+use Rattle.search.specs.Place.{familyIn, familyOf, family, beginning, kindKept}
 use Rattle.openness.specs.declared.Plan.{Plan}
 use Rattle.openness.specs.declared.FirstPlan.{FirstPlan}
 use Rattle.openness.specs.Plan.{familyBy, Words, Tells, Planned, FirstTells, Beginning, Planning}
@@ -40,7 +38,7 @@ module _ (mol : Molecule) (ok : wellFormed mol ≡ true) (table : List ℕ) (wor
   pub family-same : (kind s t : ℕ) → familyBy (mol .atoms) table kind s t ≡ familyOf mol kind s t
   unfolding familyBy familyOf
   family-same kind s t =
-      ap (λ (adj : Adjacency). cond (eqb kind 0) (rings (mol .atoms) adj) (paths (mol .atoms) adj s t)) linked-same
+      ap (λ (adj : Adjacency). familyIn (mol .atoms) adj kind s t) linked-same
 
   pub open-same :
       (q : Search) → isOpen (familyBy (mol .atoms) table (q .kind) (q .s) (q .t)) (take (q .len) (q .prefix)) ≡

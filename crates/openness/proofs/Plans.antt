@@ -16,12 +16,12 @@ use Rattle.graph.proofs.Below.{clash}
 use Rattle.enumeration.specs.Words.{Family, isOpen}
 use Rattle.enumeration.specs.Lawful.{Lawful}
 use Rattle.chordless.specs.Families.{rings, paths}
-use Rattle.chordless.proofs.Lawful.{rings-lawful, paths-lawful}
+use Rattle.chordless.proofs.Lawful.{rings-lawful}
 use Rattle.chordless.proofs.Rings.{ring-not-short}
 use Rattle.chordless.proofs.Paths.{path-not-one}
 use Rattle.atomset.specs.Set.{has, linkedBy}
-use Rattle.search.specs.Place.{kindKept, endsKept}
-use Rattle.search.proofs.Readings.{kind-facts, KindFacts, ends-facts, ends-of}
+use Rattle.search.specs.Place.{familyIn, kindKept, endsKept}
+use Rattle.search.proofs.Readings.{family-in-lawful, family-in-atoms, kind-facts, KindFacts, ends-facts, ends-of}
 use Rattle.openness.specs.declared.Plan.{Plan}
 use Rattle.openness.specs.declared.FirstPlan.{FirstPlan}
 use Rattle.openness.specs.declared.Found.{Found}
@@ -33,28 +33,20 @@ use Rattle.openness.proofs.Arrays.{one-taken, open-atoms}
 
 module _ (n : ℕ) (table : List ℕ) (kind s t : ℕ) where
   pub family-rings : kind ≡ 0 → familyBy n table kind s t ≡ rings n (linkedBy table)
-  unfolding familyBy
+  unfolding familyBy familyIn
   family-rings e = rw (eq-eqb kind 0 e)
 
   pub family-paths : (kind ≡ 0 → ⊥) → familyBy n table kind s t ≡ paths n (linkedBy table) s t
-  unfolding familyBy
+  unfolding familyBy familyIn
   family-paths d = rw (ne-eqb kind 0 d)
 
   pub family-by-lawful : Lawful (familyBy n table kind s t)
   unfolding familyBy
-  family-by-lawful = go (eqb kind 0)
-    where
-      go : (b : Bool) → Lawful (cond b (rings n (linkedBy table)) (paths n (linkedBy table) s t))
-      go true = rings-lawful n (linkedBy table)
-      go false = paths-lawful n (linkedBy table) s t
+  family-by-lawful = family-in-lawful n (linkedBy table) kind s t
 
   pub family-by-atoms : familyBy n table kind s t .atoms ≡ n
   unfolding familyBy
-  family-by-atoms = go (eqb kind 0)
-    where
-      go : (b : Bool) → cond b (rings n (linkedBy table)) (paths n (linkedBy table) s t) .atoms ≡ n
-      go true = refl
-      go false = refl
+  family-by-atoms = family-in-atoms n (linkedBy table) kind s t
 
   pub kind-ends : (kind ≡ 0 → ⊥) → kindKept n kind s t ≡ true → endsKept n s t ≡ true
   kind-ends d e = go (kind-facts n kind s t e)

@@ -8,12 +8,11 @@ use lib.Dec.{eqb}
 use Rattle.graph.specs.Chordless.{Adjacency}
 use Rattle.enumeration.specs.Words.{Family, isOpen}
 use Rattle.enumeration.specs.Lawful.{Lawful}
-use Rattle.chordless.specs.Families.{rings, paths}
 use Rattle.chordless.specs.Reach.{Irreflexive}
 use Rattle.chordless.specs.Steers.{without, Steers}
 use Rattle.atomset.specs.Set.{has, linkedBy}
 use Rattle.sweep.specs.Swept.{Symmetric}
-use Rattle.search.specs.Place.{kindKept}
+use Rattle.search.specs.Place.{familyIn, kindKept}
 use Rattle.openness.specs.declared.Plan.{Plan}
 use Rattle.openness.specs.declared.Aim.{Aim}
 use Rattle.openness.specs.declared.FirstPlan.{FirstPlan}
@@ -21,7 +20,7 @@ use Rattle.openness.specs.declared.Found.{Found}
 
 -- The family of a kind over a word table
 unfoldable pub familyBy : ℕ → List ℕ → ℕ → ℕ → ℕ → Family
-familyBy n table kind s t = cond (eqb kind 0) (rings n (linkedBy table)) (paths n (linkedBy table) s t)
+familyBy n table kind s t = familyIn n (linkedBy table) kind s t
 
 -- a word table of n atoms
 pub record Words (n : ℕ) (table : List ℕ) : Type 0 where

@@ -11,7 +11,7 @@ use Rattle.fields.specs.Field.{digits, afterBlanks, readField, column, columns,
 use Rattle.molecule.specs.Record.{cell, bonded}
 use Rattle.sheet.specs.Bonds.{atomsKept, noneToItself, samePair, noneTwice, withBit, withCell, withBond, rowsOf}
 use Rattle.sheet.specs.Read.{lengthKept, lineKept, linesKept, lineOf, readBonds, readSheet}
-use Rattle.search.specs.Place.{familyOf, beginning, stateOf, held, searchAt, freshSearch, endsKept, kindKept}
+use Rattle.search.specs.Place.{familyIn, familyOf, beginning, stateOf, held, searchAt, freshSearch, endsKept, kindKept}
 use Rattle.search.specs.Mark.{fieldsText, markText}
 use Rattle.reference.specs.Text.{bytesOf, text}
 use Rattle.reference.specs.Molecules.{noAtoms, chain, fiveRing, allBonded, paperSheet, twoToThree}
@@ -29,7 +29,7 @@ unfolding
     digits afterBlanks readField column columns fieldText cell bonded
     atomsKept noneToItself samePair noneTwice withBit withCell withBond rowsOf
     lengthKept lineKept linesKept lineOf readBonds readSheet
-    familyOf beginning stateOf held searchAt freshSearch endsKept kindKept fieldsText markText
+    familyIn familyOf beginning stateOf held searchAt freshSearch endsKept kindKept fieldsText markText
     bytesOf text noAtoms chain fiveRing allBonded paperSheet twoToThree table
 computed =
     record { reads = refl; kinds = refl; lists = refl; runs = refl; marks = refl; measures = refl }

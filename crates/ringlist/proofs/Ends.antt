@@ -25,9 +25,10 @@ use Rattle.search.specs.declared.Ended.the-variants.{Stopped}
 use Rattle.search.specs.Place.{family, stateOf, searchAt, freshSearch, restorable}
 use Rattle.search.specs.Entries.{outcome, ran, runSearch, runOutput}
 use Rattle.search.proofs.Views.{state-search}
+use Rattle.search.proofs.Readings.{family-atoms}
 use Rattle.history.specs.Calls.{Call, runs, Standing, start, refused, afterAccepted, afterCall, standing, History}
 use Rattle.history.specs.Demand.{Progress, Demand}
-use Rattle.history.proofs.Entered.{atoms-most, family-atoms}
+use Rattle.history.proofs.Entered.{atoms-most}
 use Rattle.history.proofs.Each.{rings-demand3, rings-kept}
 use Rattle.history.proofs.Demand3.{fresh-sound, fresh-reached}
 use Rattle.history.proofs.Reached.{list-reached}

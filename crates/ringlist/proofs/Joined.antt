@@ -25,9 +25,9 @@ use Rattle.sheet.specs.Read.{readSheet}
 use Rattle.sheet.proofs.Accepted.{accepted-well-formed}
 use Rattle.search.specs.declared.Search.{Search}
 use Rattle.search.specs.Place.{searchAt, freshSearch}
-use Rattle.search.proofs.Readings.{family-lawful}
+use Rattle.search.proofs.Readings.{family-atoms, family-lawful}
 use Rattle.search.proofs.Views.{state-search}
-use Rattle.history.proofs.Entered.{atoms-most, family-atoms}
+use Rattle.history.proofs.Entered.{atoms-most}
 use Rattle.search.specs.Entries.{runOutput}
 use Rattle.report.specs.Lines.{refusalLine, ringLines, linesOf, countLine, printed, printedOn}
 use Rattle.report.proofs.Texts.{printed-whole}

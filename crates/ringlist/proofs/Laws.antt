@@ -19,8 +19,8 @@ use Rattle.enumeration.specs.Listing.{openWords}
 use Rattle.enumeration.proofs.Basics.{Decided, decided}
 use Rattle.molecule.specs.declared.Molecule.{Molecule}
 use Rattle.molecule.specs.Record.{wellFormed}
-use Rattle.search.proofs.Readings.{family-lawful}
-use Rattle.history.proofs.Entered.{atoms-most, family-atoms}
+use Rattle.search.proofs.Readings.{family-atoms, family-lawful}
+use Rattle.history.proofs.Entered.{atoms-most}
 use Rattle.report.specs.Lines.{linesOf, countLine}
 use Rattle.ringlist.specs.declared.text.Listing.{Listing}
 use Rattle.ringlist.specs.Text.{ringsOf, wholeRun, listingText, printedText}

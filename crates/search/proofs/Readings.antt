@@ -24,33 +24,36 @@ use Rattle.molecule.specs.declared.Molecule.{Molecule}
 use Rattle.molecule.specs.Record.{isAtom, bonded}
 use Rattle.molecule.proofs.Bonds.{atom-bounds}
 use Rattle.search.specs.declared.Search.{Search}
-use Rattle.search.specs.Place.{familyOf, family, beginning, endsKept, kindKept, placeKept, restorable}
+use Rattle.search.specs.Place.{familyIn, familyOf, family, beginning, endsKept, kindKept, placeKept, restorable}
 
 -- ---- the family of a search
 
+-- what holds of the family of each kind holds, whatever the kind, s and t
+pub each-family :
+    (n : ℕ) (adj : Adjacency) (kind s t : ℕ) (P : Family → Type 0) → P (rings n adj) → P (paths n adj s t) →
+    P (familyIn n adj kind s t)
+unfolding familyIn
+each-family n adj kind s t P of-rings of-paths = go (eqb kind 0)
+  where
+    go : (b : Bool) → P (cond b (rings n adj) (paths n adj s t))
+    go true = of-rings
+    go false = of-paths
+
+module _ (n : ℕ) (adj : Adjacency) (kind s t : ℕ) where
+  pub family-in-lawful : Lawful (familyIn n adj kind s t)
+  family-in-lawful = each-family n adj kind s t Lawful (rings-lawful n adj) (paths-lawful n adj s t)
+
+  pub family-in-atoms : familyIn n adj kind s t .atoms ≡ n
+  family-in-atoms = each-family n adj kind s t (λ (F : Family). F .atoms ≡ n) refl refl
+
 module _ (mol : Molecule) (kind s t : ℕ) where
-  abbrev bonds : Adjacency
-  bonds = bonded (mol .atoms) (mol .rows)
-
-  abbrev either-family : Bool → Family
-  either-family b = cond b (rings (mol .atoms) bonds) (paths (mol .atoms) bonds s t)
-
-  -- Whatever the kind, s and t
   pub family-lawful : Lawful (familyOf mol kind s t)
   unfolding familyOf
-  family-lawful = go (eqb kind 0)
-    where
-      go : (b : Bool) → Lawful (either-family b)
-      go true = rings-lawful (mol .atoms) bonds
-      go false = paths-lawful (mol .atoms) bonds s t
+  family-lawful = family-in-lawful (mol .atoms) (bonded (mol .atoms) (mol .rows)) kind s t
 
   pub family-atoms : familyOf mol kind s t .atoms ≡ mol .atoms
   unfolding familyOf
-  family-atoms = go (eqb kind 0)
-    where
-      go : (b : Bool) → either-family b .atoms ≡ mol .atoms
-      go true = refl
-      go false = refl
+  family-atoms = family-in-atoms (mol .atoms) (bonded (mol .atoms) (mol .rows)) kind s t
 
 -- an open beginning is shorter than n, or empty, and its atoms are from 1 to n
 module _ (F : Family) (L : Lawful F) where

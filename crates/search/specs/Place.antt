@@ -5,6 +5,7 @@ use mathlib.Core.List.{List, _++_, reverse}
 use lib.ListN.{length, getD, take, replicate}
 use lib.Dec.{leb, ltb, eqb}
 use Rattle.graph.specs.Every.{allBelow}
+use Rattle.graph.specs.Chordless.{Adjacency}
 use Rattle.enumeration.specs.Words.{Family, isOpen}
 use Rattle.enumeration.specs.Machine.{State, isEmpty, fresh}
 use Rattle.enumeration.specs.Run.{limit}
@@ -13,11 +14,13 @@ use Rattle.molecule.specs.declared.Molecule.{Molecule}
 use Rattle.molecule.specs.Record.{isAtom, bonded}
 use Rattle.search.specs.declared.Search.{Search}
 
--- What a search of a kind lists: 0 the rings, 1 the paths from s to t
+-- What a search of a kind lists, over the bonds of n atoms: 0 the rings, 1 the paths from s to t
+unfoldable pub familyIn : ℕ → Adjacency → ℕ → ℕ → ℕ → Family
+familyIn n adj kind s t = cond (eqb kind 0) (rings n adj) (paths n adj s t)
+
+-- and on a molecule
 unfoldable pub familyOf : Molecule → ℕ → ℕ → ℕ → Family
-familyOf mol kind s t =
-    cond (eqb kind 0) (rings (mol .atoms) (bonded (mol .atoms) (mol .rows)))
-    (paths (mol .atoms) (bonded (mol .atoms) (mol .rows)) s t)
+familyOf mol kind s t = familyIn (mol .atoms) (bonded (mol .atoms) (mol .rows)) kind s t
 
 abbrev pub family : Molecule → Search → Family
 family mol q = familyOf mol (q .kind) (q .s) (q .t)
