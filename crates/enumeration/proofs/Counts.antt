@@ -13,7 +13,7 @@ use borrow.Author.Tests.{eqb-true}
 use Rattle.enumeration.specs.Words.{Family, begins, members, isOpen}
 use Rattle.enumeration.specs.Machine.{State, fresh, tried, isEmpty, isDone, unwound, act, trial}
 use Rattle.enumeration.specs.Listing.{NoRepeats, openWords}
-use Rattle.enumeration.specs.Lawful.{Lawful}
+use Rattle.enumeration.specs.Lawful.{Lawful, AtMost}
 use Rattle.enumeration.specs.Trials.{moved, steps, sum}
 use Rattle.enumeration.proofs.Basics.{apart, decided, and-both}
 use Rattle.enumeration.proofs.Order.{mem-map}
@@ -203,10 +203,12 @@ mem-allStarts :
 mem-allStarts (List·Memᴰ·head {x} {xs} e) q = Memᴰ·append-left (allStarts xs) (rw e at q)
 mem-allStarts (List·Memᴰ·tail {x} {xs} m) q = Memᴰ·append-right (starts x) (mem-allStarts m q)
 
-pub openWords-bound : (F : Family) → Lawful F → length (openWords F) ≤ (F .atoms - 1) * length (members F)
-openWords-bound F L =
+-- Where no member has more than k atoms, each has at most k − 1 beginnings that are not empty
+pub openWords-bound :
+    (F : Family) → Lawful F → (k : ℕ) → AtMost F k → length (openWords F) ≤ (k - 1) * length (members F)
+openWords-bound F L k short =
     let fewer = no-longer (openWords F) (allStarts (members F)) (openWords-once F) covered in
-    let short = allStarts-length (F .atoms) (members F) (λ m h. L .short m (members-sound F m h)) in
+    let few = allStarts-length k (members F) (λ m h. short m (members-sound F m h)) in
     omega arith
   where
     covered : (q : List ℕ) → List·Memᴰ q (openWords F) → List·Memᴰ q (allStarts (members F))

@@ -12,7 +12,7 @@ use Rattle.enumeration.specs.declared.Stop.the-variants.{Done, Limit, Sp
 use Rattle.enumeration.specs.Words.{Family, earlier, begins, keep, members}
 use Rattle.enumeration.specs.Machine.{State, fresh, isEmpty, isDone, trial}
 use Rattle.enumeration.specs.Run.{Outcome, atLimit, lists, run}
-use Rattle.enumeration.specs.Lawful.{Lawful}
+use Rattle.enumeration.specs.Lawful.{Lawful, AtMost}
 use Rattle.enumeration.specs.Listing.{Ascending, NoRepeats, goesOn, past, follows, opens, openWords}
 use Rattle.enumeration.specs.Trials.{Valid, steps, emitted, attempts, sum, following}
 use Rattle.enumeration.specs.RunFacts.{Bounded, Why, RunFacts}
@@ -287,11 +287,11 @@ module _ (F : Family) (L : Lawful F) where
       let e : keep (opens F) (attempts F k fresh) ≡ openWords F = rw all-tried (opens-stream F L) in
       omega (arith, extensions-steps F L k fresh, ap length e)
 
-  -- At most n − 1 of them for each member
+  -- Where no member has more than `most` atoms, at most `most` − 1 of them for each member: with n atoms n − 1
   pub done-bound :
-      (k : ℕ) → isDone (F .atoms) (steps F k fresh) ≡ true →
-      steps F k fresh .extensions ≤ (F .atoms - 1) * length (members F)
-  done-bound k d = omega (arith, done-extensions k d, openWords-bound F L)
+      (most : ℕ) → AtMost F most → (k : ℕ) → isDone (F .atoms) (steps F k fresh) ≡ true →
+      steps F k fresh .extensions ≤ (most - 1) * length (members F)
+  done-bound most short k d = omega (arith, done-extensions k d, openWords-bound F L most short)
 
   -- The list of open words has no repeats
   pub open-once : NoRepeats (openWords F)

@@ -16,3 +16,7 @@ pub record Lawful (F : Family) : Type 0 where
       (1 ≤ getD w i 0) × (getD w i 0 ≤ F .atoms)
   -- no member is a proper beginning of another
   pub prefixFree : (v w : List ℕ) → F .member v ≡ true → F .member w ≡ true → begins v w ≡ true → ⊥
+
+-- no member has more than k atoms
+abbrev pub AtMost : Family → ℕ → Type 0
+AtMost F k = (w : List ℕ) → F .member w ≡ true → length w ≤ k

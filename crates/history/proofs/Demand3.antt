@@ -85,7 +85,7 @@ module _ (R : Molecule) (kind s t : ℕ) (good : wellFormed R ≡ true) (kept : 
               whole-listed = same .listed-is ∙ done-listed F lawful k d;
               trials-equation = rw (same .trials-is, same .extensions-is) (done-trials F lawful k d);
               extensions-counted = same .extensions-is ∙ done-extensions F lawful k d;
-              extensions-bound = rw (same .extensions-is) (done-bound F lawful k d);
+              extensions-bound = rw (same .extensions-is) (done-bound F lawful (F .atoms) (lawful .short) k d);
             }
 
     trials-made : x .search .trials ≡ x .made
