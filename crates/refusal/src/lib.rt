@@ -1,4 +1,4 @@
-// The refusals of document 01 ("Turned back by number"), one variant a rule.
+// The refusals of document 01 ("Turned back by number") and of the requests of document 02, one variant a rule.
 ghost use mathlib.Core.Path.{_≡_};
 ghost use Rattle.refusal.specs.Number.{numberOf};
 
@@ -20,6 +20,7 @@ pub enum Refusal {
     MarkMolecule,
     MarkKind,
     MarkPlace,
+    RingSize,
 }
 
 // The answer of an entry that makes a record or a search.
@@ -50,5 +51,6 @@ pub fn number(r: Refusal) -> u32
         Refusal::MarkMolecule => 15,
         Refusal::MarkKind => 16,
         Refusal::MarkPlace => 17,
+        Refusal::RingSize => 21,
     }
 }

@@ -19,7 +19,7 @@ use Rattle.search.specs.declared.Ran.{Ran}
 use Rattle.search.specs.declared.Ended.{Ended}
 use Rattle.search.specs.declared.Ended.the-variants.{Stopped}
 use Rattle.search.specs.declared.Ended.the-variants as ended
-use Rattle.search.specs.Place.{family, stateOf, searchAt, freshSearch, restorable}
+use Rattle.search.specs.Place.{family, stateOf, searchAt, freshSearch, boundKept, restorable}
 
 abbrev pub acceptedSearch : Search → Made
 acceptedSearch q = record { answer = Accepted; search = q }
@@ -28,18 +28,45 @@ acceptedSearch q = record { answer = Accepted; search = q }
 abbrev pub refusedSearch : Refusal → Made
 refusedSearch r = record { answer = answer.Refused r; search = freshSearch 0 0 0 }
 
+-- A fresh search for the paths from s to t among n atoms: rule 10, rule 11
+unfoldable pub freshPaths : ℕ → ℕ → ℕ → Made
+freshPaths n s t =
+    cond (isAtom n s && isAtom n t)
+    (cond (eqb s t) (refusedSearch refusal.SameEnds) (acceptedSearch (freshSearch 1 s t)))
+    (refusedSearch refusal.PathEnd)
+
+-- A fresh search for the rings of at most k atoms: rule 21
+unfoldable pub freshRingsUpTo : ℕ → Made
+freshRingsUpTo k = cond (boundKept k) (acceptedSearch (freshSearch 2 k 0)) (refusedSearch refusal.RingSize)
+
+-- A fresh search of a kind, s and t among n atoms: rule 16 where there is no such kind, or where s or t is not 0 and
+-- the kind has none; otherwise rules 10 and 11 of paths, and 21 of rings up to a size
+unfoldable pub freshOfKind : ℕ → ℕ → ℕ → ℕ → Made
+freshOfKind n kind s t =
+    cond (eqb kind 0 && eqb s 0 && eqb t 0) (acceptedSearch (freshSearch 0 0 0))
+    (cond (eqb kind 1) (freshPaths n s t)
+    (cond (eqb kind 2 && eqb t 0) (freshRingsUpTo s)
+    (refusedSearch refusal.MarkKind)))
+
+-- Every start tries rule 9 first
+abbrev pub onRecord : Molecule → Made → Made
+onRecord mol made = cond (wellFormed mol) made (refusedSearch refusal.Record)
+
 -- A fresh ring search: rule 9
 unfoldable pub startRings : Molecule → Made
-startRings mol = cond (wellFormed mol) (acceptedSearch (freshSearch 0 0 0)) (refusedSearch refusal.Record)
+startRings mol = onRecord mol (acceptedSearch (freshSearch 0 0 0))
 
 -- A fresh search for the paths from s to t: rule 9, rule 10, rule 11
 unfoldable pub startPaths : Molecule → ℕ → ℕ → Made
-startPaths mol s t =
-    cond (wellFormed mol)
-    (cond (isAtom (mol .atoms) s && isAtom (mol .atoms) t)
-    (cond (eqb s t) (refusedSearch refusal.SameEnds) (acceptedSearch (freshSearch 1 s t)))
-    (refusedSearch refusal.PathEnd))
-    (refusedSearch refusal.Record)
+startPaths mol s t = onRecord mol (freshPaths (mol .atoms) s t)
+
+-- A fresh search for the rings of at most k atoms: rule 9, rule 21
+unfoldable pub startRingsUpTo : Molecule → ℕ → Made
+startRingsUpTo mol k = onRecord mol (freshRingsUpTo k)
+
+-- A fresh search of any kind: rule 9, and then those of the kind, s and t
+unfoldable pub startSearch : Molecule → ℕ → ℕ → ℕ → Made
+startSearch mol kind s t = onRecord mol (freshOfKind (mol .atoms) kind s t)
 
 -- The run of a search by the definition
 abbrev pub outcome : Molecule → Search → ℕ → List ℕ → Outcome

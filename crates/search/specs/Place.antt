@@ -66,6 +66,10 @@ freshSearch kind s t = searchAt kind s t fresh
 unfoldable pub endsKept : ℕ → ℕ → ℕ → Bool
 endsKept n s t = isAtom n s && isAtom n t && not (eqb s t)
 
+-- Rule 21 kept: the largest size k of a ring is from 3 to 128
+unfoldable pub boundKept : ℕ → Bool
+boundKept k = leb 3 k && leb k 128
+
 -- Rule 16 kept: kind 0 with s and t both 0, or kind 1 with s and t that keep rules 10 and 11
 unfoldable pub kindKept : ℕ → ℕ → ℕ → ℕ → Bool
 kindKept n kind s t = eqb kind 0 && eqb s 0 && eqb t 0 || eqb kind 1 && endsKept n s t

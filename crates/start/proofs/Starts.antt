@@ -1,44 +1,112 @@
 -- The answers of starting a search, by the tests that lead to each.
 -- The definitions go by `cond`, so each answer follows by rewriting the tests.
-use Prim.Native.Nat.{ℕ}
-use mathlib.Core.Path.{_≡_}
-use mathlib.Core.Bool.{true, false}
-use borrow.Author.Tests.{eq-eqb, ne-eqb}
-use Rattle.refusal.specs.declared.Refusal.the-variants.{Record, PathEnd, SameEnds}
+use Prim.Native.Nat.{ℕ, _≤_, _<_}
+use native.Mathlib.Omega.{arith}
+use mathlib.Core.Path.{_≡_, refl}
+use mathlib.Core.Bool.{true, false, _&&_, and-false}
+use lib.Dec.{eqb}
+use borrow.Author.Tests.{eq-eqb, ne-eqb, le-leb, lt-leb}
+use Rattle.refusal.specs.declared.Refusal.the-variants.{Record, PathEnd, SameEnds, MarkKind, RingSize}
 use Rattle.molecule.specs.declared.Molecule.{Molecule}
 use Rattle.molecule.specs.Record.{wellFormed, isAtom}
-use Rattle.search.specs.Place.{freshSearch}
-use Rattle.search.specs.Entries.{acceptedSearch, refusedSearch, startRings, startPaths}
+use Rattle.search.specs.Place.{freshSearch, boundKept}
+use Rattle.search.specs.Entries.{acceptedSearch, refusedSearch, freshPaths, freshRingsUpTo, freshOfKind}
+use Rattle.search.specs.Entries.{startRings, startPaths, startRingsUpTo, startSearch}
+
+-- ---- rules 10 and 11
+
+module _ (n s t : ℕ) where
+  pub no-start : isAtom n s ≡ false → freshPaths n s t ≡ refusedSearch PathEnd
+  unfolding freshPaths
+  no-start e = rw e
+
+  module _ (start : isAtom n s ≡ true) where
+    pub no-end : isAtom n t ≡ false → freshPaths n s t ≡ refusedSearch PathEnd
+    unfolding freshPaths
+    no-end e = rw (start, e)
+
+    module _ (end : isAtom n t ≡ true) where
+      pub same-ends : s ≡ t → freshPaths n s t ≡ refusedSearch SameEnds
+      unfolding freshPaths
+      same-ends e = rw (start, end, eq-eqb s t e)
+
+      pub paths-fresh : (s ≡ t → ⊥) → freshPaths n s t ≡ acceptedSearch (freshSearch 1 s t)
+      unfolding freshPaths
+      paths-fresh d = rw (start, end, ne-eqb s t d)
+
+-- ---- rule 21
+
+module _ (k : ℕ) where
+  pub size-low : k < 3 → freshRingsUpTo k ≡ refusedSearch RingSize
+  unfolding freshRingsUpTo boundKept
+  size-low h = rw (lt-leb 3 k h)
+
+  module _ (low : 3 ≤ k) where
+    pub size-high : 128 < k → freshRingsUpTo k ≡ refusedSearch RingSize
+    unfolding freshRingsUpTo boundKept
+    size-high h = rw (le-leb 3 k low, lt-leb k 128 h)
+
+    pub size-fresh : k ≤ 128 → freshRingsUpTo k ≡ acceptedSearch (freshSearch 2 k 0)
+    unfolding freshRingsUpTo boundKept
+    size-fresh h = rw (le-leb 3 k low, le-leb k 128 h)
+
+-- ---- rule 16, and then the rules of the kind
+
+module _ (n kind s t : ℕ) where
+  pub of-paths : kind ≡ 1 → freshOfKind n kind s t ≡ freshPaths n s t
+  unfolding freshOfKind
+  of-paths one = rw (ne-eqb kind 0 (omega arith), eq-eqb kind 1 one)
+
+  module _ (other : kind ≡ 1 → ⊥) where
+    pub no-t : (t ≡ 0 → ⊥) → freshOfKind n kind s t ≡ refusedSearch MarkKind
+    unfolding freshOfKind
+    no-t d =
+        rw (ne-eqb t 0 d, and-false (eqb kind 0 && eqb s 0), ne-eqb kind 1 other, and-false (eqb kind 2))
+
+    module _ (none : t ≡ 0) where
+      pub of-size : kind ≡ 2 → freshOfKind n kind s t ≡ freshRingsUpTo s
+      unfolding freshOfKind
+      of-size two = rw (two, none)
+
+      pub no-kind : (kind ≡ 2 → ⊥) → (kind ≡ 0 → ⊥) → freshOfKind n kind s t ≡ refusedSearch MarkKind
+      unfolding freshOfKind
+      no-kind two zero = rw (ne-eqb kind 0 zero, ne-eqb kind 1 other, ne-eqb kind 2 two)
+
+      module _ (zero : kind ≡ 0) where
+        pub no-s : (s ≡ 0 → ⊥) → freshOfKind n kind s t ≡ refusedSearch MarkKind
+        unfolding freshOfKind
+        no-s d = rw (zero, ne-eqb s 0 d)
+
+        pub rings-fresh : s ≡ 0 → freshOfKind n kind s t ≡ acceptedSearch (freshSearch 0 0 0)
+        unfolding freshOfKind
+        rings-fresh e = rw (zero, e, none)
+
+-- ---- rule 9, and then the rules of the kind
 
 module _ (mol : Molecule) where
-  pub rings-refused : wellFormed mol ≡ false → startRings mol ≡ refusedSearch Record
-  unfolding startRings
-  rings-refused e = rw e
+  module _ (kind s t : ℕ) where
+    pub record-refused : wellFormed mol ≡ false → startSearch mol kind s t ≡ refusedSearch Record
+    unfolding startSearch
+    record-refused e = rw e
+
+    pub record-taken : wellFormed mol ≡ true → startSearch mol kind s t ≡ freshOfKind (mol .atoms) kind s t
+    unfolding startSearch
+    record-taken e = rw e
+
+  -- ---- a start of one kind is one of any kind
+
+  pub is-rings : startSearch mol 0 0 0 ≡ startRings mol
+  unfolding startSearch freshOfKind startRings
+  is-rings = refl
+
+  pub is-paths : (s t : ℕ) → startSearch mol 1 s t ≡ startPaths mol s t
+  unfolding startSearch freshOfKind startPaths
+  is-paths s t = refl
+
+  pub is-size : (k : ℕ) → startSearch mol 2 k 0 ≡ startRingsUpTo mol k
+  unfolding startSearch freshOfKind startRingsUpTo
+  is-size k = refl
 
   pub rings-started : wellFormed mol ≡ true → startRings mol ≡ acceptedSearch (freshSearch 0 0 0)
   unfolding startRings
   rings-started e = rw e
-
-  module _ (s t : ℕ) where
-    pub paths-refused : wellFormed mol ≡ false → startPaths mol s t ≡ refusedSearch Record
-    unfolding startPaths
-    paths-refused e = rw e
-
-    module _ (ok : wellFormed mol ≡ true) where
-      pub no-start : isAtom (mol .atoms) s ≡ false → startPaths mol s t ≡ refusedSearch PathEnd
-      unfolding startPaths
-      no-start e = rw (ok, e)
-
-      module _ (start : isAtom (mol .atoms) s ≡ true) where
-        pub no-end : isAtom (mol .atoms) t ≡ false → startPaths mol s t ≡ refusedSearch PathEnd
-        unfolding startPaths
-        no-end e = rw (ok, start, e)
-
-        module _ (end : isAtom (mol .atoms) t ≡ true) where
-          pub same-ends : s ≡ t → startPaths mol s t ≡ refusedSearch SameEnds
-          unfolding startPaths
-          same-ends e = rw (ok, start, end, eq-eqb s t e)
-
-          pub paths-started : (s ≡ t → ⊥) → startPaths mol s t ≡ acceptedSearch (freshSearch 1 s t)
-          unfolding startPaths
-          paths-started d = rw (ok, start, end, ne-eqb s t d)
