@@ -57,8 +57,8 @@ void flat_write_field(uint8_t *field, size_t field_len, uint64_t value);
    function below returns 200 when rows_len is not 2,048, numbers_len not 10 or
    prefix_len not 128; that, and every refusal, writes nothing. */
 
-/* 0: the fresh search is written (used and made 0); 9 (10, 11 for paths):
-   refused. */
+/* 0: the fresh search is written (used and made 0); 9 (then 10, 11 for paths,
+   21 for the rings of at most `size` atoms): refused. */
 uint32_t flat_start_rings(uint64_t atoms, uint64_t bonds,
                           const uint8_t *rows, size_t rows_len,
                           uint64_t *numbers, size_t numbers_len,
@@ -68,6 +68,11 @@ uint32_t flat_start_paths(uint64_t atoms, uint64_t bonds,
                           uint64_t s, uint64_t t,
                           uint64_t *numbers, size_t numbers_len,
                           uint8_t *prefix, size_t prefix_len);
+uint32_t flat_start_rings_up_to(uint64_t atoms, uint64_t bonds,
+                                const uint8_t *rows, size_t rows_len,
+                                uint64_t size,
+                                uint64_t *numbers, size_t numbers_len,
+                                uint8_t *prefix, size_t prefix_len);
 
 /* Runs the search: 101 done, 102 limit, 103 spent, 104 full, with the search,
    used and made written back and the records in out; 9 or 12: refused. */

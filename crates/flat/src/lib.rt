@@ -4,7 +4,7 @@ ghost use Prim.Native.Nat.{_≤_};
 ghost use mathlib.Core.List.{_++_};
 ghost use lib.ListN.{length, drop};
 ghost use Rattle.fields.specs.Field.{readField, fieldText};
-ghost use Rattle.search.specs.Entries.{startRings, startPaths};
+ghost use Rattle.search.specs.Entries.{startRings, startPaths, startRingsUpTo};
 ghost use Rattle.search.specs.Mark.{restoreMark};
 ghost use Rattle.flat.specs.Codes.{verdictCode, fieldCode, zerosCode, headBytes, flatBytes, molecule};
 ghost use Rattle.flat.specs.Codes.{readCode, readOutput, checkCode, ringCode, pathCode};
@@ -314,6 +314,28 @@ pub extern "C" fn flat_start_paths(
         return 200;
     }
     let made = start::start_paths(assemble(atoms, bonds, rows), s, t);
+    store_made(made, numbers, prefix)
+}
+
+// A fresh search for the rings of at most `size` atoms.
+#[no_mangle]
+pub extern "C" fn flat_start_rings_up_to(
+    atoms: usize,
+    bonds: usize,
+    rows: &[u8],
+    size: usize,
+    numbers: &mut [u64],
+    prefix: &mut [u8],
+) -> u32
+    ensures { λ r. ⌜
+        MadeLeft (now (rows .entry)) (now (numbers .entry)) (now (prefix .entry))
+        (startRingsUpTo (molecule atoms bonds (now (rows .entry))) size)
+        r (now (numbers .exit)) (now (prefix .exit)) ⌝ }
+{
+    if !sizes_kept(rows, numbers, prefix) {
+        return 200;
+    }
+    let made = start::start_rings_up_to(assemble(atoms, bonds, rows), size);
     store_made(made, numbers, prefix)
 }
 

@@ -11,7 +11,7 @@ use Rattle.chordless.specs.Families.{rings, paths}
 use Rattle.molecule.specs.declared.Molecule.{Molecule}
 use Rattle.molecule.specs.Record.{wellFormed, bonded, isAtom}
 use Rattle.search.specs.Place.{familyIn, familyOf, endsKept, kindKept}
-use Rattle.search.specs.Entries.{acceptedSearch, startRings, startPaths}
+use Rattle.search.specs.Entries.{acceptedSearch, freshPaths, startRings, startPaths}
 use Rattle.history.specs.Calls.{Call, start, standing, History}
 use Rattle.history.specs.Demand.{Demand}
 use Rattle.history.proofs.Demand3.{demand3}
@@ -35,7 +35,7 @@ rings-start R good = rw good
 pub paths-start :
     (R : Molecule) (s t : ℕ) → wellFormed R ≡ true → endsKept (R .atoms) s t ≡ true →
     startPaths R s t ≡ acceptedSearch (start 1 s t .search)
-unfolding startPaths start endsKept
+unfolding startPaths freshPaths start endsKept
 paths-start R s t good ends =
     let a : Bool = isAtom (R .atoms) s && isAtom (R .atoms) t in
     let (atoms, not-same) = and-parts a (not (eqb s t)) ends in

@@ -53,7 +53,7 @@ Within a b Accepted = Unit {0}
 Within a b (Refused r) = (a ≤ numberOf r) × (numberOf r ≤ b)
 
 -- what a test decides between, where both hold
-by-test : {A : Type 0} (P : A → Type 0) (t : Bool) (x y : A) → P y → P x → P (cond t x y)
+pub by-test : {A : Type 0} (P : A → Type 0) (t : Bool) (x y : A) → P y → P x → P (cond t x y)
 by-test P true x y failed passed = passed
 by-test P false x y failed passed = failed
 

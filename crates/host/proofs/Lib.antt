@@ -4,3 +4,5 @@ pub mod Laws
 pub mod Fresh
 pub mod OneCall
 pub mod History
+pub mod StartWays
+pub mod StartLaws

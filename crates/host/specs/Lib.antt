@@ -1,2 +1,3 @@
 pub mod Resume
+pub mod Start
 pub mod Calls

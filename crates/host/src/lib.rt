@@ -1,9 +1,10 @@
-// The entry for the C host, declared in include/ringlist.h.
+// The entries for the C host, declared in include/ringlist.h.
 ghost use mathlib.Core.Path.{_≡_};
 ghost use mathlib.Core.Bool.{true};
 ghost use Rattle.molecule.specs.Record.{wellFormed};
 ghost use Rattle.search.specs.Place.{restorable};
 ghost use Rattle.host.specs.Resume.{searchFor, runAndSave, resume, markSize, listedIn};
+ghost use Rattle.host.specs.Start.{startMark};
 use fields::Number;
 use molecule::Molecule;
 use refusal::Answer;
@@ -69,6 +70,41 @@ pub extern "C" fn ringlist_resume(
                         return refusal::number(Refusal::MarkRoom);
                     }
                     run_and_save(read.molecule, q, budget, rings, next_mark)
+                }
+            }
+        }
+    }
+}
+
+// Reads a sheet, starts a search of a kind, s and t on it and writes its mark: rules 1 to 8, 16, 10, 11, 21, 13.
+#[no_mangle]
+pub extern "C" fn ringlist_start(
+    sheet: &[u8],
+    kind: u64,
+    s: u64,
+    t: u64,
+    next_mark: &mut [u8],
+) -> u32
+    ensures { λ r.
+        let x = startMark (now (sheet .entry)) kind s t (now («next_mark» .entry)) in
+        ⌜ (r ≡ x .number) × (now («next_mark» .exit) ≡ x .nextMark) ⌝ }
+{
+    let read = sheet::read_sheet(sheet);
+    let read_answer = read.answer;
+    match read_answer {
+        Answer::Refused(r) => refusal::number(r),
+        Answer::Accepted => {
+            let made = start::start_search(read.molecule, kind as usize, s as usize, t as usize);
+            let made_answer = made.answer;
+            let q = made.search;
+            match made_answer {
+                Answer::Refused(r) => refusal::number(r),
+                Answer::Accepted => {
+                    if next_mark.len() < 599 {
+                        return refusal::number(Refusal::MarkRoom);
+                    }
+                    mark_writer::put_mark(read.molecule, q, next_mark);
+                    0
                 }
             }
         }

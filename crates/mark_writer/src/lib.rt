@@ -59,8 +59,8 @@ fn put_feed(out: &mut [u8], at: usize)
     out[at] = 10;
 }
 
-// The three lines of a mark.
-fn put_mark(m: Molecule, q: Search, out: &mut [u8])
+// The three lines of a mark, of a search that need not keep rule 12.
+pub fn put_mark(m: Molecule, q: Search, out: &mut [u8])
     requires { ⌜ MarkFits q (now out) ⌝ }
     ensures { λ _. ⌜ now (out .exit) ≡ spliced 0 (markText m q) (now (out .entry)) ⌝ }
 {

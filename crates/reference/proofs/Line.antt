@@ -21,7 +21,7 @@ use Rattle.search.specs.declared.Search.{Search}
 use Rattle.search.specs.declared.Ran.{Ran}
 use Rattle.search.specs.declared.Saved.the-variants.{Written}
 use Rattle.search.specs.Place.{familyOf, family, stateOf, searchAt, freshSearch, kindKept, restorable}
-use Rattle.search.specs.Entries.{acceptedSearch, startRings, startPaths, outcome, ran, runSearch, runOutput}
+use Rattle.search.specs.Entries.{acceptedSearch, freshPaths, startRings, startPaths, outcome, ran, runSearch, runOutput}
 use Rattle.search.specs.Mark.{markText, saveOutput, restoreMark}
 use Rattle.search.proofs.Readings.{family-lawful, KindFacts, kind-facts, atom-of}
 use Rattle.search.proofs.Views.{restorable-valid, valid-full, fresh-restorable, run-restorable}
@@ -34,7 +34,7 @@ module _ (R : Molecule) (good : wellFormed R ≡ true) where
   start-answers :
       (kind s t : ℕ) → kindKept (R .atoms) kind s t ≡ true →
       cond (eqb kind 0) (startRings R) (startPaths R s t) ≡ acceptedSearch (freshSearch kind s t)
-  unfolding startRings startPaths
+  unfolding startRings startPaths freshPaths
   start-answers kind s t kept = go (kind-facts (R .atoms) kind s t kept)
     where
       go :

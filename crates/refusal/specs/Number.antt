@@ -34,8 +34,8 @@ numberOf MarkRoom = 13
 numberOf MarkBytes = 14
 -- the mark's n or m differs from the molecule's
 numberOf MarkMolecule = 15
--- the kind is not 0, 1 or 2, or s and t are not 0 and 0 for rings, or break rule 10 or 11 for paths, or, for rings up to
--- a size, s breaks rule 21 or t is not 0
+-- the kind is not 0, 1 or 2, or s and t are not 0 and 0 for rings, or break rule 10 or 11 for paths, or s breaks
+-- rule 21 or t is not 0 for rings up to a size
 numberOf MarkKind = 16
 -- p is not open, or c is 0 or above n; p empty with c = n + 1 is allowed
 numberOf MarkPlace = 17

@@ -1,0 +1,235 @@
+-- The laws of the entry that starts a search: which numbers it returns, that a refusal leaves its output as it was,
+-- that otherwise the mark of the fresh search is written, and that demand 3 holds of calls from there on.
+-- By its ways; the mark is a first mark of `host-demand3`.
+use Prim.Native.Nat.{ℕ, _≤_, _<_}
+use native.Mathlib.Decide.{decLt}
+use native.Mathlib.Omega.{arith}
+use mathlib.Core.Path.{_≡_, refl, sym, ap, _∙_}
+use mathlib.Core.Logic.{_⊎_, inl, inr}
+use mathlib.Core.Bool.{Bool, true, false, _&&_, cond}
+use mathlib.Core.List.{List, _++_}
+use lib.ListN.{length, take, drop}
+use lib.Seq.{take-append-seam}
+use lib.Dec.{eqb}
+use Rattle.enumeration.specs.Machine.{fresh}
+use Rattle.refusal.specs.declared.Refusal.{Refusal}
+use Rattle.refusal.specs.declared.Refusal.the-variants as refusal
+use Rattle.refusal.specs.declared.Answer.{Answer}
+use Rattle.refusal.specs.declared.Answer.the-variants.{Accepted, Refused}
+use Rattle.refusal.specs.Number.{numberOf}
+use Rattle.molecule.specs.declared.Molecule.{Molecule}
+use Rattle.molecule.specs.Record.{wellFormed, isAtom}
+use Rattle.sheet.specs.Read.{readSheet}
+use Rattle.sheet.proofs.Accepted.{accepted-well-formed}
+use Rattle.search.specs.declared.Made.{Made}
+use Rattle.search.specs.Place.{beginning, searchAt, freshSearch, boundKept, kindKept}
+use Rattle.search.specs.Entries.{freshPaths, freshRingsUpTo, freshOfKind, startSearch}
+use Rattle.search.specs.Mark.{markText}
+use Rattle.search.proofs.MarkLaws.{mark-length, fresh-restorable}
+use Rattle.search.proofs.Views.{search-length}
+use Rattle.start.proofs.Starts.{record-taken}
+use Rattle.start.proofs.Accepts.{started-fresh, kept-starts}
+use Rattle.history.specs.Calls.{start, standing}
+use Rattle.host.specs.Resume.{markSize}
+use Rattle.host.specs.Start.{Started, refusedStart, startMark}
+use Rattle.host.specs.Calls.{HostCall, keeping, keptBy, HostHistory, allCallsIn, HostDemand}
+use Rattle.host.proofs.Answers.{SheetTaken}
+use Rattle.host.proofs.Sizes.{mark-size}
+use Rattle.host.proofs.Laws.{by-test, sheet-numbers}
+use Rattle.host.proofs.History.{host-demand3}
+use Rattle.host.proofs.StartWays.{StartTaken, sheet-refused, start-refused, room-refused, mark-written}
+
+-- ---- the numbers of its refusals
+
+-- rule 16, 10, 11 or 21
+abbrev KindNumber : ℕ → Type 0
+KindNumber k = (k ≡ 16) ⊎ ((k ≡ 10) ⊎ ((k ≡ 11) ⊎ (k ≡ 21)))
+
+abbrev pub StartNumber : ℕ → Type 0
+StartNumber k = ((1 ≤ k) × (k ≤ 8)) ⊎ ((k ≡ 13) ⊎ KindNumber k)
+
+abbrev KindRule : Answer → Type 0
+KindRule Accepted = Unit {0}
+KindRule (Refused r) = KindNumber (numberOf r)
+
+abbrev OfKind : Made → Type 0
+OfKind x = KindRule (x .answer)
+
+kind-rules : (n kind s t : ℕ) → OfKind (freshOfKind n kind s t)
+unfolding freshOfKind freshPaths freshRingsUpTo
+kind-rules n kind s t =
+    by-test OfKind (eqb kind 0 && eqb s 0 && eqb t 0) _ _
+    (by-test OfKind (eqb kind 1) _ _
+    (by-test OfKind (eqb kind 2 && eqb t 0) _ _ (inl refl)
+    (by-test OfKind (boundKept s) _ _ (inr (inr (inr refl))) tt))
+    (by-test OfKind (isAtom n s && isAtom n t) _ _ (inr (inl refl))
+    (by-test OfKind (eqb s t) _ _ tt (inr (inr (inl refl))))))
+    tt
+
+-- on a molecule that rule 9 allows, a start is refused by rules 16, 10, 11 and 21
+kind-numbers :
+    (mol : Molecule) (kind s t : ℕ) (r : Refusal) → wellFormed mol ≡ true →
+    startSearch mol kind s t .answer ≡ Refused r → KindNumber (numberOf r)
+kind-numbers mol kind s t r formed e = go (startSearch mol kind s t .answer) e rules
+  where
+    rules : OfKind (startSearch mol kind s t)
+    rules = rw (record-taken mol kind s t formed) (kind-rules (mol .atoms) kind s t)
+
+    go : (x : Answer) → x ≡ Refused r → KindRule x → KindNumber (numberOf r)
+    go x is h = rw is at h
+
+-- ---- the fresh mark
+
+-- it has 91 bytes
+fresh-size : (mol : Molecule) (kind s t : ℕ) → length (markText mol (freshSearch kind s t)) ≡ 91
+fresh-size mol kind s t =
+    mark-length mol (freshSearch kind s t) ∙ (unfold freshSearch searchAt fresh beginning in refl)
+
+-- ---- the entry
+
+module _ (sheet : List ℕ) (kind s t : ℕ) (next : List ℕ) where
+  abbrev pub answer : Started
+  answer = startMark sheet kind s t next
+
+  -- the molecule that it reads, and the mark of the fresh search
+  abbrev pub mol : Molecule
+  mol = readSheet sheet .molecule
+
+  abbrev pub mark : List ℕ
+  mark = markText mol (freshSearch kind s t)
+
+  -- It is turned back by a rule, and leaves its output as it was
+  pub record Turned : Type 0 where
+    pub rule : Refusal
+    pub number-is : answer .number ≡ numberOf rule
+    pub ranged : StartNumber (numberOf rule)
+    pub mark-kept : answer .nextMark ≡ next
+
+  -- It starts the search: the fresh mark is written, and the bytes past it keep their values
+  pub record Began : Type 0 where
+    pub number-is : answer .number ≡ 0
+    pub read : readSheet sheet .answer ≡ Accepted
+    pub accepted : startSearch mol kind s t .answer ≡ Accepted
+    pub room : 599 ≤ length next
+    pub mark-is : answer .nextMark ≡ mark ++ drop 91 next
+
+  turned : (r : Refusal) → refusedStart r next ≡ answer → StartNumber (numberOf r) → Turned
+  turned r e h = record {
+    rule = r;
+    number-is = sym (ap (λ (x : Started). x .number) e);
+    ranged = h;
+    mark-kept = sym (ap (λ (x : Started). x .nextMark) e);
+  }
+
+  module _ (read : readSheet sheet .answer ≡ Accepted) where
+    sheet-taken : SheetTaken sheet (readSheet sheet)
+    sheet-taken = record { is-read = refl; accepted = read }
+
+    module _ (made : startSearch mol kind s t .answer ≡ Accepted) where
+      start-taken : StartTaken sheet kind s t (readSheet sheet) (startSearch mol kind s t)
+      start-taken = record { of-sheet = sheet-taken; is-made = refl; accepted = made }
+
+      began : 599 ≤ length next → Began
+      began room =
+          let written = mark-written sheet kind s t next start-taken room in
+          record {
+            number-is = sym (ap (λ (x : Started). x .number) written);
+            read = read;
+            accepted = made;
+            room = room;
+            mark-is =
+                sym (ap (λ (x : Started). x .nextMark) written)
+                ∙ ap (λ (x : Made). markText mol (x .search) ++ drop (length (markText mol (x .search))) next)
+                (started-fresh mol kind s t made)
+                ∙ ap (λ (k : ℕ). mark ++ drop k next) (fresh-size mol kind s t);
+          }
+
+    room-way : startSearch mol kind s t .answer ≡ Accepted → Dec (length next < 599) → Turned ⊎ Began
+    room-way made (yes h) =
+        let refused = room-refused sheet kind s t next (start-taken made) h in
+        inl (turned refusal.MarkRoom refused (inr (inl refl)))
+    room-way made (no h) = inr (began made (omega arith))
+
+    start-way : (x : Answer) → startSearch mol kind s t .answer ≡ x → Turned ⊎ Began
+    start-way Accepted made = room-way made (decLt (length next) 599)
+    start-way (Refused r) e =
+        let refused = start-refused sheet kind s t next sheet-taken refl e in
+        inl (turned r refused (inr (inr (kind-numbers mol kind s t r (accepted-well-formed sheet read) e))))
+
+  ways : Turned ⊎ Began
+  ways = sheet-way (readSheet sheet .answer) refl
+    where
+      sheet-way : (x : Answer) → readSheet sheet .answer ≡ x → Turned ⊎ Began
+      sheet-way Accepted read = start-way read (startSearch mol kind s t .answer) refl
+      sheet-way (Refused r) e =
+          inl (turned r (sheet-refused sheet kind s t next refl e) (inl (sheet-numbers sheet r e)))
+
+  -- It returns 0, or for a refusal 1 to 8, 16, 10, 11, 21 or 13
+  pub start-numbers : (answer .number ≡ 0) ⊎ StartNumber (answer .number)
+  start-numbers = go ways
+    where
+      go : Turned ⊎ Began → (answer .number ≡ 0) ⊎ StartNumber (answer .number)
+      go (inl turned) = inr (rw (turned .number-is) (turned .ranged))
+      go (inr began) = inl (began .number-is)
+
+  -- no rule has the number 0
+  not-zero : (k : ℕ) → StartNumber k → k ≡ 0 → ⊥
+  not-zero k (inl h) z = omega arith
+  not-zero k (inr (inl h)) z = omega arith
+  not-zero k (inr (inr (inl h))) z = omega arith
+  not-zero k (inr (inr (inr (inl h)))) z = omega arith
+  not-zero k (inr (inr (inr (inr (inl h))))) z = omega arith
+  not-zero k (inr (inr (inr (inr (inr h))))) z = omega arith
+
+  -- A refusal, which has another number than 0, leaves every byte
+  pub start-refused-keeps : (answer .number ≡ 0 → ⊥) → answer .nextMark ≡ next
+  start-refused-keeps other = go ways
+    where
+      go : Turned ⊎ Began → answer .nextMark ≡ next
+      go (inl turned) = turned .mark-kept
+      go (inr began) = absurd (other (began .number-is))
+
+  -- 0 means that the search is started
+  pub start-began : answer .number ≡ 0 → Began
+  start-began zero = go ways
+    where
+      go : Turned ⊎ Began → Began
+      go (inl turned) = absurd (not-zero (numberOf (turned .rule)) (turned .ranged) (sym (turned .number-is) ∙ zero))
+      go (inr began) = began
+
+  -- Every search that rule 16 allows on the sheet's record is started, where the output has 599 bytes
+  pub start-accepts :
+      readSheet sheet .answer ≡ Accepted → kindKept (mol .atoms) kind s t ≡ true → 599 ≤ length next → Began
+  start-accepts read kept room =
+      let made = ap (λ (x : Made). x .answer) (kept-starts mol kind s t (accepted-well-formed sheet read) kept) in
+      began read made room
+
+  -- ---- demand 3
+
+  module _ (zero : answer .number ≡ 0) where
+    -- the first 91 bytes of the output are the fresh mark
+    pub start-mark : take 91 (answer .nextMark) ≡ mark
+    start-mark =
+        ap (take 91) (start-began zero .mark-is)
+        ∙ ap (λ (k : ℕ). take k (mark ++ drop 91 next)) (sym (fresh-size mol kind s t))
+        ∙ take-append-seam mark (drop 91 next)
+
+    -- and ringlist_mark_length says so
+    module _ (kept : kindKept (mol .atoms) kind s t ≡ true) where
+      pub start-size : markSize (answer .nextMark) ≡ 91
+      start-size =
+          let formed = accepted-well-formed sheet (start-began zero .read) in
+          ap markSize (start-began zero .mark-is)
+          ∙ mark-size mol (freshSearch kind s t) formed (fresh-restorable mol kind s t formed kept)
+          (unfold freshSearch in (search-length kind s t fresh (unfold fresh in (omega arith)))) (drop 91 next)
+          ∙ fresh-size mol kind s t
+
+      -- Demand 3 over every sheet, kind, s, t and buffer of a start that returned 0, and every list of calls that
+      -- begins with the mark that it wrote
+      pub start-demand3 :
+          let first = take 91 (answer .nextMark) in
+          (calls : List HostCall) → HostHistory sheet (keeping first) calls →
+          HostDemand sheet mol kind s t first calls
+          (keptBy (keeping first) calls) (standing (start kind s t) (allCallsIn calls))
+      start-demand3 =
+          host-demand3 sheet (start-began zero .read) kind s t (take 91 (answer .nextMark)) (kept, inl start-mark)

@@ -1,0 +1,82 @@
+-- `host::ringlist_start` meets its contract: each way out is one answer of the definition.
+-- The three refusals leave the output as it was; the last way writes the mark of a fresh search, which has room.
+use mathlib.Core.Path.{refl}
+use borrow.Author.Needs.{needs}
+use Rattle.host.proofs.Answers.{SheetTaken}
+use Rattle.host.proofs.StartWays.{StartTaken, leaves-mark, mark-put, start-fits}
+use Rattle.host.proofs.StartWays.{sheet-refused, start-refused, room-refused, mark-written}
+use Rattle.host.proofs.ringlist_start.Statement.{statement}
+use Rattle.host.proofs.ringlist_start.Tie as tie
+
+-- ---- the places: each name goes back from a later place to an earlier one
+-- (in a proof, the argument `(search)` is a place: it is found in c by its type)
+
+abbrev start : tie.After-read-sheet → tie.Start
+start c = c .before .before .before
+
+-- from where the sheet is accepted
+abbrev reads : tie.After-enum-told → tie.After-read-sheet
+reads c = c .before .before
+
+-- from where the start is accepted
+abbrev makes : tie.After-enum-told2 → tie.After-start-search
+makes c = c .before .before .before
+
+-- ---- what is known there
+
+sheet-taken :
+    (c : tie.After-enum-told) → SheetTaken (start (reads c) .args .sheet .now) (reads c .read-sheet .result)
+sheet-taken c = record { is-read = reads c .read-sheet .ensures; accepted = c .enum-told .given .1 }
+
+start-taken :
+    (c : tie.After-enum-told2) →
+    let sheet = reads (makes c .before) in
+    let args = start sheet .args in
+    StartTaken (args .sheet .now) (args .kind) (args .s) (args .t) (sheet .read-sheet .result)
+    (makes c .start-search .result)
+start-taken c = record {
+  of-sheet = sheet-taken (search);
+  is-made = makes c .start-search .ensures;
+  accepted = c .enum-told2 .given .1;
+}
+
+-- ---- the needs
+
+enum-told : tie.Need-enum-told
+enum-told c = search needs
+
+returns : tie.Need-returns
+returns c =
+    let full = room-refused _ _ _ _ _ (start-taken (search)) (c .before .if1 .taken) in
+    leaves-mark full _ _ (c .number3 .ensures, refl)
+
+put-mark-requires : tie.Need-put-mark-requires
+put-mark-requires c κs = start-fits _ _ _ _ _ (start-taken (search)) (c .before .if1 .left)
+
+returns-2 : tie.Need-returns-2
+returns-2 c =
+    let read : tie.After-read-sheet = search in
+    let refused = sheet-refused _ _ _ _ _ (read .read-sheet .ensures) (c .before .before .read-answer .given .1) in
+    leaves-mark refused _ _ (c .number .ensures, refl)
+
+returns-3 : tie.Need-returns-3
+returns-3 c =
+    let made : tie.After-start-search = search in
+    let answer = c .before .before .made-answer .given .1 in
+    let refused = start-refused _ _ _ _ _ (sheet-taken (search)) (made .start-search .ensures) answer in
+    leaves-mark refused _ _ (c .number2 .ensures, refl)
+
+returns-4 : tie.Need-returns-4
+returns-4 c =
+    let else1 : tie.Else1 = search in
+    let put : tie.After-put-mark = search in
+    leaves-mark (mark-written _ _ _ _ _ (start-taken (search)) (else1 .if1 .left)) _ _
+    (mark-put _ _ _ _ (put .put-mark .ensures))
+
+pub ringlist-start-spec : {M : Type 1} → statement M
+ringlist-start-spec =
+    tie.close
+    (tie.spec
+    (λ c κs. search needs) (λ c. search needs) (λ c κs. search needs) enum-told (λ c κs. search needs)
+    (λ c. search needs) (λ c κs. search needs) (λ c. search needs) (λ c κs. search needs) returns put-mark-requires
+    returns-2 returns-3 (λ c. search needs) returns-4)
