@@ -1,10 +1,13 @@
-/* include/ringlist.h: lists the chordless rings of a molecule in slices.
+/* include/ringlist.h: lists the chordless rings of a molecule, those up to a
+   chosen size, or the chordless paths between two of its atoms, in slices.
 
-   Link with libhost.a. Each call reads a bond sheet, takes up the search where
-   a mark left it, makes at most `budget` trials, and writes the rings that it
-   found and the mark to go on from. examples/minimal.c is a whole host in
-   twenty lines; examples/host.c keeps its mark in a file and goes on after
-   being killed. */
+   Link with libhost.a. ringlist_start starts a search of any kind: it writes
+   its first mark. Each call of ringlist_resume reads a bond sheet, takes up the
+   search where a mark left it, makes at most `budget` trials, and writes the
+   rings that it found and the mark to go on from. A search for all rings may
+   also start without a mark. examples/minimal.c is a whole host in twenty
+   lines; examples/host.c keeps its mark in a file and goes on after being
+   killed. */
 #ifndef RINGLIST_H
 #define RINGLIST_H
 
@@ -23,8 +26,9 @@ extern "C" {
               right-justified; blanks or zeros, and not both, fill the columns
               before it: "  12" and "0012" are both 12, " 012" is no number.
               Each field of a sheet may have its own filling.
-   mark       the mark that the call before wrote, mark_len bytes exactly;
-              mark_len 0 starts a fresh ring search. A mark belongs to any
+   mark       the mark that the call before wrote, or ringlist_start, mark_len
+              bytes exactly; mark_len 0 starts a fresh search for all rings, as
+              the mark of ringlist_start with kind 0 does. A mark belongs to any
               sheet with its n and m; that is checked (15), and that its place
               is open there (17), and no more. So hand it only to the sheet
               that it was made with.
@@ -56,9 +60,11 @@ extern "C" {
    Next mark. It stands at the start of the output, 91 + 4 * (atoms in the
    present beginning) bytes, that is ringlist_mark_length(next_mark,
    next_mark_len); the bytes past it keep their values. It is text of three
-   lines. Line 1: kind (0 rings, 1 paths), s and t (0 and 0 for rings), n, m,
-   the number of atoms in the present beginning, and the next atom, 4 columns
-   each. Line 2: trials, extensions and rings listed so far, 20 columns each.
+   lines. Line 1: kind (0 rings, 1 paths, 2 rings of at most s atoms), s and t
+   (0 and 0 for kind 0, the two ends for kind 1, the largest size and 0 for
+   kind 2), n, m, the number of atoms in the present beginning, and the next
+   atom, 4 columns each. Line 2: trials, extensions and rings listed so far, 20
+   columns each.
    Line 3: the atoms of the beginning, 4 columns each. Blanks fill the fields of
    a mark, whatever fills those of the sheet; a mark with a field that zeros
    fill, also "0000" for 0, is refused (14).
@@ -89,8 +95,9 @@ extern "C" {
       14  the mark's bytes do not follow the layout, in which zeros fill no
           field
       15  the mark's n or m differs from the sheet's
-      16  the mark's kind is not 0 or 1, or its s and t are not 0 and 0 for
-          rings, or not two different atoms for paths
+      16  the mark's kind is not 0, 1 or 2, or its s and t are not 0 and 0 for
+          kind 0, or not two different atoms for kind 1, or not a size from 3
+          to 128 and 0 for kind 2
       17  the mark's beginning is not open, or its next atom is 0 or above n
           (n + 1 is allowed with no beginning: the mark of a search that is
           done)
@@ -98,10 +105,9 @@ extern "C" {
    No other number comes back.
 
    A mark of kind 1 lists the chordless paths from s to t in the same way, as
-   records of 2 atoms or more. Such a search starts from the mark with kind 1,
-   s, t, n, m, 0 and 1 in line 1, three counts 0 in line 2, and an empty
-   line 3. The same mark with kind 0, and 0 for s and t, starts a ring search,
-   as no bytes do.
+   records of 2 atoms or more, and one of kind 2 the rings of at most s atoms:
+   where it says "ring" above, read the members of the search. ringlist_start
+   writes the first mark of such a search.
 
    The functions have no state of their own: they may be called at once from
    several threads, where no output of one call overlaps a stretch of another.
@@ -117,6 +123,42 @@ uint32_t ringlist_resume(const uint8_t *sheet, size_t sheet_len,
                          uint64_t budget,
                          uint8_t *rings, size_t rings_len,
                          uint8_t *next_mark, size_t next_mark_len);
+
+/* Starts a search of any kind on a sheet: writes its first mark, from which
+   ringlist_resume lists. It lists nothing itself.
+
+   sheet      the bond sheet, as for ringlist_resume.
+   kind, s, t what to list. 0: all rings, with s = 0 and t = 0. 1: the paths
+              from atom s to atom t, which differ. 2: the rings of at most s
+              atoms, s from 3 to 128, with t = 0.
+   next_mark  the mark output, next_mark_len bytes, at least 599 as for
+              ringlist_resume.
+
+   The sheet and the mark output are taken on trust as there: real memory of the
+   lengths given, which do not overlap, and to which nobody else writes during
+   the call. All else is checked.
+
+   Returned when the search is started: 0. The mark stands at the start of the
+   output, 91 bytes, that is ringlist_mark_length(next_mark, next_mark_len); the
+   bytes past them keep their values. Its line 1 has kind, s, t, n, m, 0 and 1,
+   its line 2 three counts 0, and its line 3 is empty. ringlist_resume takes it
+   on the same sheet, and with it no member of the list is lost and none comes
+   twice, as from any mark.
+
+   Returned when it was refused, by the first rule that is broken in the order
+   1 to 8, 16, then 10 and 11 or 21, then 13. A refused call writes nothing.
+       1 to 8  as for ringlist_resume
+      16  kind is not 0, 1 or 2, or s or t is not 0 for kind 0, or t is not 0 for
+          kind 2
+      10  for kind 1, s or t is 0 or above n
+      11  for kind 1, s equals t
+      21  for kind 2, s is below 3 or above 128
+      13  the mark output is shorter than 599 bytes
+   No other number comes back. Whatever it starts, rule 16 of ringlist_resume
+   allows, and whatever that rule allows, it starts. */
+uint32_t ringlist_start(const uint8_t *sheet, size_t sheet_len,
+                        uint64_t kind, uint64_t s, uint64_t t,
+                        uint8_t *next_mark, size_t next_mark_len);
 
 /* The bytes of the mark at the start of a buffer: 91 + 4 * the number in
    columns 21 to 24 of its first line. 0 where the buffer has fewer bytes than

@@ -86,19 +86,19 @@ module _ (sheet mark : List ℕ) (budget : ℕ) (rings next : List ℕ) where
       mark-refused s is-made e = rw (← s .is-read, s .accepted, ← is-made, e)
 
       module _ (m : MarkTaken sheet mark read made) where
-        pub room-refused : length next < 599 → Refuses refusal.MarkRoom
+        pub room-refused : leb 599 (length next) ≡ false → Refuses refusal.MarkRoom
         unfolding resume
         room-refused h =
             let s = m .of-sheet in
-            rw (← s .is-read, s .accepted, ← m .is-made, m .accepted, lt-leb 599 (length next) h)
+            rw (← s .is-read, s .accepted, ← m .is-made, m .accepted, h)
 
         pub resumed :
-            599 ≤ length next →
+            leb 599 (length next) ≡ true →
             runAndSave (read .molecule) (made .search) budget rings next ≡ resume sheet mark budget rings next
         unfolding resume
         resumed h =
             let s = m .of-sheet in
-            rw (← s .is-read, s .accepted, ← m .is-made, m .accepted, le-leb 599 (length next) h)
+            rw (← s .is-read, s .accepted, ← m .is-made, m .accepted, h)
 
 -- ---- what a host reads off a mark
 

@@ -10,6 +10,7 @@ use mathlib.Core.List.{List, _++_}
 use mathlib.Core.Logic.{_⊎_, inl, inr}
 use lib.ListN.{length, drop}
 use lib.Dec.{leb, eqb}
+use borrow.Author.Tests.{le-leb, lt-leb}
 use Rattle.enumeration.specs.declared.Stop.{Stop}
 use Rattle.enumeration.specs.declared.Stop.the-variants.{Done, Limit, Spent, Full}
 use Rattle.enumeration.specs.Machine.{fresh}
@@ -338,11 +339,11 @@ module _ (sheet mark : List ℕ) (budget : ℕ) (rings next : List ℕ) where
         let formed = accepted-well-formed sheet read in
         let b = begun mol mark formed made in
         went (record { formed = formed; kept = b .kept })
-        (resumed sheet mark budget rings next (mark-taken made) room) room (b .listed-is)
+        (resumed sheet mark budget rings next (mark-taken made) (le-leb 599 (length next) room)) room (b .listed-is)
 
     room-way : searchFor mol mark .answer ≡ Accepted → Dec (length next < 599) → Turned ⊎ Went
     room-way made (yes h) =
-        let refused = room-refused sheet mark budget rings next (mark-taken made) h in
+        let refused = room-refused sheet mark budget rings next (mark-taken made) (lt-leb 599 (length next) h) in
         inl (turned refusal.MarkRoom refused (inr (omega arith, omega arith)))
     room-way made (no h) = inr (resume-accepted made (omega arith))
 

@@ -11,6 +11,7 @@ use mathlib.Core.List.{List, _++_}
 use lib.ListN.{length, take, drop}
 use lib.Seq.{take-append-seam}
 use lib.Dec.{eqb}
+use borrow.Author.Tests.{le-leb, lt-leb}
 use Rattle.enumeration.specs.Machine.{fresh}
 use Rattle.refusal.specs.declared.Refusal.{Refusal}
 use Rattle.refusal.specs.declared.Refusal.the-variants as refusal
@@ -131,7 +132,7 @@ module _ (sheet : List ℕ) (kind s t : ℕ) (next : List ℕ) where
 
       began : 599 ≤ length next → Began
       began room =
-          let written = mark-written sheet kind s t next start-taken room in
+          let written = mark-written sheet kind s t next start-taken (le-leb 599 (length next) room) in
           record {
             number-is = sym (ap (λ (x : Started). x .number) written);
             read = read;
@@ -146,7 +147,7 @@ module _ (sheet : List ℕ) (kind s t : ℕ) (next : List ℕ) where
 
     room-way : startSearch mol kind s t .answer ≡ Accepted → Dec (length next < 599) → Turned ⊎ Began
     room-way made (yes h) =
-        let refused = room-refused sheet kind s t next (start-taken made) h in
+        let refused = room-refused sheet kind s t next (start-taken made) (lt-leb 599 (length next) h) in
         inl (turned refusal.MarkRoom refused (inr (inl refl)))
     room-way made (no h) = inr (began made (omega arith))
 

@@ -3,10 +3,11 @@
 use Prim.Native.Nat.{ℕ, _+_, _*_, _≤_, _<_}
 use native.Mathlib.Omega.{arith}
 use mathlib.Core.Path.{_≡_, refl, ap, sym, _∙_}
-use mathlib.Core.Bool.{true}
+use mathlib.Core.Bool.{true, false}
 use mathlib.Core.List.{List, _++_}
 use lib.ListN.{length, drop}
-use borrow.Author.Tests.{le-leb, lt-leb}
+use lib.Dec.{leb}
+use borrow.Author.Tests.{leb-true}
 use Rattle.enumeration.specs.Machine.{fresh}
 use Rattle.refusal.specs.declared.Refusal.{Refusal}
 use Rattle.refusal.specs.declared.Refusal.the-variants as refusal
@@ -75,22 +76,24 @@ module _ (sheet : List ℕ) (kind s t : ℕ) (next : List ℕ) where
       start-refused s is-made e = rw (← s .is-read, s .accepted, ← is-made, e)
 
       module _ (m : StartTaken sheet kind s t read made) where
-        pub room-refused : length next < 599 → Refuses refusal.MarkRoom
+        pub room-refused : leb 599 (length next) ≡ false → Refuses refusal.MarkRoom
         unfolding startMark
         room-refused h =
             let s = m .of-sheet in
-            rw (← s .is-read, s .accepted, ← m .is-made, m .accepted, lt-leb 599 (length next) h)
+            rw (← s .is-read, s .accepted, ← m .is-made, m .accepted, h)
 
-        module _ (room : 599 ≤ length next) where
+        module _ (room : leb 599 (length next) ≡ true) where
           pub mark-written : wroteMark (read .molecule) (made .search) next ≡ startMark sheet kind s t next
           unfolding startMark
           mark-written =
               let s = m .of-sheet in
-              rw (← s .is-read, s .accepted, ← m .is-made, m .accepted, le-leb 599 (length next) room)
+              rw (← s .is-read, s .accepted, ← m .is-made, m .accepted, room)
 
           -- it is the fresh search, whose mark has room
           pub start-fits : MarkFits (made .search) next
-          start-fits = rw (ap (λ (x : Made). x .search) fresh-made) (fresh-fits kind s t next room)
+          start-fits =
+              rw (ap (λ (x : Made). x .search) fresh-made)
+              (fresh-fits kind s t next (leb-true 599 (length next) room))
             where
               fresh-made : made ≡ acceptedSearch (freshSearch kind s t)
               fresh-made =

@@ -1,6 +1,7 @@
 // The entries for the C host, declared in include/ringlist.h.
 ghost use mathlib.Core.Path.{_≡_};
 ghost use mathlib.Core.Bool.{true};
+ghost use lib.Dec.{leb};
 ghost use Rattle.molecule.specs.Record.{wellFormed};
 ghost use Rattle.search.specs.Place.{restorable};
 ghost use Rattle.host.specs.Resume.{searchFor, runAndSave, resume, markSize, listedIn};
@@ -41,6 +42,13 @@ fn run_and_save(m: Molecule, q: Search, budget: u64, rings: &mut [u8], next_mark
     search::ended_number(ended)
 }
 
+// Rule 13: whether a mark output of so many bytes has room for every mark.
+fn has_room(len: usize) -> bool
+    ensures { λ r. ⌜ r ≡ leb 599 len ⌝ }
+{
+    len >= 599
+}
+
 // Reads a sheet, restores a mark, runs within a budget and saves: rules 1 to 8, 14 to 17, 13.
 #[no_mangle]
 pub extern "C" fn ringlist_resume(
@@ -66,7 +74,7 @@ pub extern "C" fn ringlist_resume(
             match made_answer {
                 Answer::Refused(r) => refusal::number(r),
                 Answer::Accepted => {
-                    if next_mark.len() < 599 {
+                    if !has_room(next_mark.len()) {
                         return refusal::number(Refusal::MarkRoom);
                     }
                     run_and_save(read.molecule, q, budget, rings, next_mark)
@@ -100,7 +108,7 @@ pub extern "C" fn ringlist_start(
             match made_answer {
                 Answer::Refused(r) => refusal::number(r),
                 Answer::Accepted => {
-                    if next_mark.len() < 599 {
+                    if !has_room(next_mark.len()) {
                         return refusal::number(Refusal::MarkRoom);
                     }
                     mark_writer::put_mark(read.molecule, q, next_mark);

@@ -1,7 +1,8 @@
 -- `host::ringlist_resume` meets its contract: each way out is one answer of the definition.
 -- The three refusals leave both outputs as they were; the last way is the run and the save, of a molecule and a search
 -- that keep rules 9 and 12.
-use mathlib.Core.Path.{refl}
+use mathlib.Core.Path.{refl, sym, _∙_}
+use borrow.Author.Tests.{not-true, not-false}
 use borrow.Author.Needs.{needs}
 use Rattle.host.proofs.Answers.{SheetTaken, MarkTaken}
 use Rattle.host.proofs.Answers.{leaves, sheet-refused, mark-refused, room-refused, resumed}
@@ -50,7 +51,8 @@ search-for-requires c κs = read-formed (sheet-taken c)
 
 returns : tie.Need-returns
 returns c =
-    let full = room-refused _ _ _ _ _ (mark-taken (search)) (c .before .if1 .taken) in
+    let short = sym (c .before .before .has-room .ensures) ∙ not-true _ (c .before .if1 .taken) in
+    let full = room-refused _ _ _ _ _ (mark-taken (search)) short in
     leaves full _ _ _ (c .number3 .ensures, refl, refl)
 
 run-and-save-requires : tie.Need-run-and-save-requires
@@ -72,13 +74,14 @@ returns-3 c =
 returns-4 : tie.Need-returns-4
 returns-4 c =
     let else1 : tie.Else1 = search in
+    let room = sym (else1 .before .has-room .ensures) ∙ not-false _ (else1 .if1 .left) in
     let ran : tie.After-run-and-save = search in
-    leaves (resumed _ _ _ _ _ (mark-taken (search)) (else1 .if1 .left)) _ _ _ (ran .run-and-save .ensures)
+    leaves (resumed _ _ _ _ _ (mark-taken (search)) room) _ _ _ (ran .run-and-save .ensures)
 
 pub ringlist-resume-spec : {M : Type 1} → statement M
 ringlist-resume-spec =
     tie.close
     (tie.spec
     (λ c κs. search needs) (λ c. search needs) (λ c κs. search needs) enum-told search-for-requires (λ c. search needs)
-    (λ c κs. search needs) (λ c. search needs) (λ c κs. search needs) returns run-and-save-requires returns-2 returns-3
-    (λ c. search needs) (λ c. search needs) returns-4)
+    (λ c κs. search needs) (λ c. search needs) (λ c κs. search needs) (λ c κs. search needs) returns
+    run-and-save-requires returns-2 returns-3 (λ c. search needs) (λ c. search needs) returns-4)

@@ -1,6 +1,7 @@
 -- `host::ringlist_start` meets its contract: each way out is one answer of the definition.
 -- The three refusals leave the output as it was; the last way writes the mark of a fresh search, which has room.
-use mathlib.Core.Path.{refl}
+use mathlib.Core.Path.{refl, sym, _∙_}
+use borrow.Author.Tests.{not-true, not-false}
 use borrow.Author.Needs.{needs}
 use Rattle.host.proofs.Answers.{SheetTaken}
 use Rattle.host.proofs.StartWays.{StartTaken, leaves-mark, mark-put, start-fits}
@@ -47,11 +48,15 @@ enum-told c = search needs
 
 returns : tie.Need-returns
 returns c =
-    let full = room-refused _ _ _ _ _ (start-taken (search)) (c .before .if1 .taken) in
+    let short = sym (c .before .before .has-room .ensures) ∙ not-true _ (c .before .if1 .taken) in
+    let full = room-refused _ _ _ _ _ (start-taken (search)) short in
     leaves-mark full _ _ (c .number3 .ensures, refl)
 
 put-mark-requires : tie.Need-put-mark-requires
-put-mark-requires c κs = start-fits _ _ _ _ _ (start-taken (search)) (c .before .if1 .left)
+put-mark-requires c κs =
+    let else1 : tie.Else1 = search in
+    let room = sym (else1 .before .has-room .ensures) ∙ not-false _ (else1 .if1 .left) in
+    start-fits _ _ _ _ _ (start-taken (search)) room
 
 returns-2 : tie.Need-returns-2
 returns-2 c =
@@ -69,8 +74,9 @@ returns-3 c =
 returns-4 : tie.Need-returns-4
 returns-4 c =
     let else1 : tie.Else1 = search in
+    let room = sym (else1 .before .has-room .ensures) ∙ not-false _ (else1 .if1 .left) in
     let put : tie.After-put-mark = search in
-    leaves-mark (mark-written _ _ _ _ _ (start-taken (search)) (else1 .if1 .left)) _ _
+    leaves-mark (mark-written _ _ _ _ _ (start-taken (search)) room) _ _
     (mark-put _ _ _ _ (put .put-mark .ensures))
 
 pub ringlist-start-spec : {M : Type 1} → statement M
@@ -78,5 +84,5 @@ ringlist-start-spec =
     tie.close
     (tie.spec
     (λ c κs. search needs) (λ c. search needs) (λ c κs. search needs) enum-told (λ c κs. search needs)
-    (λ c. search needs) (λ c κs. search needs) (λ c. search needs) (λ c κs. search needs) returns put-mark-requires
-    returns-2 returns-3 (λ c. search needs) returns-4)
+    (λ c. search needs) (λ c κs. search needs) (λ c. search needs) (λ c κs. search needs) (λ c κs. search needs)
+    returns put-mark-requires returns-2 returns-3 (λ c. search needs) returns-4)
