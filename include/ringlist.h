@@ -105,9 +105,9 @@ extern "C" {
    No other number comes back.
 
    A mark of kind 1 lists the chordless paths from s to t in the same way, as
-   records of 2 atoms or more, and one of kind 2 the rings of at most s atoms:
-   where it says "ring" above, read the members of the search. ringlist_start
-   writes the first mark of such a search.
+   records of 2 atoms or more, and one of kind 2 the rings of at most s atoms;
+   what is said above of rings holds of these. ringlist_start writes the first
+   mark of such a search.
 
    The functions have no state of their own: they may be called at once from
    several threads, where no output of one call overlaps a stretch of another.

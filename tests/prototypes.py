@@ -40,6 +40,7 @@ WRONG = [
     ("include/ringlist.h", "size_t sheet_len", "uint32_t sheet_len"),
     ("include/ringlist.h", "size_t ringlist_mark_length", "uint32_t ringlist_mark_length"),
     ("include/ringlist.h", "uint64_t budget", "int64_t budget"),
+    ("include/ringlist.h", "uint64_t s, uint64_t t", "uint64_t t, uint64_t s"),             # of the same types
     ("include/ringlist.h", 'extern "C" {', 'extern "C++" {'),
     ("include/flat.h", "const uint64_t *numbers", "uint64_t *numbers"),
     ("include/flat.h", "uint64_t flat_read_field", "uint32_t flat_read_field"),

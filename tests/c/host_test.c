@@ -351,6 +351,63 @@ static void paths(void) {
     wrote(call(SHEET, start, 91, 99, 8, MARK), 101, "\3\2\1\4\3\2\3\4", 8, end, 91, __LINE__);
 }
 
+/* A start, in a mark output with margins around it: its answer, and the mark at
+   the start of the output, or nothing written where it is NULL. */
+static void starts(const void *sheet, size_t sheet_len, uint64_t kind, uint64_t s, uint64_t t,
+                   size_t next_len, uint32_t answer, const char *mark, int line) {
+    uint8_t *next = some(next_len + 2 * MARGIN), *given = exact(sheet, sheet_len);
+    size_t wrote_len = mark == NULL ? 0 : 91;
+    memset(next, PATTERN, next_len + 2 * MARGIN);
+    check_number(ringlist_start(given, sheet_len, kind, s, t, next + MARGIN, next_len), answer,
+                 line, "the answer of a start");
+    check(all_are(next, MARGIN, PATTERN), line, "nothing before the mark output");
+    check(wrote_len == 0 || memcmp(next + MARGIN, mark, wrote_len) == 0, line, "the first mark");
+    check(all_are(next + MARGIN + wrote_len, next_len - wrote_len + MARGIN, PATTERN), line,
+          "nothing past the mark");
+    if (mark != NULL) {
+        check_number(ringlist_mark_length(next + MARGIN, next_len), 91, line, "its length");
+    }
+    free(next);
+    free(given);
+}
+
+#define COUNTS_0 "                   0                   0                   0\n\n"
+#define STARTS(kind, s, t, mark) starts(SHEET, kind, s, t, MARK, 0, mark COUNTS_0, __LINE__)
+#define NO_START(sheet, kind, s, t, room, rule) \
+    starts(sheet, sizeof(sheet) - 1, kind, s, t, room, rule, NULL, __LINE__)
+
+static void first_marks(void) {
+    STARTS(0, 0, 0, "   0   0   0   4   5   0   1\n");
+    STARTS(1, 2, 4, "   1   2   4   4   5   0   1\n");
+    STARTS(1, 4, 1, "   1   4   1   4   5   0   1\n");
+    STARTS(2, 3, 0, "   2   3   0   4   5   0   1\n");
+    STARTS(2, 128, 0, "   2 128   0   4   5   0   1\n");
+    starts(SHEET, 0, 0, 0, 700, 0, "   0   0   0   4   5   0   1\n" COUNTS_0, __LINE__);
+    /* The sheet comes first, then kind, s and t, and the room last. */
+    NO_START("", 3, 1, 1, 0, 1);
+    NO_START("   4   x\n", 3, 1, 1, 0, 2);
+    NO_START("   3   1\n   1   1\n", 3, 1, 1, 0, 7);
+    NO_START(document, 3, 0, 0, 0, 16);
+    NO_START(document, UINT64_MAX, 0, 0, MARK, 16);
+    NO_START(document, UINT64_C(1) << 32, 0, 0, MARK, 16);
+    NO_START(document, 0, 1, 0, 0, 16);
+    NO_START(document, 0, 0, 1, MARK, 16);
+    NO_START(document, 2, 0, 1, 0, 16);
+    NO_START(document, 2, 3, 4, MARK, 16);
+    NO_START(document, 1, 0, 0, 0, 10);
+    NO_START(document, 1, 5, 5, MARK, 10);
+    NO_START(document, 1, 1, 5, MARK, 10);
+    NO_START(document, 1, (UINT64_C(1) << 32) + 1, 2, MARK, 10);
+    NO_START(document, 1, 4, 4, 0, 11);
+    NO_START(document, 2, 2, 0, 0, 21);
+    NO_START(document, 2, 0, 0, MARK, 21);
+    NO_START(document, 2, 129, 0, MARK, 21);
+    NO_START(document, 2, (UINT64_C(1) << 32) + 3, 0, MARK, 21);
+    NO_START(document, 0, 0, 0, MARK - 1, 13);
+    NO_START(document, 1, 2, 4, 91, 13);
+    NO_START(document, 2, 3, 0, 0, 13);
+}
+
 /* Counts are taken as they are; at the limit a run stops before its first
    trial, but done comes before the limit, and the limit before spent. */
 static void limit(void) {
@@ -471,6 +528,7 @@ int main(int words, char **word) {
     zero_lengths();
     overlap();
     paths();
+    first_marks();
     limit();
     mark_readers();
     if (words == 1) {
