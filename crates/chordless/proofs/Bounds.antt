@@ -1,5 +1,6 @@
 -- Rings and paths have at most n atoms, all from 1 to n, and none begins another: from the laws of their definitions.
--- So a word is listed exactly when it is one, and a non-empty p is open exactly when some p ++ a ∷ r is one.
+-- So a word is listed exactly when it is one, and a non-empty p is open exactly when some p ++ a ∷ r is one, in the
+-- list of those of at most k atoms when it has no more.
 use Prim.Native.Nat.{ℕ, _≤_, _<_}
 use mathlib.Core.Path.{_≡_}
 use mathlib.Core.Bool.{true, false}
@@ -12,8 +13,9 @@ use Rattle.graph.proofs.Below.{false-of}
 use Rattle.graph.proofs.Pigeon.{ring-long, ring-short, ring-range, ring-stops, path-long, path-short, path-range, path-stops}
 use Rattle.enumeration.specs.Words.{begins, members, isOpen}
 use Rattle.enumeration.proofs.Order.{begins-rest}
-use Rattle.chordless.specs.Families.{rings, paths}
-use Rattle.chordless.proofs.Members.{Bounded, in-list, open-iff}
+use Rattle.chordless.specs.Families.{rings, paths, upTo}
+use Rattle.chordless.proofs.Members.{Bounded, in-list}
+use Rattle.chordless.proofs.UpTo.{upto-open}
 
 -- ---- rings
 
@@ -39,9 +41,10 @@ module _ (n : ℕ) (adj : Adjacency) where
   rings-list w = in-list (rings n adj) rings-bounded w
 
   pub rings-open :
-      (x : ℕ) (p : List ℕ) →
-      (isOpen (rings n adj) (x ∷ p) ≡ true) ↔ ((a : ℕ) × (r : List ℕ) × (isRing n adj (x ∷ p ++ a ∷ r) ≡ true))
-  rings-open x p = open-iff (rings n adj) rings-bounded x p
+      (k x : ℕ) (p : List ℕ) →
+      (isOpen (upTo k (rings n adj)) (x ∷ p) ≡ true) ↔
+      ((a : ℕ) × (r : List ℕ) × (isRing n adj (x ∷ p ++ a ∷ r) ≡ true) × (length (x ∷ p ++ a ∷ r) ≤ k))
+  rings-open k x p = upto-open k (rings n adj) rings-bounded x p
 
 -- ---- paths
 
@@ -67,6 +70,7 @@ module _ (n : ℕ) (adj : Adjacency) (s t : ℕ) where
   paths-list w = in-list (paths n adj s t) paths-bounded w
 
   pub paths-open :
-      (x : ℕ) (p : List ℕ) →
-      (isOpen (paths n adj s t) (x ∷ p) ≡ true) ↔ ((a : ℕ) × (r : List ℕ) × (isPath n adj s t (x ∷ p ++ a ∷ r) ≡ true))
-  paths-open x p = open-iff (paths n adj s t) paths-bounded x p
+      (k x : ℕ) (p : List ℕ) →
+      (isOpen (upTo k (paths n adj s t)) (x ∷ p) ≡ true) ↔
+      ((a : ℕ) × (r : List ℕ) × (isPath n adj s t (x ∷ p ++ a ∷ r) ≡ true) × (length (x ∷ p ++ a ∷ r) ≤ k))
+  paths-open k x p = upto-open k (paths n adj s t) paths-bounded x p

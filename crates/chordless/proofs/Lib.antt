@@ -1,4 +1,5 @@
 pub mod Members
+pub mod UpTo
 pub mod Bounds
 pub mod Shortest
 pub mod Touch

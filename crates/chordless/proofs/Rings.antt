@@ -1,6 +1,7 @@
--- An atom v opens a beginning p of a ring exactly as `RingOpens` says: openness is reachability (document 01).
--- A ring that goes on p and v is cut at v; a chordless list from v to a closing atom is joined to p.
-use Prim.Native.Nat.{ℕ, _≤_, _<_}
+-- An atom v opens a beginning p of a ring of at most k atoms exactly as `RingOpens` says: openness is reachability in
+-- as many steps as k leaves (document 01, request F-4). With k at least n these are all rings. A ring that goes on p
+-- and v is cut at v; a chordless list from v to a closing atom is joined to p.
+use Prim.Native.Nat.{ℕ, suc, _-_, _≤_, _<_}
 use mathlib.Core.Path.{_≡_, sym}
 use mathlib.Core.Bool.{true, false}
 use mathlib.Core.List.{List, [], _∷_, _++_, append-assoc}
@@ -15,12 +16,13 @@ use Rattle.graph.proofs.Chain.{Chordless, glue, glue-left, glue-right, glue-fol
 use Rattle.graph.proofs.Shape.{RingShape, ring-shape}
 use Rattle.graph.proofs.Pigeon.{ring-long, ring-range}
 use Rattle.enumeration.specs.Words.{isOpen}
-use Rattle.chordless.specs.Families.{rings}
+use Rattle.chordless.specs.Families.{rings, upTo}
 use Rattle.chordless.specs.Reach.{Irreflexive, RingOpens, RingCloses}
 use Rattle.chordless.proofs.Members.{open-shorter}
+use Rattle.chordless.proofs.UpTo.{upto-bounded}
 use Rattle.chordless.proofs.Bounds.{rings-bounded, rings-open}
-use Rattle.chordless.proofs.Shortest.{shortest, walks}
-use Rattle.chordless.proofs.Touch.{Clear, touches-facts, touches-of, ends-facts, ends-of, free-range, free-clear, free-all, free-irreflexive, closing-facts, closing-of, follows-of, follows-touches, fresh, join, told-apart, off-clear, regroup, snoc-after, snoc-through}
+use Rattle.chordless.proofs.Shortest.{shortest, walks, walk-longer}
+use Rattle.chordless.proofs.Touch.{Clear, touches-facts, touches-of, ends-facts, ends-of, free-range, free-clear, free-all, free-irreflexive, closing-facts, closing-of, follows-of, follows-touches, fresh, join, told-apart, off-clear, regroup, snoc-after, snoc-through, through-length}
 
 -- s is bonded to the first atom of p and to no other
 abbrev pub Starts : Adjacency → ℕ → List ℕ → Type 0
@@ -56,7 +58,7 @@ module _ (n : ℕ) (adj : Adjacency) where
   -- a ring cut at v
   ring-cut :
       (s : ℕ) (p : List ℕ) (v : ℕ) (q : List ℕ) (b : ℕ) → isRing n adj (s ∷ p ++ v ∷ q ++ b ∷ []) ≡ true →
-      RingOpens n adj (s ∷ p) (atomAt (s ∷ p ++ v ∷ []) 1) v
+      RingOpens n adj (s ∷ p) (atomAt (s ∷ p ++ v ∷ []) 1) (suc (length q)) v
   ring-cut s [] v q b e =
       let ring = ring-shape n adj s v q b .0 e in
       let (v-above, v-range) = all-head (ring .above) in
@@ -96,19 +98,30 @@ module _ (n : ℕ) (adj : Adjacency) where
       clear-of-both : (u : ℕ) → (adj s u ≡ false) × Clear adj (a ∷ p) u → Clear adj (s ∷ a ∷ p) u
       clear-of-both u (off-s, off-p) = off-s ◁ off-p
 
-  open-stem : (s : ℕ) (p : List ℕ) → isOpen (rings n adj) (s ∷ p) ≡ true → RingStem n adj s p
-  open-stem s p e = let (c, r, f) = rings-open n adj s p .0 e in ring-stem s p c r f
+  -- more steps
+  ring-longer : {p : List ℕ} {a d e v : ℕ} → d ≤ e → RingOpens n adj p a d v → RingOpens n adj p a e v
+  ring-longer h o = record {
+    above = o .above;
+    range = o .range;
+    touches = o .touches;
+    last = o .last;
+    closes = o .closes;
+    reached = walk-longer adj h (o .reached);
+  }
+
+  open-stem : (k s : ℕ) (p : List ℕ) → isOpen (upTo k (rings n adj)) (s ∷ p) ≡ true → RingStem n adj s p
+  open-stem k s p e = let (c, r, f, short) = rings-open n adj k s p .0 e in ring-stem s p c r f
 
   -- ---- membership
 
   -- v closes a beginning of two atoms or more
   pub ring-closes :
-      (p : List ℕ) (v : ℕ) → 2 ≤ length p → isOpen (rings n adj) p ≡ true →
+      (k : ℕ) (p : List ℕ) (v : ℕ) → 2 ≤ length p → isOpen (upTo k (rings n adj)) p ≡ true →
       (isRing n adj (p ++ v ∷ []) ≡ true) ↔ RingCloses n adj p v
-  ring-closes [] v h e = absurd (not-suc-le-zero h)
-  ring-closes (s ∷ []) v h e = absurd (not-suc-le-zero (le-of-suc-le-suc h))
-  ring-closes (s ∷ a ∷ p) v h e =
-      (λ f. to (ring-shape n adj s a p v .0 f), λ k. ring-shape n adj s a p v .1 (back (open-stem s (a ∷ p) e) k))
+  ring-closes k [] v h e = absurd (not-suc-le-zero h)
+  ring-closes k (s ∷ []) v h e = absurd (not-suc-le-zero (le-of-suc-le-suc h))
+  ring-closes k (s ∷ a ∷ p) v h e =
+      (λ f. to (ring-shape n adj s a p v .0 f), λ c. ring-shape n adj s a p v .1 (back (open-stem k s (a ∷ p) e) c))
     where
       to : RingShape n adj s a p v → RingCloses n adj (s ∷ a ∷ p) v
       to ring =
@@ -151,14 +164,15 @@ module _ (n : ℕ) (adj : Adjacency) where
   module _ (irr : Irreflexive n adj) where
     -- a beginning joined to a chordless list from v to a closing atom
     ring-join :
-        (s : ℕ) (p : List ℕ) (v : ℕ) → RingStem n adj s p →
-        RingOpens n adj (s ∷ p) (atomAt (s ∷ p ++ v ∷ []) 1) v →
-        (q : List ℕ) × (b : ℕ) × (isRing n adj (s ∷ p ++ v ∷ q ++ b ∷ []) ≡ true)
-    ring-join s [] v stem o =
+        (s : ℕ) (p : List ℕ) (d v : ℕ) → RingStem n adj s p →
+        RingOpens n adj (s ∷ p) (atomAt (s ∷ p ++ v ∷ []) 1) d v →
+        (q : List ℕ) × (b : ℕ) × (length q < d) × (isRing n adj (s ∷ p ++ v ∷ q ++ b ∷ []) ≡ true)
+    ring-join s [] d v stem o =
         let b = o .last in
         let (v-below-b, b-range, closes, b-off) = closing-facts adj n s [] v b (o .closes) in
         let v-differs : v ≢ b = omega arith in
-        let (q, between, chain) = shortest adj (free-irreflexive adj n s (s ∷ []) irr) v-differs (o .reached) in
+        let (q, short, between, chain) =
+        shortest adj (free-irreflexive adj n s (s ∷ []) irr) v-differs (o .reached) in
         let s-below-v : s < v = o .above in
         let after-v = all-append (free-range adj n s (s ∷ []) between) ((omega arith, b-range) ◁ none) in
         let ring : RingShape n adj s v q b = record {
@@ -170,14 +184,15 @@ module _ (n : ℕ) (adj : Adjacency) where
           closes = closes;
           oriented = v-below-b;
         } in
-        (q, b, ring-shape n adj s v q b .1 ring)
-    ring-join s (a ∷ p) v stem o =
+        (q, b, short, ring-shape n adj s v q b .1 ring)
+    ring-join s (a ∷ p) d v stem o =
         let b = o .last in
         let (a-below-b, b-range, closes, b-off) = closing-facts adj n s (a ∷ p) a b (o .closes) in
         let (s-off-v, touches-p) = touches-facts adj (s ∷ a ∷ p) v (o .touches) in
         let (opens, inner) = stem .starts in
         let v-differs : v ≢ b = λ e. told-apart adj s b v closes s-off-v (sym e) in
-        let (q, between, chain) = shortest adj (free-irreflexive adj n s (s ∷ a ∷ p) irr) v-differs (o .reached) in
+        let (q, short, between, chain) =
+        shortest adj (free-irreflexive adj n s (s ∷ a ∷ p) irr) v-differs (o .reached) in
         let s-below-v : s < v = o .above in
         let (s-below-a, a-range) = all-head (stem .above) in
         let off = free-clear adj n s (s ∷ a ∷ p) between in
@@ -196,66 +211,85 @@ module _ (n : ℕ) (adj : Adjacency) where
           closes = closes;
           oriented = a-below-b;
         } in
-        (q, b, ring-shape n adj s a (p ++ v ∷ q) b .1 ring)
+        (q, b, short, ring-shape n adj s a (p ++ v ∷ q) b .1 ring)
 
-    -- for a beginning s ∷ p that has what every beginning of a ring has
-    stem-opens :
-        (s : ℕ) (p : List ℕ) (v : ℕ) → RingStem n adj s p →
-        (isOpen (rings n adj) (s ∷ p ++ v ∷ []) ≡ true) ↔ RingOpens n adj (s ∷ p) (atomAt (s ∷ p ++ v ∷ []) 1) v
-    stem-opens s p v m = (to, back)
-      where
-        to : isOpen (rings n adj) (s ∷ p ++ v ∷ []) ≡ true → RingOpens n adj (s ∷ p) (atomAt (s ∷ p ++ v ∷ []) 1) v
-        to e =
-            let (c, r, f) = rings-open n adj s (p ++ v ∷ []) .0 e in
-            let (q, b, shape) = snoc-through p v c r in
-            ring-cut s p v q b (rw shape at f)
+    module _ (k : ℕ) where
+      -- for a beginning s ∷ p that has what every beginning of a ring has
+      stem-opens :
+          (s : ℕ) (p : List ℕ) (v : ℕ) → RingStem n adj s p →
+          (isOpen (upTo k (rings n adj)) (s ∷ p ++ v ∷ []) ≡ true) ↔
+          RingOpens n adj (s ∷ p) (atomAt (s ∷ p ++ v ∷ []) 1) (k - suc (length (s ∷ p))) v
+      stem-opens s p v m = (to, back)
+        where
+          to :
+              isOpen (upTo k (rings n adj)) (s ∷ p ++ v ∷ []) ≡ true →
+              RingOpens n adj (s ∷ p) (atomAt (s ∷ p ++ v ∷ []) 1) (k - suc (length (s ∷ p))) v
+          to e =
+              let (c, r, f, short) = rings-open n adj k s (p ++ v ∷ []) .0 e in
+              let (q, b, shape) = snoc-through p v c r in
+              let most : length (s ∷ p ++ v ∷ q ++ b ∷ []) ≤ k = rw shape at short in
+              ring-longer (omega (arith, through-length p v q b)) (ring-cut s p v q b (rw shape at f))
 
-        goes-on :
-            (q : List ℕ) (b : ℕ) → isRing n adj (s ∷ p ++ v ∷ [] ++ (q ++ b ∷ [])) ≡ true →
-            isOpen (rings n adj) (s ∷ p ++ v ∷ []) ≡ true
-        goes-on [] b f = rings-open n adj s (p ++ v ∷ []) .1 (b, [], f)
-        goes-on (y ∷ q) b f = rings-open n adj s (p ++ v ∷ []) .1 (y, q ++ b ∷ [], f)
+          goes-on :
+              (q : List ℕ) (b : ℕ) → isRing n adj (s ∷ p ++ v ∷ [] ++ (q ++ b ∷ [])) ≡ true →
+              length (s ∷ p ++ v ∷ [] ++ (q ++ b ∷ [])) ≤ k →
+              isOpen (upTo k (rings n adj)) (s ∷ p ++ v ∷ []) ≡ true
+          goes-on [] b f short = rings-open n adj k s (p ++ v ∷ []) .1 (b, [], f, short)
+          goes-on (y ∷ q) b f short = rings-open n adj k s (p ++ v ∷ []) .1 (y, q ++ b ∷ [], f, short)
 
-        back : RingOpens n adj (s ∷ p) (atomAt (s ∷ p ++ v ∷ []) 1) v → isOpen (rings n adj) (s ∷ p ++ v ∷ []) ≡ true
-        back o =
-            let (q, b, f) = ring-join s p v m o in
-            goes-on q b (rw (regroup p v q b) f)
+          back :
+              RingOpens n adj (s ∷ p) (atomAt (s ∷ p ++ v ∷ []) 1) (k - suc (length (s ∷ p))) v →
+              isOpen (upTo k (rings n adj)) (s ∷ p ++ v ∷ []) ≡ true
+          back o =
+              let (q, b, short, f) = ring-join s p (k - suc (length (s ∷ p))) v m o in
+              let most : length (s ∷ p ++ v ∷ q ++ b ∷ []) ≤ k = omega (arith, through-length p v q b) in
+              goes-on q b (rw (regroup p v q b) f) (rw (regroup p v q b) most)
 
-    -- any open beginning that is not empty
-    pub ring-opens :
-        (p : List ℕ) (v : ℕ) → 1 ≤ length p → isOpen (rings n adj) p ≡ true →
-        (isOpen (rings n adj) (p ++ v ∷ []) ≡ true) ↔ RingOpens n adj p (atomAt (p ++ v ∷ []) 1) v
-    ring-opens [] v h e = absurd (not-suc-le-zero h)
-    ring-opens (s ∷ p) v h e = stem-opens s p v (open-stem s p e)
+      -- any open beginning that is not empty
+      pub ring-opens :
+          (p : List ℕ) (v : ℕ) → 1 ≤ length p → isOpen (upTo k (rings n adj)) p ≡ true →
+          (isOpen (upTo k (rings n adj)) (p ++ v ∷ []) ≡ true) ↔
+          RingOpens n adj p (atomAt (p ++ v ∷ []) 1) (k - suc (length p)) v
+      ring-opens [] v h e = absurd (not-suc-le-zero h)
+      ring-opens (s ∷ p) v h e = stem-opens s p v (open-stem k s p e)
 
-    -- two atoms or more: the free atoms and the closing ones are the same for every v
-    pub ring-opens-long :
-        (p : List ℕ) (v : ℕ) → 2 ≤ length p → isOpen (rings n adj) p ≡ true →
-        (isOpen (rings n adj) (p ++ v ∷ []) ≡ true) ↔ RingOpens n adj p (atomAt p 1) v
-    ring-opens-long [] v h e = absurd (not-suc-le-zero h)
-    ring-opens-long (s ∷ []) v h e = absurd (not-suc-le-zero (le-of-suc-le-suc h))
-    ring-opens-long (s ∷ a ∷ p) v h e = stem-opens s (a ∷ p) v (open-stem s (a ∷ p) e)
+      -- two atoms or more: the free atoms and the closing ones are the same for every v
+      pub ring-opens-long :
+          (p : List ℕ) (v : ℕ) → 2 ≤ length p → isOpen (upTo k (rings n adj)) p ≡ true →
+          (isOpen (upTo k (rings n adj)) (p ++ v ∷ []) ≡ true) ↔
+          RingOpens n adj p (atomAt p 1) (k - suc (length p)) v
+      ring-opens-long [] v h e = absurd (not-suc-le-zero h)
+      ring-opens-long (s ∷ []) v h e = absurd (not-suc-le-zero (le-of-suc-le-suc h))
+      ring-opens-long (s ∷ a ∷ p) v h e = stem-opens s (a ∷ p) v (open-stem k s (a ∷ p) e)
 
-    -- one atom
-    pub ring-opens-one : (s v : ℕ) → 1 ≤ s → (isOpen (rings n adj) (s ∷ v ∷ []) ≡ true) ↔ RingOpens n adj (s ∷ []) v v
-    ring-opens-one s v h = stem-opens s [] v (record { least = h; above = none; chain = tt; starts = tt })
+      -- one atom
+      pub ring-opens-one :
+          (s v : ℕ) → 1 ≤ s →
+          (isOpen (upTo k (rings n adj)) (s ∷ v ∷ []) ≡ true) ↔ RingOpens n adj (s ∷ []) v (k - 2) v
+      ring-opens-one s v h = stem-opens s [] v (record { least = h; above = none; chain = tt; starts = tt })
 
-    -- none: a second atom must open it
-    pub ring-opens-none :
-        (v : ℕ) → (isOpen (rings n adj) (v ∷ []) ≡ true) ↔ ((a : ℕ) × (1 ≤ v) × RingOpens n adj (v ∷ []) a a)
-    ring-opens-none v = (to, back)
-      where
-        to : isOpen (rings n adj) (v ∷ []) ≡ true → (a : ℕ) × (1 ≤ v) × RingOpens n adj (v ∷ []) a a
-        to e = let (c, r, f) = rings-open n adj v [] .0 e in go c r f
-          where
-            go :
-                (c : ℕ) (r : List ℕ) → isRing n adj (v ∷ c ∷ r) ≡ true →
-                (a : ℕ) × (1 ≤ v) × RingOpens n adj (v ∷ []) a a
-            go c [] f = absurd (omega (arith, ring-long n adj (v ∷ c ∷ []) f))
-            go c (d ∷ r) f =
-                let least : 1 ≤ v = ring-stem v [] c (d ∷ r) f .least in
-                (c, least, ring-opens-one v c least .0 (rings-open n adj v (c ∷ []) .1 (d, r, f)))
+      -- none: a second atom must open it
+      pub ring-opens-none :
+          (v : ℕ) →
+          (isOpen (upTo k (rings n adj)) (v ∷ []) ≡ true) ↔
+          ((a : ℕ) × (1 ≤ v) × RingOpens n adj (v ∷ []) a (k - 2) a)
+      ring-opens-none v = (to, back)
+        where
+          to :
+              isOpen (upTo k (rings n adj)) (v ∷ []) ≡ true →
+              (a : ℕ) × (1 ≤ v) × RingOpens n adj (v ∷ []) a (k - 2) a
+          to e = let (c, r, f, short) = rings-open n adj k v [] .0 e in go c r f short
+            where
+              go :
+                  (c : ℕ) (r : List ℕ) → isRing n adj (v ∷ c ∷ r) ≡ true → length (v ∷ c ∷ r) ≤ k →
+                  (a : ℕ) × (1 ≤ v) × RingOpens n adj (v ∷ []) a (k - 2) a
+              go c [] f short = absurd (omega (arith, ring-long n adj (v ∷ c ∷ []) f))
+              go c (d ∷ r) f short =
+                  let least : 1 ≤ v = ring-stem v [] c (d ∷ r) f .least in
+                  (c, least, ring-opens-one v c least .0 (rings-open n adj k v (c ∷ []) .1 (d, r, f, short)))
 
-        back : (a : ℕ) × (1 ≤ v) × RingOpens n adj (v ∷ []) a a → isOpen (rings n adj) (v ∷ []) ≡ true
-        back (a, least, o) =
-            open-shorter (rings n adj) (rings-bounded n adj) v [] a (ring-opens-one v a least .1 o)
+          back :
+              (a : ℕ) × (1 ≤ v) × RingOpens n adj (v ∷ []) a (k - 2) a → isOpen (upTo k (rings n adj)) (v ∷ []) ≡ true
+          back (a, least, o) =
+              open-shorter (upTo k (rings n adj)) (upto-bounded k (rings n adj) (rings-bounded n adj)) v [] a
+              (ring-opens-one v a least .1 o)

@@ -1,6 +1,6 @@
 -- What steers a search below a beginning: how the two sets are handed on, what they tell at the beginning itself, and
 -- that they steer rings from two atoms on and paths from one. From the tests by recursion on the list (`Tests`).
-use Prim.Native.Nat.{ℕ, _≤_}
+use Prim.Native.Nat.{ℕ, suc, _-_, _≤_}
 use mathlib.Core.Path.{_≡_, refl, sym, fun-ext, _∙_}
 use mathlib.Core.Bool.{Bool, true, false, _&&_, not}
 use mathlib.Core.List.{List, [], _∷_, _++_, append-assoc, append-nil}
@@ -15,7 +15,7 @@ use Rattle.graph.proofs.Below.{clash, and-parts, and-both, not-of}
 use Rattle.graph.proofs.All.{all-head}
 use Rattle.enumeration.specs.Words.{Family, isOpen}
 use Rattle.enumeration.specs.Lawful.{Lawful}
-use Rattle.chordless.specs.Families.{rings, paths}
+use Rattle.chordless.specs.Families.{rings, paths, upTo}
 use Rattle.chordless.specs.Reach.{Irreflexive, Walk, there, through, clear, free, closing, touchesOnlyLast, RingOpens, PathOpens}
 use Rattle.chordless.specs.Steers.{without, along, lastAfter, Onward, Steers}
 use Rattle.chordless.proofs.Members.{Bounded, open-has, open-of}
@@ -26,12 +26,12 @@ use Rattle.chordless.proofs.Sweep.{ring-member, path-member}
 use Rattle.chordless.proofs.Touch.{clear-facts, clear-of, free-facts, free-of}
 use Rattle.chordless.proofs.Tests.{along-touches, along-clear, ends-along, first-along}
 
-module _ {F : Family} {adj : Adjacency} {b : List ℕ} {x : ℕ} {goal free : ℕ → Bool}
-    (k : Steers F adj b x goal free) where
+module _ {F : Family} {adj : Adjacency} {most : ℕ} {b : List ℕ} {x : ℕ} {goal free : ℕ → Bool}
+    (k : Steers F adj most b x goal free) where
   -- ---- handed on
 
   -- v is added
-  pub steers-more : (v : ℕ) → Steers F adj (b ++ v ∷ []) v (without adj x goal) (without adj x free)
+  pub steers-more : (v : ℕ) → Steers F adj most (b ++ v ∷ []) v (without adj x goal) (without adj x free)
   steers-more v = record {
     members = λ r e u. rw (append-assoc b (v ∷ []) r) (k .members (v ∷ r) (rw (append-assoc b (v ∷ []) r) at e) u);
     opens = λ r e u. rw (append-assoc b (v ∷ []) r) (k .opens (v ∷ r) (rw (append-assoc b (v ∷ []) r) at e) u);
@@ -42,14 +42,16 @@ module _ {F : Family} {adj : Adjacency} {b : List ℕ} {x : ℕ} {goal free : �
   pub steers-member : isOpen F b ≡ true → (v : ℕ) → F .member (b ++ v ∷ []) ≡ (goal v && adj x v)
   steers-member e v = rw (append-nil b) at (k .members [] (rw append-nil e) v)
 
-  pub steers-open : isOpen F b ≡ true → (v : ℕ) → (isOpen F (b ++ v ∷ []) ≡ true) ↔ Onward adj x goal free v
+  pub steers-open :
+      isOpen F b ≡ true → (v : ℕ) →
+      (isOpen F (b ++ v ∷ []) ≡ true) ↔ Onward adj x goal free (most - suc (length b)) v
   steers-open e v = rw (append-nil b) at (k .opens [] (rw append-nil e) v)
 
 -- the same sets
 pub steers-same :
-    {F : Family} {adj : Adjacency} {b : List ℕ} {x : ℕ} {goal free goal′ free′ : ℕ → Bool} →
+    {F : Family} {adj : Adjacency} {most : ℕ} {b : List ℕ} {x : ℕ} {goal free goal′ free′ : ℕ → Bool} →
     ((u : ℕ) → goal u ≡ goal′ u) → ((u : ℕ) → free u ≡ free′ u) →
-    Steers F adj b x goal free → Steers F adj b x goal′ free′
+    Steers F adj most b x goal free → Steers F adj most b x goal′ free′
 steers-same goals frees k = rw (fun-ext goals, fun-ext frees) at k
 
 -- ---- the sole candidate
@@ -62,8 +64,8 @@ module _ {F : Family} (L : Lawful F) where
   -- No atom makes a member of the open beginning b and one atom only is free and bonded to the last: it goes on.
   -- Some member goes on b, by an atom that opens b, and that is the one.
   pub sole-opens :
-      {adj : Adjacency} {b : List ℕ} {x : ℕ} {goal free : ℕ → Bool} →
-      Steers F adj b x goal free → 1 ≤ length b → isOpen F b ≡ true →
+      {adj : Adjacency} {most : ℕ} {b : List ℕ} {x : ℕ} {goal free : ℕ → Bool} →
+      Steers F adj most b x goal free → 1 ≤ length b → isOpen F b ≡ true →
       ((v : ℕ) → (goal v && adj x v) ≡ false) →
       ((u v : ℕ) → (free u && adj x u) ≡ true → (free v && adj x v) ≡ true → u ≡ v) →
       (v : ℕ) → (free v && adj x v) ≡ true → isOpen F (b ++ v ∷ []) ≡ true
@@ -103,10 +105,10 @@ module _ (n : ℕ) (adj : Adjacency) (s a : ℕ) where
     ring-next v = along-touches adj s (λ w. ltb s w && leb w n) (a ∷ r) v
 
     -- v opens the beginning as they tell, both ways
-    module _ (v : ℕ) where
+    module _ {d : ℕ} (v : ℕ) where
       ring-onward :
-          RingOpens n adj (s ∷ a ∷ r) a v →
-          Onward adj (lastAfter a r) (along adj a ringGoal r) (along adj a ringFree r) v
+          RingOpens n adj (s ∷ a ∷ r) a d v →
+          Onward adj (lastAfter a r) (along adj a ringGoal r) (along adj a ringFree r) d v
       ring-onward o =
           let range = and-both (ltb s v) (leb v n) (lt-ltb s v (o .above)) (le-leb v n (o .range)) in
           let fits = and-both (ltb s v && leb v n) (touchesOnlyLast adj (s ∷ a ∷ r) v) range (o .touches) in
@@ -117,8 +119,8 @@ module _ (n : ℕ) (adj : Adjacency) (s a : ℕ) where
           }
 
       onward-ring :
-          Onward adj (lastAfter a r) (along adj a ringGoal r) (along adj a ringFree r) v →
-          RingOpens n adj (s ∷ a ∷ r) a v
+          Onward adj (lastAfter a r) (along adj a ringGoal r) (along adj a ringFree r) d v →
+          RingOpens n adj (s ∷ a ∷ r) a d v
       onward-ring o =
           let fits = ring-next v ∙ o .touches in
           let (range, touches) = and-parts (ltb s v && leb v n) (touchesOnlyLast adj (s ∷ a ∷ r) v) fits in
@@ -133,16 +135,16 @@ module _ (n : ℕ) (adj : Adjacency) (s a : ℕ) where
             reached = walk-more adj (λ u e. ring-between u ∙ e) walk;
           }
 
--- from the first two atoms of a ring on
+-- from the first two atoms of a ring of at most k atoms on
 pub rings-steer :
-    (n : ℕ) (adj : Adjacency) → Irreflexive n adj → (s a : ℕ) →
-    Steers (rings n adj) adj (s ∷ a ∷ []) a
+    (n : ℕ) (adj : Adjacency) → Irreflexive n adj → (k s a : ℕ) →
+    Steers (upTo k (rings n adj)) adj k (s ∷ a ∷ []) a
     (λ b. ltb a b && leb b n && adj s b) (λ u. ltb s u && leb u n && not (adj s u))
-rings-steer n adj irr s a = record {
+rings-steer n adj irr k s a = record {
   members = λ r e v.
-      ring-member n adj (s ∷ a ∷ r) v (omega arith) e ∙ ends-along adj s a (λ w. ltb a w && leb w n) r v;
+      ring-member n adj k (s ∷ a ∷ r) v (omega arith) e ∙ ends-along adj s a (λ w. ltb a w && leb w n) r v;
   opens = λ r e v.
-      let (to, back) = ring-opens-long n adj irr (s ∷ a ∷ r) v (omega arith) e in
+      let (to, back) = ring-opens-long n adj irr k (s ∷ a ∷ r) v (omega arith) e in
       (λ f. ring-onward n adj s a r v (to f), λ o. back (onward-ring n adj s a r v o));
 }
 
@@ -190,23 +192,23 @@ module _ (n : ℕ) (adj : Adjacency) (s t : ℕ) where
     -- t is still ahead: a walk to it does not come back to s
     module _ (ahead : clear adj (s ∷ r) t ≡ true) where
       -- s is bonded to no free atom, nor to t: no walk goes on from it
-      not-first : {v : ℕ} → Walk adj (free n adj 0 (s ∷ r)) t v → v ≢ s
-      not-first (there {v} e) is-s = clash (adj s t) (rw is-s at e) (all-head (clear-facts adj (s ∷ r) t ahead))
-      not-first (through {v} {w} e may k) is-s =
+      not-first : {d v : ℕ} → Walk adj (free n adj 0 (s ∷ r)) t d v → v ≢ s
+      not-first (there {v = v} e) is-s = clash (adj s t) (rw is-s at e) (all-head (clear-facts adj (s ∷ r) t ahead))
+      not-first (through {v = v} {w = w} e may k) is-s =
           let (least, range, off) = free-facts adj n 0 (s ∷ r) w may in
           clash (adj s w) (rw is-s at e) (all-head off)
 
       walk-between :
-          {v : ℕ} → Walk adj (free n adj 0 (s ∷ r)) t v →
-          Walk adj (without adj (lastAfter s r) (along adj s pathFree r)) t v
+          {d v : ℕ} → Walk adj (free n adj 0 (s ∷ r)) t d v →
+          Walk adj (without adj (lastAfter s r) (along adj s pathFree r)) t d v
       walk-between (there e) = there e
-      walk-between (through {v} {w} e may k) = through e (free-between w (not-first k) may) (walk-between k)
+      walk-between (through {v = v} {w = w} e may k) = through e (free-between w (not-first k) may) (walk-between k)
 
     -- v opens the beginning as the sets tell, both ways
-    module _ (v : ℕ) where
+    module _ {d : ℕ} (v : ℕ) where
       path-onward :
-          PathOpens n adj t (s ∷ r) v →
-          Onward adj (lastAfter s r) (along adj s pathGoal r) (along adj s pathFree r) v
+          PathOpens n adj t (s ∷ r) d v →
+          Onward adj (lastAfter s r) (along adj s pathGoal r) (along adj s pathFree r) d v
       path-onward o =
           let differ : s ≢ v = o .other in
           let other = not-of (eqb v s) (ne-eqb v s (λ e. differ (sym e))) in
@@ -221,8 +223,8 @@ module _ (n : ℕ) (adj : Adjacency) (s t : ℕ) where
           }
 
       onward-path :
-          Onward adj (lastAfter s r) (along adj s pathGoal r) (along adj s pathFree r) v →
-          PathOpens n adj t (s ∷ r) v
+          Onward adj (lastAfter s r) (along adj s pathGoal r) (along adj s pathFree r) d v →
+          PathOpens n adj t (s ∷ r) d v
       onward-path o =
           let fits = along-touches adj s pathFree r v ∙ o .touches in
           let touch = touchesOnlyLast adj (s ∷ r) v in
@@ -239,14 +241,14 @@ module _ (n : ℕ) (adj : Adjacency) (s t : ℕ) where
             reached = rw (eqb-true b t is-t) at (walk-more adj between-free walk);
           }
 
--- from the first atom of a path on
+-- from the first atom of a path of at most k atoms on
 pub paths-steer :
-    (n : ℕ) (adj : Adjacency) → Irreflexive n adj → (s t : ℕ) →
-    Steers (paths n adj s t) adj (s ∷ []) s (λ b. eqb b t) (λ u. leb 1 u && leb u n && not (eqb u s))
-paths-steer n adj irr s t = record {
+    (n : ℕ) (adj : Adjacency) → Irreflexive n adj → (k s t : ℕ) →
+    Steers (upTo k (paths n adj s t)) adj k (s ∷ []) s (λ b. eqb b t) (λ u. leb 1 u && leb u n && not (eqb u s))
+paths-steer n adj irr k s t = record {
   members = λ r e v.
-      path-member n adj s t (s ∷ r) v (omega arith) e ∙ along-touches adj s (λ b. eqb b t) r v;
+      path-member n adj s t k (s ∷ r) v (omega arith) e ∙ along-touches adj s (λ b. eqb b t) r v;
   opens = λ r e v.
-      let (to, back) = path-opens n adj s t irr (s ∷ r) v (omega arith) e in
+      let (to, back) = path-opens n adj s t irr k (s ∷ r) v (omega arith) e in
       (λ f. path-onward n adj s t r v (to f), λ o. back (onward-path n adj s t r v o));
 }

@@ -1,13 +1,13 @@
 -- The tests of `Reach` as plain facts, by recursion on the beginning; how a beginning is joined to a chordless list.
 -- No atom occurs twice in the joined list: an atom of a chordless list is told by the atom before it or after it.
-use Prim.Native.Nat.{ℕ, zero, suc, _≤_, _<_}
+use Prim.Native.Nat.{ℕ, zero, suc, _+_, _≤_, _<_}
 use mathlib.Core.Path.{_≡_, sym, ap, _∙_}
 use mathlib.Core.Bool.{Bool, true, false, _&&_, _||_, not, Bool·beq}
 use mathlib.Core.List.{List, [], _∷_, _++_, append-assoc}
 use mathlib.Core.Logic.{_≢_}
 use native.Mathlib.Omega.{arith}
 use native.Mathlib.Nat.{not-suc-le-zero, le-of-suc-le-suc}
-use lib.ListN.{length}
+use lib.ListN.{length, length-append}
 use lib.Dec.{leb, ltb, eqb, eqb·suc-suc, eqb·suc-zero}
 use borrow.Author.Tests.{ne-eqb, leb-true, le-leb, ltb-true, lt-ltb, not-true}
 use Rattle.graph.specs.Every.{allBelow}
@@ -243,6 +243,11 @@ snoc-after p c r =
 -- p, v, then q and b, in the two ways that they are bracketed
 pub regroup : (p : List ℕ) (v : ℕ) (q : List ℕ) (b : ℕ) → p ++ v ∷ [] ++ (q ++ b ∷ []) ≡ p ++ v ∷ q ++ b ∷ []
 regroup p v q b = simp append-assoc
+
+-- its atoms, counted
+pub through-length :
+    (p : List ℕ) (v : ℕ) (q : List ℕ) (b : ℕ) → length (p ++ v ∷ q ++ b ∷ []) ≡ suc (suc (length p + length q))
+through-length p v q b = omega (arith, length-append (p ++ v ∷ q) (b ∷ []), length-append p (v ∷ q))
 
 -- what goes on p and v has a last atom
 pub snoc-through :

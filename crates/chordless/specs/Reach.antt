@@ -15,22 +15,20 @@ use Rattle.graph.specs.Chordless.{Adjacency, atomAt}
 abbrev pub Irreflexive : ℕ → Adjacency → Type 0
 Irreflexive n adj = (u : ℕ) → 1 ≤ u → u ≤ n → adj u u ≡ false
 
--- From v, b is reached through atoms that `allowed` admits:
+-- From v, b is reached in at most d steps through atoms that `allowed` admits:
 -- every atom strictly between v and b is allowed, v and b need not be
-pub data Walk (adj : Adjacency) (allowed : ℕ → Bool) (b : ℕ) : ℕ → Type 0 where
-  there : {v : ℕ} → adj v b ≡ true → Walk adj allowed b v
-  through : {v w : ℕ} → adj v w ≡ true → allowed w ≡ true → Walk adj allowed b w → Walk adj allowed b v
+pub data Walk (adj : Adjacency) (allowed : ℕ → Bool) (b : ℕ) : ℕ → ℕ → Type 0 where
+  there : {d v : ℕ} → adj v b ≡ true → Walk adj allowed b (suc d) v
+  through : {d v w : ℕ} → adj v w ≡ true → allowed w ≡ true → Walk adj allowed b d w → Walk adj allowed b (suc d) v
 
--- from v a target is reached through allowed atoms
-abbrev pub Reaches : Adjacency → (ℕ → Bool) → (ℕ → Bool) → ℕ → Type 0
-Reaches adj allowed target v = (b : ℕ) × (target b ≡ true) × Walk adj allowed b v
+-- from v a target is reached in at most d steps through allowed atoms
+abbrev pub Reaches : Adjacency → (ℕ → Bool) → (ℕ → Bool) → ℕ → ℕ → Type 0
+Reaches adj allowed target d v = (b : ℕ) × (target b ≡ true) × Walk adj allowed b d v
 
--- Of the atoms above low, at most n, S holds exactly for those from which a target is reached:
+-- Of the atoms above low, at most n, S holds exactly for those from which a target is reached in at most d steps:
 -- one sweep finds S for every candidate
-abbrev pub Sweeps : ℕ → ℕ → Adjacency → (ℕ → Bool) → (ℕ → Bool) → (ℕ → Bool) → Type 0
-Sweeps n low adj allowed target S =
-    (v : ℕ) → low < v → v ≤ n →
-    (S v ≡ true) ↔ ((b : ℕ) × (target b ≡ true) × Walk adj allowed b v)
+abbrev pub Sweeps : ℕ → ℕ → Adjacency → (ℕ → Bool) → (ℕ → Bool) → ℕ → (ℕ → Bool) → Type 0
+Sweeps n low adj allowed target d S = (v : ℕ) → low < v → v ≤ n → (S v ≡ true) ↔ Reaches adj allowed target d v
 
 -- u is bonded to no atom of p
 unfoldable pub clear : Adjacency → List ℕ → ℕ → Bool
@@ -62,15 +60,16 @@ unfoldable pub closing : ℕ → Adjacency → List ℕ → ℕ → ℕ → Bool
 closing n adj p a b = ltb a b && leb b n && touchesOnlyFirst adj p b
 
 -- v opens the beginning p of a ring, whose second atom is a (for one atom alone, a is v): v is above the first atom,
--- is bonded to the last one and to no other, and some closing atom is reached from v through free atoms.
--- Which atoms are free or closing does not depend on v when p has two atoms or more.
-pub record RingOpens (n : ℕ) (adj : Adjacency) (p : List ℕ) (a v : ℕ) : Type 0 where
+-- is bonded to the last one and to no other, and some closing atom is reached from v in at most d steps through free
+-- atoms, so that d more atoms suffice. Which atoms are free or closing does not depend on v when p has two atoms or
+-- more.
+pub record RingOpens (n : ℕ) (adj : Adjacency) (p : List ℕ) (a d v : ℕ) : Type 0 where
   pub above : atomAt p 0 < v
   pub range : v ≤ n
   pub touches : touchesOnlyLast adj p v ≡ true
   pub last : ℕ
   pub closes : closing n adj p a last ≡ true
-  pub reached : Walk adj (free n adj (atomAt p 0) p) last v
+  pub reached : Walk adj (free n adj (atomAt p 0) p) last d v
 
 -- v makes a ring of the beginning p, of two atoms or more
 pub record RingCloses (n : ℕ) (adj : Adjacency) (p : List ℕ) (v : ℕ) : Type 0 where
@@ -79,12 +78,12 @@ pub record RingCloses (n : ℕ) (adj : Adjacency) (p : List ℕ) (v : ℕ) : Typ
   pub touches : touchesOnlyEnds adj p v ≡ true
 
 -- v opens the beginning p of a path to t: v is not the first atom, is bonded to the last one and to no other,
--- t is bonded to none, and t is reached from v through free atoms.
+-- t is bonded to none, and t is reached from v in at most d steps through free atoms.
 -- Neither the free atoms nor the test of t depend on v.
-pub record PathOpens (n : ℕ) (adj : Adjacency) (t : ℕ) (p : List ℕ) (v : ℕ) : Type 0 where
+pub record PathOpens (n : ℕ) (adj : Adjacency) (t : ℕ) (p : List ℕ) (d v : ℕ) : Type 0 where
   pub least : 1 ≤ v
   pub range : v ≤ n
   pub other : atomAt p 0 ≢ v
   pub touches : touchesOnlyLast adj p v ≡ true
   pub ahead : clear adj p t ≡ true
-  pub reached : Walk adj (free n adj 0 p) t v
+  pub reached : Walk adj (free n adj 0 p) t d v

@@ -5,7 +5,7 @@ use native.Mathlib.Omega.{arith}
 use native.Mathlib.Numerals.{add-one}
 use native.Mathlib.Decide.{decLt}
 use mathlib.Core.Path.{_≡_, refl, sym, ap, subst, _∙_}
-use mathlib.Core.Bool.{Bool, true, false, _&&_, _||_}
+use mathlib.Core.Bool.{Bool, true, false}
 use mathlib.Core.List.{List, [], _∷_, _++_, append-nil, reverse, reverse-cons}
 use lib.ListN.{length, getD, take, drop, set, length-set}
 use lib.Seq.{take-set-le, take-suc-set, getD-set-same, getD-set-other}
@@ -13,7 +13,7 @@ use lib.Dec.{leb}
 use borrow.Author.Tests.{le-leb}
 use borrow.Rule.Slice.PartMut.{putMid}
 use mathlib.Core.Logic.{_⊎_, inl, inr}
-use Rattle.graph.proofs.Below.{clash, false-of, and-parts, and-both}
+use Rattle.graph.proofs.Below.{clash, false-of, and-both}
 use Rattle.enumeration.specs.Words.{Family, isOpen}
 use Rattle.enumeration.specs.Machine.{State, placed, unwound}
 use Rattle.enumeration.specs.Run.{limit, recordOf}
@@ -25,21 +25,20 @@ use Rattle.enumeration.proofs.Order.{range-at}
 use Rattle.enumeration.proofs.Open.{range-on, stack-short, stack-top}
 use Rattle.atomset.specs.Set.{has, linkedBy, Lowest, LowestLeft}
 use Rattle.openness.specs.declared.Aim.{Aim}
-use Rattle.openness.specs.Plan.{familyBy, firstLength}
+use Rattle.openness.specs.Plan.{familyBy, mostAtoms, firstLength}
 use Rattle.search.proofs.Readings.{open-short}
 use Rattle.openness.proofs.Arrays.{taken-length, open-atoms}
 use Rattle.openness.proofs.Plans.{family-by-atoms}
 use Rattle.trial.specs.declared.Spot.{Spot}
-use Rattle.trial.specs.Parts.{stackOf, Held, HeldWithRoom}
-use Rattle.trial.proofs.Arrays.{stack-length, stack-back, stack-push, stack-set, held-push, Unwinding, unwinding-pop}
+use Rattle.trial.specs.Parts.{stackOf, HeldWithRoom}
+use Rattle.trial.proofs.Arrays.{stack-length, stack-back, stack-push, held-push, Unwinding, unwinding-pop}
 use Rattle.trial.proofs.Bytes.{part-back, record-length}
-use Rattle.dive.specs.declared.Dived.{Dived}
 use Rattle.dive.specs.Levels.{LevelRoom, aimIn, restIn, keptRest, goesOnBy, LevelAdded, Stage}
 use Rattle.dive.specs.Parts.{Rising, listedAt, extendedAt, droppedAt, Bounds, stateBefore, Added, Descent, Listed, Left}
 use Rattle.dive.proofs.Levels.{rest-kept-other, aim-past-rest, length-kept-rest}
 use Rattle.dive.proofs.Stages.{stage-same, stage-lowered, stage-added}
 use Rattle.dive.proofs.Stages.{lowest-from, lowest-goes-on, lowest-first, lowest-member, lowest-opens}
-use Rattle.dive.proofs.Listings.{listed-none, listed-more, listed-length, listed-within}
+use Rattle.dive.proofs.Listings.{listed-none, listed-more, listed-within}
 
 module _ {n : ℕ} {table : List ℕ} {kind s t most : ℕ} {from : Spot} {start : ℕ} {prefix₀ levels₀ out₀ : List ℕ}
     (d : Descent n table kind s t most from start prefix₀ levels₀ out₀) where
@@ -50,7 +49,7 @@ module _ {n : ℕ} {table : List ℕ} {kind s t most : ℕ} {from : Spot} {start
   atoms-are = family-by-atoms n table kind s t
 
   abbrev StageHere : List ℕ → List ℕ → ℕ → ℕ → Type 0
-  StageHere prefix levels i c = Stage F (linkedBy table) (firstLength kind) prefix levels i c
+  StageHere prefix levels i c = Stage F (linkedBy table) (mostAtoms kind s) (firstLength kind) prefix levels i c
 
   pub record Diving (prefix levels out : List ℕ) (at : Spot) (used : ℕ) : Type 0 where
     pub bytes : List ℕ
@@ -378,7 +377,8 @@ module _ {n : ℕ} {table : List ℕ} {kind s t most : ℕ} {from : Spot} {start
       -- it is added
       pub diving-extends :
           {levels″ : List ℕ} → has (aimIn levels (at .len) .goal) v ≡ false →
-          LevelAdded F (linkedBy table) (firstLength kind) v (at .len + 1) (set prefix (at .len) v) levels′ levels″ →
+          LevelAdded F (linkedBy table) (mostAtoms kind s) (firstLength kind) v (at .len + 1) (set prefix (at .len) v)
+          levels′ levels″ →
           Diving (set prefix (at .len) v) levels″ out (extendedAt at v) used
       diving-extends {levels″} not-closing added = record {
         bytes = k .bytes ++ [];
@@ -509,7 +509,7 @@ module _ {n : ℕ} {table : List ℕ} {kind s t most : ℕ} {from : Spot} {start
 
       pub extends :
           {planned : List ℕ} {at′ : Spot} → has (aimIn levels (at .len) .goal) v ≡ false →
-          LevelAdded (familyBy n table kind s t) (linkedBy table) (firstLength kind) v (at .len + 1)
+          LevelAdded (familyBy n table kind s t) (linkedBy table) (mostAtoms kind s) (firstLength kind) v (at .len + 1)
           (set prefix (at .len) v) kept planned → at′ ≡ extendedAt at v →
           Diving d (set prefix (at .len) v) planned out at′ used
       extends not-closing p e =

@@ -15,11 +15,11 @@ use Rattle.atomset.specs.Set.{has, linkedBy}
 use Rattle.search.specs.declared.Search.{Search}
 use Rattle.openness.specs.declared.Aim.{Aim}
 use Rattle.openness.specs.declared.FirstPlan.{FirstPlan}
-use Rattle.openness.specs.Plan.{familyBy, firstLength, Everywhere, Steered}
+use Rattle.openness.specs.Plan.{familyBy, mostAtoms, stepsLeft, firstLength, Everywhere, Steered}
 use Rattle.search.proofs.Readings.{open-short}
 use Rattle.openness.proofs.Arrays.{taken-length, one-taken, open-atoms}
 use Rattle.openness.proofs.Plans.{family-by-lawful, family-by-atoms, first-few}
-use Rattle.openness.proofs.Aims.{place-atom}
+use Rattle.openness.proofs.Aims.{place-atom, begun-steps}
 use Rattle.trial.specs.declared.Spot.{Spot}
 use Rattle.trial.specs.declared.Place.{Place}
 use Rattle.trial.specs.Parts.{stackOf, stateAt, Unwound}
@@ -68,21 +68,23 @@ module _ {n : ℕ} {table : List ℕ} {q : Search} {at : Spot} {first : FirstPla
 
   -- the sets steer it: they are kept for its length, and it is planned
   pub starts-steered :
-      {aim : Aim} {kept planned : List ℕ} {x : ℕ} → firstLength (q .kind) ≤ at .len →
-      Steered family (linkedBy table) (take (at .len) prefix) (getD prefix (at .len - 1) 0) aim →
+      {aim : Aim} {kept planned : List ℕ} {x steps : ℕ} → firstLength (q .kind) ≤ at .len →
+      Steered family (linkedBy table) (mostAtoms (q .kind) (q .s)) (take (at .len) prefix)
+      (getD prefix (at .len - 1) 0) aim →
       kept ≡ keptAim levels (at .len) aim → x ≡ getD prefix (at .len - 1) 0 →
-      LevelPlanned (linkedBy table) x (at .len) kept planned →
+      steps ≡ stepsLeft (q .kind) (q .s) (at .len) → LevelPlanned (linkedBy table) x (at .len) steps kept planned →
       FirstStage n table (q .kind) (q .s) (q .t) prefix planned (at .len)
-  starts-steered {aim} {kept} {planned} long steered kept-is last-is given =
-      let plan : LevelPlanned (linkedBy table) (getD prefix (at .len - 1) 0) (at .len) (keptAim levels (at .len) aim)
-      planned = rw (kept-is, last-is) at given in
+  starts-steered {aim} {kept} {planned} {steps = steps} long steered kept-is last-is left given =
+      let plan : LevelPlanned (linkedBy table) (getD prefix (at .len - 1) 0) (at .len) steps
+      (keptAim levels (at .len) aim) planned = rw (kept-is, last-is) at given in
       let sets = kept-steers levels (at .len) aim (omega (arith, longer-room)) steered in
       record {
         lawful = steered .lawful;
         isOpened = steered .isOpened;
         long = λ h. planned-led plan sets;
         short = λ h. absurd (omega arith);
-        to-try = λ v some. plan .to-try family (take (at .len) prefix) sets v ∙ rw (le-leb 1 v some);
+        to-try = λ v some.
+            plan .to-try family _ (take (at .len) prefix) sets (begun-steps (b .begun) left) v ∙ rw (le-leb 1 v some);
       }
 
   -- it is too short for them: the first plan tells of it

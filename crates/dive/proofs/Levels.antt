@@ -1,6 +1,6 @@
 -- The sets kept by length: what is kept for a length is found again, and the other lengths are as they were.
 -- The words of length i have the places from 6 × i to 6 × i + 5, so those of two lengths are apart.
-use Prim.Native.Nat.{ℕ, suc, _+_, _*_, _≤_, _<_}
+use Prim.Native.Nat.{ℕ, suc, _+_, _-_, _*_, _≤_}
 use native.Mathlib.Numerals.{add-one}
 use native.Mathlib.Omega.{arith}
 use native.Mathlib.Decide.{decLe}
@@ -163,15 +163,17 @@ module _ (levels : List ℕ) (i : ℕ) (aim : Aim) where
 -- ---- a beginning is planned
 
 -- what is found for a beginning with the last atom x: the sets handed on, the plan, the atoms to be tried
-pub record Found (adj : Adjacency) (x : ℕ) (aim next : Aim) (plan : Plan) (rest : List ℕ) : Type 0 where
+pub record Found (adj : Adjacency) (x steps : ℕ) (aim next : Aim) (plan : Plan) (rest : List ℕ) : Type 0 where
   pub handing : HandedOn adj x aim next
-  pub telling : (F : Family) (p : List ℕ) → Steered F adj p x aim → Everywhere F p plan
+  pub telling :
+      (F : Family) (longest : ℕ) (p : List ℕ) → Steered F adj longest p x aim → steps ≡ longest - suc (length p) →
+      Everywhere F p plan
   pub either-set : (v : ℕ) → has rest v ≡ (has (plan .members) v || has (plan .opens) v)
 
-module _ {adj : Adjacency} {x : ℕ} {next : Aim} {plan : Plan} {rest : List ℕ} where
+module _ {adj : Adjacency} {x steps : ℕ} {next : Aim} {plan : Plan} {rest : List ℕ} where
   kept-planned :
-      (levels : List ℕ) (len : ℕ) → LevelRoom (suc len) levels → Found adj x (aimIn levels len) next plan rest →
-      LevelPlanned adj x len levels (keptRest (keptAim levels (suc len) next) len rest)
+      (levels : List ℕ) (len : ℕ) → LevelRoom (suc len) levels → Found adj x steps (aimIn levels len) next plan rest →
+      LevelPlanned adj x len steps levels (keptRest (keptAim levels (suc len) next) len rest)
   kept-planned levels len room found =
       let longer = keptAim levels (suc len) next in
       let room′ : LevelRoom len longer = omega (arith, length-kept-aim levels (suc len) next) in
@@ -185,8 +187,8 @@ module _ {adj : Adjacency} {x : ℕ} {next : Aim} {plan : Plan} {rest : List ℕ
               ap (λ (a : Aim). has (a .free) u) (aim-past-rest longer len rest (suc len))
               ∙ free-kept-same levels (suc len) next room u ∙ found .handing .free-left u;
         };
-        to-try = λ F p steered v.
-            let tells = found .telling F p steered v in
+        to-try = λ F longest p steered left v.
+            let tells = found .telling F longest p steered left v in
             rest-kept-same longer len rest room′ v ∙ found .either-set v
             ∙ ap₂ _||_ (tells .members) (tells .opens);
         aims-kept = λ i l.
@@ -197,17 +199,17 @@ module _ {adj : Adjacency} {x : ℕ} {next : Aim} {plan : Plan} {rest : List ℕ
 
   pub level-planned :
       {levels longer after : List ℕ} {len : ℕ} {aim : Aim} → LevelRoom (suc len) levels →
-      aim ≡ aimIn levels len → Found adj x aim next plan rest → longer ≡ keptAim levels (len + 1) next →
-      after ≡ keptRest longer len rest → LevelPlanned adj x len levels after
+      aim ≡ aimIn levels len → Found adj x steps aim next plan rest → longer ≡ keptAim levels (len + 1) next →
+      after ≡ keptRest longer len rest → LevelPlanned adj x len steps levels after
   level-planned {levels} {longer} {after} {len} {aim} room aim-is found kept kept-rest =
       rw (kept-rest, kept, add-one len) (kept-planned levels len room (rw aim-is at found))
 
 -- ---- the sets steer what they are kept for
 
-module _ {F : Family} {adj : Adjacency} {p : List ℕ} {x : ℕ} where
+module _ {F : Family} {adj : Adjacency} {longest : ℕ} {p : List ℕ} {x : ℕ} where
   pub kept-steers :
-      (levels : List ℕ) (i : ℕ) (aim : Aim) → LevelRoom i levels → Steered F adj p x aim →
-      Steered F adj p x (aimIn (keptAim levels i aim) i)
+      (levels : List ℕ) (i : ℕ) (aim : Aim) → LevelRoom i levels → Steered F adj longest p x aim →
+      Steered F adj longest p x (aimIn (keptAim levels i aim) i)
   kept-steers levels i aim room k = record {
     lawful = k .lawful;
     some = k .some;
@@ -219,22 +221,30 @@ module _ {F : Family} {adj : Adjacency} {p : List ℕ} {x : ℕ} where
 
   -- they are as they were after the beginning is planned
   pub planned-led :
-      {len : ℕ} {before after : List ℕ} → LevelPlanned adj x len before after → Steered F adj p x (aimIn before len) →
-      Led F adj p x (aimIn after len) (aimIn after (suc len))
+      {len steps : ℕ} {before after : List ℕ} → LevelPlanned adj x len steps before after →
+      Steered F adj longest p x (aimIn before len) → Led F adj longest p x (aimIn after len) (aimIn after (suc len))
   planned-led {len} plan k =
       let still = plan .aims-kept len (omega arith) in
       record { steered = rw still k; handed = rw still (plan .handed) }
 
+-- in the array, by the length and the last atom
+pub steered-at :
+    {F : Family} {adj : Adjacency} {longest : ℕ} (prefix : List ℕ) {x len k : ℕ} {aim : Aim} →
+    x ≡ getD prefix (len - 1) 0 → len ≡ k → Steered F adj longest (take k prefix) (getD prefix (k - 1) 0) aim →
+    Steered F adj longest (take len prefix) x aim
+steered-at prefix last-is same steered = rw (last-is, same) steered
+
 -- ---- a beginning that has got its last atom
 
-module _ {F : Family} {adj : Adjacency} {first x len : ℕ} {prefix levels after : List ℕ} where
+module _ {F : Family} {adj : Adjacency} {longest first x len steps : ℕ} {prefix levels after : List ℕ}
+    (left : steps ≡ longest - suc (length (take len prefix))) where
   -- the shortest that the sets steer: they are made and kept
   pub added-first :
       (aim : Aim) {kept : List ℕ} → LevelRoom len levels → len ≡ first →
-      Steered F adj (take len prefix) x aim → kept ≡ keptAim levels len aim → LevelPlanned adj x len kept after →
-      LevelAdded F adj first x len prefix levels after
+      Steered F adj longest (take len prefix) x aim → kept ≡ keptAim levels len aim →
+      LevelPlanned adj x len steps kept after → LevelAdded F adj longest first x len prefix levels after
   added-first aim {kept} room same steered kept-is planned =
-      let plan : LevelPlanned adj x len (keptAim levels len aim) after = rw kept-is at planned in
+      let plan : LevelPlanned adj x len steps (keptAim levels len aim) after = rw kept-is at planned in
       let sets = kept-steers levels len aim room steered in
       record {
         size = plan .size ∙ length-kept-aim levels len aim;
@@ -242,18 +252,18 @@ module _ {F : Family} {adj : Adjacency} {first x len : ℕ} {prefix levels after
         aim-kept = λ l. absurd (omega arith);
         rests-kept = λ i l. plan .rests-kept i (omega arith) ∙ rest-past-aim levels len aim i;
         led = λ before. planned-led plan sets;
-        to-try = λ before. plan .to-try F (take len prefix) sets;
+        to-try = λ before. plan .to-try F longest (take len prefix) sets left;
       }
 
   -- a longer one: they were handed on
   pub added-later :
-      first ≤ len → (len ≡ first → ⊥) → LevelPlanned adj x len levels after →
-      LevelAdded F adj first x len prefix levels after
+      first ≤ len → (len ≡ first → ⊥) → LevelPlanned adj x len steps levels after →
+      LevelAdded F adj longest first x len prefix levels after
   added-later long other plan = record {
     size = plan .size;
     aims-kept = λ i l. plan .aims-kept i (omega arith);
     aim-kept = λ l. plan .aims-kept len (omega arith);
     rests-kept = λ i l. plan .rests-kept i (omega arith);
     led = λ before. planned-led plan (before (omega arith));
-    to-try = λ before. plan .to-try F (take len prefix) (before (omega arith));
+    to-try = λ before. plan .to-try F longest (take len prefix) (before (omega arith)) left;
   }

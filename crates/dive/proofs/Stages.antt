@@ -4,33 +4,32 @@ use Prim.Native.Nat.{ℕ, suc, _+_, _-_, _≤_, _<_}
 use native.Mathlib.Omega.{arith}
 use native.Mathlib.Numerals.{add-one}
 use native.Mathlib.Decide.{decLe}
-use mathlib.Core.Path.{_≡_, refl, sym, ap, _∙_}
-use mathlib.Core.Bool.{Bool, true, false, _&&_, _||_, not}
+use mathlib.Core.Path.{_≡_, sym, ap, _∙_}
+use mathlib.Core.Bool.{true, false, _&&_, not}
 use mathlib.Core.List.{List, [], _∷_, _++_}
 use mathlib.Core.Logic.{_⊎_, inl, inr}
-use lib.ListN.{length, getD, take, set, length-set}
-use lib.Seq.{take-suc-set, take-set-le, getD-set-same, getD-set-other, length-take-le}
+use lib.ListN.{length, getD, take, set}
+use lib.Seq.{take-suc-set, getD-set-same}
 use lib.Dec.{leb, eqb}
 use borrow.Author.Tests.{le-leb, leb-true, ne-eqb, eqb-false, not-true}
 use Rattle.graph.specs.Chordless.{Adjacency}
-use Rattle.graph.proofs.Below.{clash, false-of, either, and-parts, and-both, same-test, not-of}
+use Rattle.graph.proofs.Below.{clash, false-of, and-parts, and-both, same-test, not-of}
 use Rattle.enumeration.specs.Words.{Family, isOpen}
-use Rattle.enumeration.proofs.Basics.{or-either, or-left, or-right}
-use Rattle.chordless.specs.Steers.{Onward}
+use Rattle.enumeration.proofs.Basics.{or-either}
 use Rattle.chordless.proofs.Steers.{steers-more, steers-same, steers-member, steers-open}
 use Rattle.atomset.specs.Set.{has, Lowest, LowestLeft}
 use Rattle.openness.specs.declared.Aim.{Aim}
 use Rattle.openness.specs.Plan.{Steered}
 use Rattle.dive.specs.Levels.{LevelRoom, aimIn, restIn, keptRest, goesOnBy, Led, LevelAdded, Stage}
-use Rattle.dive.proofs.Levels.{rest-kept-same, rest-kept-other, aim-past-rest}
+use Rattle.dive.proofs.Levels.{rest-kept-same, aim-past-rest}
 
-module _ {F : Family} {adj : Adjacency} {first : ℕ} {prefix levels : List ℕ} {i c : ℕ}
-    (s : Stage F adj first prefix levels i c) where
+module _ {F : Family} {adj : Adjacency} {longest first : ℕ} {prefix levels : List ℕ} {i c : ℕ}
+    (s : Stage F adj longest first prefix levels i c) where
   -- an array and kept sets that are the same there
   pub stage-same :
       {prefix′ levels′ : List ℕ} → take i prefix′ ≡ take i prefix → getD prefix′ (i - 1) 0 ≡ getD prefix (i - 1) 0 →
       aimIn levels′ i ≡ aimIn levels i → (first ≤ i → aimIn levels′ (suc i) ≡ aimIn levels (suc i)) →
-      restIn levels′ i ≡ restIn levels i → Stage F adj first prefix′ levels′ i c
+      restIn levels′ i ≡ restIn levels i → Stage F adj longest first prefix′ levels′ i c
   stage-same p x a n r = record {
     lawful = s .lawful;
     isOpened = rw p (s .isOpened);
@@ -68,7 +67,7 @@ module _ {F : Family} {adj : Adjacency} {first : ℕ} {prefix levels : List ℕ}
     lowest-member = go (decLe first i)
       where
         -- where the sets steer, an atom that opens and may close a member is bonded to the last one, so it makes one
-        steered-member : Led F adj here last (aimIn levels i) (aimIn levels (suc i)) →
+        steered-member : Led F adj longest here last (aimIn levels i) (aimIn levels (suc i)) →
             F .member (here ++ v ∷ []) ≡ has (aimIn levels i .goal) v
         steered-member led =
             same-test (F .member (here ++ v ∷ [])) (has (aimIn levels i .goal) v) to
@@ -86,8 +85,7 @@ module _ {F : Family} {adj : Adjacency} {first : ℕ} {prefix levels : List ℕ}
                 F .member (here ++ v ∷ []) ≡ true
             split g (inl m) = m
             split g (inr o) =
-                let onward : Onward adj last (has (aimIn levels i .goal)) (has (aimIn levels i .free)) v =
-                steers-open (led .steered .steers) (s .isOpened) v .0 o in
+                let onward = steers-open (led .steered .steers) (s .isOpened) v .0 o in
                 let bonded = and-parts (has (aimIn levels i .free) v) (adj last v) (onward .touches) .1 in
                 told ∙ and-both (has (aimIn levels i .goal) v) (adj last v) g bonded
 
@@ -107,7 +105,7 @@ module _ {F : Family} {adj : Adjacency} {first : ℕ} {prefix levels : List ℕ}
     -- it is tried
     pub stage-lowered :
         {others : List ℕ} → LevelRoom i levels → LowestLeft (restIn levels i) others →
-        Stage F adj first prefix (keptRest levels i others) i (v + 1)
+        Stage F adj longest first prefix (keptRest levels i others) i (v + 1)
     stage-lowered {others} room left = record {
       lawful = s .lawful;
       isOpened = s .isOpened;
@@ -141,11 +139,12 @@ module _ {F : Family} {adj : Adjacency} {first : ℕ} {prefix levels : List ℕ}
             (not-of (eqb u v) (ne-eqb u v (λ q. omega arith)))
 
 -- an atom v that opens the beginning is added, and the longer one is planned
-module _ {F : Family} {adj : Adjacency} {first : ℕ} {prefix levels : List ℕ} {i c : ℕ} where
+module _ {F : Family} {adj : Adjacency} {longest first : ℕ} {prefix levels : List ℕ} {i c : ℕ} where
   pub stage-added :
-      {v : ℕ} {levels′ : List ℕ} → Stage F adj first prefix levels i c → i < length prefix → first ≤ suc i →
-      isOpen F (take i prefix ++ v ∷ []) ≡ true → LevelAdded F adj first v (i + 1) (set prefix i v) levels levels′ →
-      Stage F adj first (set prefix i v) levels′ (i + 1) 1
+      {v : ℕ} {levels′ : List ℕ} → Stage F adj longest first prefix levels i c → i < length prefix → first ≤ suc i →
+      isOpen F (take i prefix ++ v ∷ []) ≡ true →
+      LevelAdded F adj longest first v (i + 1) (set prefix i v) levels levels′ →
+      Stage F adj longest first (set prefix i v) levels′ (i + 1) 1
   stage-added {v} {levels′} s room near o added = record {
     lawful = s .lawful;
     isOpened = rw word-is o;
@@ -161,7 +160,7 @@ module _ {F : Family} {adj : Adjacency} {first : ℕ} {prefix levels : List ℕ}
       last-is = let one : i + 1 - 1 ≡ i = omega arith in rw one (getD-set-same prefix i v 0 room)
 
       -- the sets that were handed on
-      before : first < i + 1 → Steered F adj (take (i + 1) (set prefix i v)) v (aimIn levels (i + 1))
+      before : first < i + 1 → Steered F adj longest (take (i + 1) (set prefix i v)) v (aimIn levels (i + 1))
       before h =
           let led = s .long (omega arith) in
           rw (word-is, add-one i)

@@ -40,42 +40,44 @@ keptRest levels i rest = set (set levels (6 * i + 2) (getD rest 0 0)) (6 * i + 5
 abbrev pub goesOnBy : Family → List ℕ → ℕ → Bool
 goesOnBy F p v = F .member (p ++ v ∷ []) || isOpen F (p ++ v ∷ [])
 
--- the beginning of `len` atoms with the last atom x is planned: the atoms to be tried are kept, and the sets handed on;
--- the other lengths are as they were
-pub record LevelPlanned (adj : Adjacency) (x len : ℕ) (before after : List ℕ) : Type 0 where
+-- the beginning of `len` atoms with the last atom x, past which so many steps are left, is planned: the atoms to be
+-- tried are kept, and the sets handed on; the other lengths are as they were
+pub record LevelPlanned (adj : Adjacency) (x len steps : ℕ) (before after : List ℕ) : Type 0 where
   pub size : length after ≡ length before
   pub handed : HandedOn adj x (aimIn before len) (aimIn after (suc len))
   pub to-try :
-      (F : Family) (p : List ℕ) → Steered F adj p x (aimIn before len) → (v : ℕ) →
-      has (restIn after len) v ≡ goesOnBy F p v
+      (F : Family) (longest : ℕ) (p : List ℕ) → Steered F adj longest p x (aimIn before len) →
+      steps ≡ longest - suc (length p) → (v : ℕ) → has (restIn after len) v ≡ goesOnBy F p v
   pub aims-kept : (i : ℕ) → i ≤ len → aimIn after i ≡ aimIn before i
   pub rests-kept : (i : ℕ) → suc i ≤ len → restIn after i ≡ restIn before i
 
--- the sets steer the open beginning p, with the last atom x, and are handed on
-pub record Led (F : Family) (adj : Adjacency) (p : List ℕ) (x : ℕ) (aim next : Aim) : Type 0 where
-  pub steered : Steered F adj p x aim
+-- the sets steer the open beginning p, with the last atom x, to members of at most `longest` atoms, and are handed on
+pub record Led (F : Family) (adj : Adjacency) (longest : ℕ) (p : List ℕ) (x : ℕ) (aim next : Aim) : Type 0 where
+  pub steered : Steered F adj longest p x aim
   pub handed : HandedOn adj x aim next
 
 -- the beginning of `len` atoms in the array, which has got its last atom x, is planned, in a search whose sets steer
 -- the beginnings of `first` atoms or more: those of a longer one were handed on, those of one of `first` atoms are made
-pub record LevelAdded (F : Family) (adj : Adjacency) (first x len : ℕ) (prefix before after : List ℕ) : Type 0 where
-  pub size : length after ≡ length before
-  pub aims-kept : (i : ℕ) → i < len → aimIn after i ≡ aimIn before i
-  pub aim-kept : first < len → aimIn after len ≡ aimIn before len
-  pub rests-kept : (i : ℕ) → i < len → restIn after i ≡ restIn before i
-  pub led :
-      (first < len → Steered F adj (take len prefix) x (aimIn before len)) →
-      Led F adj (take len prefix) x (aimIn after len) (aimIn after (suc len))
-  pub to-try :
-      (first < len → Steered F adj (take len prefix) x (aimIn before len)) → (v : ℕ) →
-      has (restIn after len) v ≡ goesOnBy F (take len prefix) v
+pub record LevelAdded (F : Family) (adj : Adjacency) (longest first x len : ℕ) (prefix before after : List ℕ) : Type 0
+  where
+    pub size : length after ≡ length before
+    pub aims-kept : (i : ℕ) → i < len → aimIn after i ≡ aimIn before i
+    pub aim-kept : first < len → aimIn after len ≡ aimIn before len
+    pub rests-kept : (i : ℕ) → i < len → restIn after i ≡ restIn before i
+    pub led :
+        (first < len → Steered F adj longest (take len prefix) x (aimIn before len)) →
+        Led F adj longest (take len prefix) x (aimIn after len) (aimIn after (suc len))
+    pub to-try :
+        (first < len → Steered F adj longest (take len prefix) x (aimIn before len)) → (v : ℕ) →
+        has (restIn after len) v ≡ goesOnBy F (take len prefix) v
 
 -- an open beginning of i atoms on the way down, whose next atom is c, and what is kept for its length: from `first`
 -- atoms on the sets steer it; of a shorter one the atoms that make a member are kept as those that may close one. The
 -- atoms still to be tried are those from the next one on that make a member or open it
-pub record Stage (F : Family) (adj : Adjacency) (first : ℕ) (prefix levels : List ℕ) (i c : ℕ) : Type 0 where
+pub record Stage (F : Family) (adj : Adjacency) (longest first : ℕ) (prefix levels : List ℕ) (i c : ℕ) : Type 0 where
   pub lawful : Lawful F
   pub isOpened : isOpen F (take i prefix) ≡ true
-  pub long : first ≤ i → Led F adj (take i prefix) (getD prefix (i - 1) 0) (aimIn levels i) (aimIn levels (suc i))
+  pub long :
+      first ≤ i → Led F adj longest (take i prefix) (getD prefix (i - 1) 0) (aimIn levels i) (aimIn levels (suc i))
   pub short : i < first → (v : ℕ) → has (aimIn levels i .goal) v ≡ F .member (take i prefix ++ v ∷ [])
   pub to-try : (v : ℕ) → 1 ≤ v → has (restIn levels i) v ≡ (leb c v && goesOnBy F (take i prefix) v)

@@ -13,7 +13,7 @@ use Rattle.atomset.specs.Set.{linkedBy}
 use Rattle.search.specs.declared.Search.{Search}
 use Rattle.search.specs.Place.{kindKept}
 use Rattle.openness.specs.declared.FirstPlan.{FirstPlan}
-use Rattle.openness.specs.Plan.{familyBy, firstLength, FirstTells, Words, Beginning}
+use Rattle.openness.specs.Plan.{familyBy, mostAtoms, firstLength, FirstTells, Words, Beginning}
 use Rattle.trial.specs.declared.Spot.{Spot}
 use Rattle.trial.specs.Parts.{stackOf, stateAt, HeldWithRoom}
 use Rattle.dive.specs.declared.Dived.{Dived}
@@ -97,7 +97,7 @@ pub record Starting (n : ℕ) (table : List ℕ) (q : Search) (at : Spot) (first
 -- the first beginning of the fast loop and what is kept for it
 abbrev pub FirstStage : ℕ → List ℕ → ℕ → ℕ → ℕ → List ℕ → List ℕ → ℕ → Type 0
 FirstStage n table kind s t prefix levels len =
-    Stage (familyBy n table kind s t) (linkedBy table) (firstLength kind) prefix levels len 1
+    Stage (familyBy n table kind s t) (linkedBy table) (mostAtoms kind s) (firstLength kind) prefix levels len 1
 
 -- what the fast loop starts from: an open beginning, at most one atom shorter than those that two sets steer
 pub record Descent (n : ℕ) (table : List ℕ) (kind s t most : ℕ) (from : Spot) (start : ℕ) (prefix levels out : List ℕ)

@@ -1,6 +1,6 @@
 -- Demand 3 of document 01: `Demand` holds after every list of runs, saves, restores of the present mark and refusals.
 -- What stands is the fresh search after the trials made (`Reached`), and of that the theory of a search says the rest.
-use Prim.Native.Nat.{ℕ, _≤_}
+use Prim.Native.Nat.{ℕ, _-_, _*_, _≤_}
 use native.Mathlib.Omega.{arith}
 use mathlib.Core.Path.{_≡_, refl, ap, _∙_, subst}
 use mathlib.Core.Bool.{Bool, true, false}
@@ -15,7 +15,7 @@ use Rattle.enumeration.proofs.Theorems.{list-ascending, list-once, list-exactly
 use Rattle.molecule.specs.declared.Molecule.{Molecule}
 use Rattle.molecule.specs.Record.{wellFormed}
 use Rattle.search.specs.Place.{familyOf, stateOf, freshSearch, kindKept}
-use Rattle.search.proofs.Readings.{family-atoms, family-lawful}
+use Rattle.search.proofs.Readings.{bounded-size, family-atoms, family-lawful}
 use Rattle.history.specs.Calls.{Call, Standing, start, standing, History, saidDone}
 use Rattle.history.specs.Demand.{OneList, Whole, Demand}
 use Rattle.history.specs.Resumed.{restoredStart}
@@ -88,6 +88,14 @@ module _ (R : Molecule) (kind s t : ℕ) (good : wellFormed R ≡ true) (kept : 
               extensions-bound = rw (same .extensions-is) (done-bound F lawful (F .atoms) (lawful .short) k d);
             }
 
+    -- a search of kind 2 lists no ring of more than s atoms
+    bounded :
+        kind ≡ 2 → isDone (R .atoms) (stateOf (x .search)) ≡ true →
+        x .search .extensions ≤ (s - 1) * length (members (familyOf R kind s t))
+    bounded two e =
+        rw (now .parts .extensions-is)
+        (done-bound (familyOf R kind s t) lawful s (bounded-size R kind s t two) k (now .done-at e))
+
     trials-made : x .search .trials ≡ x .made
     unfolding fresh
     trials-made = omega (arith, now .trials-are)
@@ -110,6 +118,7 @@ module _ (R : Molecule) (kind s t : ℕ) (good : wellFormed R ≡ true) (kept : 
         listed-most = most said k x r;
         trials-sum = trials-made said k x r;
         done-whole = whole said k x r;
+        done-bounded = bounded said k x r;
         said-done = standing-now .said-done;
         goes-on = standing-now .goes-on;
       }

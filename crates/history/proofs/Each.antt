@@ -1,17 +1,22 @@
--- Demand 3 for rings and for paths, each from the search that its start entry returns.
--- Instances of `demand3`: kind 0 keeps rule 16, and kind 1 with s and t that keep rules 10 and 11.
+-- Demand 3 for rings, for paths and for rings up to a size, each from the search that its start entry returns.
+-- Instances of `demand3`: kind 0 keeps rule 16, kind 1 with s and t that keep rules 10 and 11, kind 2 with a size that
+-- keeps rule 21.
 use Prim.Native.Nat.{ℕ}
-use mathlib.Core.Path.{_≡_, refl}
+use mathlib.Core.Path.{_≡_, refl, sym, ap, _∙_}
 use mathlib.Core.Bool.{Bool, true, _&&_, not}
 use mathlib.Core.List.{List}
+use mathlib.Core.Logic.{inr}
 use lib.Dec.{eqb}
 use borrow.Author.Tests.{not-true}
 use Rattle.graph.proofs.Below.{and-parts}
-use Rattle.chordless.specs.Families.{rings, paths}
+use Rattle.enumeration.specs.Words.{members}
+use Rattle.chordless.specs.Families.{rings, paths, upTo}
 use Rattle.molecule.specs.declared.Molecule.{Molecule}
 use Rattle.molecule.specs.Record.{wellFormed, bonded, isAtom}
-use Rattle.search.specs.Place.{familyIn, familyOf, endsKept, kindKept}
-use Rattle.search.specs.Entries.{acceptedSearch, freshPaths, startRings, startPaths}
+use Rattle.molecule.proofs.Bonds.{rule9}
+use Rattle.search.specs.Place.{familyIn, familyOf, endsKept, boundKept, kindKept}
+use Rattle.search.specs.Entries.{acceptedSearch, freshPaths, freshRingsUpTo, startRings, startPaths, startRingsUpTo}
+use Rattle.search.proofs.Readings.{all-sizes, kind-of}
 use Rattle.history.specs.Calls.{Call, start, standing, History}
 use Rattle.history.specs.Demand.{Demand}
 use Rattle.history.proofs.Demand3.{demand3}
@@ -27,6 +32,19 @@ pub paths-listed : (R : Molecule) (s t : ℕ) → familyOf R 1 s t ≡ paths (R 
 unfolding familyOf familyIn
 paths-listed R s t = refl
 
+-- The list of kind 2 is the rings of at most k atoms; with k = 128 it is that of kind 0
+pub bounded-listed :
+    (R : Molecule) (k t : ℕ) → familyOf R 2 k t ≡ upTo k (rings (R .atoms) (bonded (R .atoms) (R .rows)))
+unfolding familyOf familyIn
+bounded-listed R k t = refl
+
+pub all-sizes-listed :
+    (R : Molecule) → wellFormed R ≡ true → members (familyOf R 2 128 0) ≡ members (familyOf R 0 0 0)
+unfolding familyOf
+all-sizes-listed R good =
+    let adj = bonded (R .atoms) (R .rows) in
+    ap members (all-sizes (R .atoms) adj 2 128 0 refl (rule9 R good .atoms-high) ∙ sym (unfold familyIn in refl))
+
 -- The start of a history is what the start entries return
 pub rings-start : (R : Molecule) → wellFormed R ≡ true → startRings R ≡ acceptedSearch (start 0 0 0 .search)
 unfolding startRings start
@@ -40,6 +58,12 @@ paths-start R s t good ends =
     let a : Bool = isAtom (R .atoms) s && isAtom (R .atoms) t in
     let (atoms, not-same) = and-parts a (not (eqb s t)) ends in
     rw (good, atoms, not-true (eqb s t) not-same)
+
+pub bounded-start :
+    (R : Molecule) (k : ℕ) → wellFormed R ≡ true → boundKept k ≡ true →
+    startRingsUpTo R k ≡ acceptedSearch (start 2 k 0 .search)
+unfolding startRingsUpTo freshRingsUpTo start
+bounded-start R k good bound = rw (good, bound)
 
 -- ---- demand 3
 
@@ -62,3 +86,9 @@ pub paths-demand3 :
     (calls : List Call) → History R (start 1 s t) calls →
     Demand R 1 s t calls (standing (start 1 s t) calls)
 paths-demand3 R s t good ends = demand3 R 1 s t good (paths-kept (R .atoms) s t ends)
+
+pub bounded-demand3 :
+    (R : Molecule) (k : ℕ) → wellFormed R ≡ true → boundKept k ≡ true →
+    (calls : List Call) → History R (start 2 k 0) calls →
+    Demand R 2 k 0 calls (standing (start 2 k 0) calls)
+bounded-demand3 R k good bound = demand3 R 2 k 0 good (kind-of (R .atoms) 2 k 0 (inr (inr (refl, bound, refl))))

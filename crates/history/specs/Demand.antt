@@ -94,5 +94,9 @@ pub record Demand (R : Molecule) (kind s t : ℕ) (calls : List Call) (x : Stand
   pub trials-sum : x .search .trials ≡ x .made
   -- a search that is done, and so one after a run that said done, has listed the whole list
   pub done-whole : isDone (R .atoms) (stateOf (x .search)) ≡ true → Whole (R .atoms) (familyOf R kind s t) x
+  -- of kind 2, whose largest size is s, extensions is then also at most (s − 1) × rings
+  pub done-bounded :
+      kind ≡ 2 → isDone (R .atoms) (stateOf (x .search)) ≡ true →
+      x .search .extensions ≤ (s - 1) * length (members (familyOf R kind s t))
   pub said-done : saidDone calls ≡ true → isDone (R .atoms) (stateOf (x .search)) ≡ true
   pub goes-on : GoesOn R x

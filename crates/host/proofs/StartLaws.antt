@@ -6,7 +6,7 @@ use native.Mathlib.Decide.{decLt}
 use native.Mathlib.Omega.{arith}
 use mathlib.Core.Path.{_≡_, refl, sym, ap, _∙_}
 use mathlib.Core.Logic.{_⊎_, inl, inr}
-use mathlib.Core.Bool.{Bool, true, false, _&&_, cond}
+use mathlib.Core.Bool.{true, _&&_}
 use mathlib.Core.List.{List, _++_}
 use lib.ListN.{length, take, drop}
 use lib.Seq.{take-append-seam}
@@ -29,7 +29,7 @@ use Rattle.search.specs.Mark.{markText}
 use Rattle.search.proofs.MarkLaws.{mark-length, fresh-restorable}
 use Rattle.search.proofs.Views.{search-length}
 use Rattle.start.proofs.Starts.{record-taken}
-use Rattle.start.proofs.Accepts.{started-fresh, kept-starts}
+use Rattle.start.proofs.Accepts.{started-fresh, started-kept, kept-starts}
 use Rattle.history.specs.Calls.{start, standing}
 use Rattle.host.specs.Resume.{markSize}
 use Rattle.host.specs.Start.{Started, refusedStart, startMark}
@@ -208,6 +208,10 @@ module _ (sheet : List ℕ) (kind s t : ℕ) (next : List ℕ) where
   -- ---- demand 3
 
   module _ (zero : answer .number ≡ 0) where
+    -- rule 16 allows its kind, s and t
+    pub start-kind : kindKept (mol .atoms) kind s t ≡ true
+    start-kind = started-kept mol kind s t (start-began zero .accepted)
+
     -- the first 91 bytes of the output are the fresh mark
     pub start-mark : take 91 (answer .nextMark) ≡ mark
     start-mark =
@@ -216,21 +220,20 @@ module _ (sheet : List ℕ) (kind s t : ℕ) (next : List ℕ) where
         ∙ take-append-seam mark (drop 91 next)
 
     -- and ringlist_mark_length says so
-    module _ (kept : kindKept (mol .atoms) kind s t ≡ true) where
-      pub start-size : markSize (answer .nextMark) ≡ 91
-      start-size =
-          let formed = accepted-well-formed sheet (start-began zero .read) in
-          ap markSize (start-began zero .mark-is)
-          ∙ mark-size mol (freshSearch kind s t) formed (fresh-restorable mol kind s t formed kept)
-          (unfold freshSearch in (search-length kind s t fresh (unfold fresh in (omega arith)))) (drop 91 next)
-          ∙ fresh-size mol kind s t
+    pub start-size : markSize (answer .nextMark) ≡ 91
+    start-size =
+        let formed = accepted-well-formed sheet (start-began zero .read) in
+        ap markSize (start-began zero .mark-is)
+        ∙ mark-size mol (freshSearch kind s t) formed (fresh-restorable mol kind s t formed start-kind)
+        (unfold freshSearch in (search-length kind s t fresh (unfold fresh in (omega arith)))) (drop 91 next)
+        ∙ fresh-size mol kind s t
 
-      -- Demand 3 over every sheet, kind, s, t and buffer of a start that returned 0, and every list of calls that
-      -- begins with the mark that it wrote
-      pub start-demand3 :
-          let first = take 91 (answer .nextMark) in
-          (calls : List HostCall) → HostHistory sheet (keeping first) calls →
-          HostDemand sheet mol kind s t first calls
-          (keptBy (keeping first) calls) (standing (start kind s t) (allCallsIn calls))
-      start-demand3 =
-          host-demand3 sheet (start-began zero .read) kind s t (take 91 (answer .nextMark)) (kept, inl start-mark)
+    -- Demand 3 over every sheet, kind, s, t and buffer of a start that returned 0, and every list of calls that
+    -- begins with the mark that it wrote
+    pub start-demand3 :
+        let first = take 91 (answer .nextMark) in
+        (calls : List HostCall) → HostHistory sheet (keeping first) calls →
+        HostDemand sheet mol kind s t first calls
+        (keptBy (keeping first) calls) (standing (start kind s t) (allCallsIn calls))
+    start-demand3 =
+        host-demand3 sheet (start-began zero .read) kind s t (take 91 (answer .nextMark)) (start-kind, inl start-mark)

@@ -1,28 +1,35 @@
 -- The two sets of an open beginning in its array: the first ones of each kind, and those handed on from place to place.
 -- From `rings-steer`, `paths-steer` and `steers-more`; a shorter beginning of an open one is open.
-use Prim.Native.Nat.{ℕ, _+_, _-_, _≤_, _<_}
+use Prim.Native.Nat.{ℕ, suc, _+_, _-_, _≤_, _<_}
 use native.Mathlib.Omega.{arith}
+use native.Mathlib.Nat.{not-suc-le-zero}
+use native.Mathlib.Decide.{ℕ-discrete}
 use native.Mathlib.Numerals.{add-one}
 use mathlib.Core.Path.{_≡_, sym, _∙_}
 use mathlib.Core.Bool.{Bool, true, false, _&&_, not, cond}
 use mathlib.Core.List.{List, [], _∷_}
-use lib.ListN.{take, getD}
+use lib.ListN.{length, take, getD}
 use lib.Seq.{take-suc}
 use lib.Dec.{leb, ltb, eqb}
 use Rattle.graph.specs.Chordless.{Adjacency, atomAt}
 use Rattle.enumeration.specs.Words.{Family, isOpen}
-use Rattle.chordless.specs.Families.{rings, paths}
+use Rattle.enumeration.specs.Lawful.{Lawful}
+use Rattle.chordless.specs.Families.{rings, paths, upTo}
 use Rattle.chordless.specs.Steers.{Steers}
 use Rattle.chordless.proofs.Steers.{steers-more, steers-same, rings-steer, paths-steer}
+use Rattle.chordless.proofs.UpTo.{upto-room}
 use Rattle.chordless.proofs.Bounds.{paths-open}
+use Rattle.chordless.proofs.Lawful.{rings-lawful, paths-lawful}
 use Rattle.chordless.proofs.Paths.{path-stem}
 use Rattle.atomset.specs.Set.{has, linkedBy}
 use Rattle.openness.specs.declared.Aim.{Aim}
-use Rattle.openness.specs.Plan.{familyBy, Beginning, firstLength, Steered, HandedOn}
+use Rattle.openness.specs.Plan.{familyBy, mostAtoms, stepsLeft, ringsBy, pathsBy, firstLength}
+use Rattle.openness.specs.Plan.{Beginning, Steered, HandedOn}
 use Rattle.openness.specs.Parts.{TwoAtoms, TwoEnds}
 use Rattle.openness.proofs.Steps.{Row}
 use Rattle.openness.proofs.Arrays.{taken-length, one-taken, two-taken, open-atoms}
-use Rattle.openness.proofs.Plans.{family-rings, family-paths, family-by-lawful, family-by-atoms, first-of-rings, first-of-paths}
+use Rattle.openness.proofs.Plans.{family-rings, family-paths, most-paths, family-by-lawful, family-by-atoms}
+use Rattle.openness.proofs.Plans.{first-of-rings, first-of-paths}
 use Rattle.openness.proofs.Opens.{open-shorter, OpenTo, open-beside}
 
 -- ---- the first sets
@@ -32,36 +39,38 @@ pub ring-aimed :
     {n : ℕ} {table : List ℕ} {s a : ℕ} {row above low goal free : ℕ → Bool} → TwoAtoms n table s a →
     Row (linkedBy table) s row → ((u : ℕ) → above u ≡ (ltb a u && leb u n)) →
     ((u : ℕ) → low u ≡ (ltb s u && leb u n)) → ((u : ℕ) → goal u ≡ (above u && row u)) →
-    ((u : ℕ) → free u ≡ (low u && not (row u))) →
-    Steers (rings n (linkedBy table)) (linkedBy table) (s ∷ a ∷ []) a goal free
-ring-aimed {n} {table} {s} {a} b row-is above-is low-is goal-is free-is =
+    ((u : ℕ) → free u ≡ (low u && not (row u))) → (most : ℕ) →
+    Steers (ringsBy n table most) (linkedBy table) most (s ∷ a ∷ []) a goal free
+ring-aimed {n} {table} {s} {a} b row-is above-is low-is goal-is free-is most =
     steers-same (λ u. sym (goal-is u ∙ rw (above-is u, row-is u))) (λ u. sym (free-is u ∙ rw (low-is u, row-is u)))
-    (rings-steer n (linkedBy table) (b .words .irreflexive) s a)
+    (rings-steer n (linkedBy table) (b .words .irreflexive) most s a)
 
 -- of a path from s to t
 pub path-aimed :
     {n : ℕ} {table : List ℕ} {s t : ℕ} {all goal free : ℕ → Bool} → TwoEnds n table s t →
     ((u : ℕ) → goal u ≡ eqb u t) → ((u : ℕ) → all u ≡ (leb 1 u && leb u n)) →
     ((u : ℕ) → free u ≡ (all u && not (eqb u s))) →
-    Steers (paths n (linkedBy table) s t) (linkedBy table) (s ∷ []) s goal free
+    Steers (pathsBy n table s t) (linkedBy table) 128 (s ∷ []) s goal free
 path-aimed {n} {table} {s} {t} b goal-is all-is free-is =
     steers-same (λ u. sym (goal-is u)) (λ u. sym (free-is u ∙ rw (all-is u)))
-    (paths-steer n (linkedBy table) (b .words .irreflexive) s t)
+    (paths-steer n (linkedBy table) (b .words .irreflexive) 128 s t)
 
 -- ---- a beginning in its array
 
 -- the first length of either kind
 pub first-some : (kind : ℕ) → 1 ≤ firstLength kind
-first-some kind = go (eqb kind 0)
+first-some kind = go (eqb kind 1)
   where
-    go : (b : Bool) → 1 ≤ cond b 2 1
+    go : (b : Bool) → 1 ≤ cond b 1 2
     go true = omega arith
     go false = omega arith
 
 -- the first atom of an open beginning of a path
 path-first :
-    (n : ℕ) (adj : Adjacency) (s t x : ℕ) → isOpen (paths n adj s t) (x ∷ []) ≡ true → x ≡ s
-path-first n adj s t x e = let (c, r, f) = paths-open n adj s t x [] .0 e in path-stem n adj s t x [] c r f .first
+    (n : ℕ) (adj : Adjacency) (s t k x : ℕ) → isOpen (upTo k (paths n adj s t)) (x ∷ []) ≡ true → x ≡ s
+path-first n adj s t k x e =
+    let (c, r, f, short) = paths-open n adj s t k x [] .0 e in
+    path-stem n adj s t x [] c r f .first
 
 module _ {n : ℕ} {table : List ℕ} {kind s t : ℕ} {prefix : List ℕ} {len : ℕ}
     (b : Beginning n table kind s t prefix len) where
@@ -84,15 +93,51 @@ module _ {n : ℕ} {table : List ℕ} {kind s t : ℕ} {prefix : List ℕ} {len 
       let opened = open-shorter (familyBy n table kind s t) L prefix h (b .isOpened) in
       open-beside (record { within = h; opened = opened }) b (b .short)
 
+  -- it has fewer atoms than a member may have
+  pub begun-room : 1 ≤ len → len < mostAtoms kind s
+  begun-room some = go (ℕ-discrete kind 1)
+    where
+      few : n ≤ 128
+      few = b .words .few
+
+      -- some member of at most k atoms goes on it
+      below :
+          (k : ℕ) (F : Family) → Lawful F → (p : List ℕ) → 1 ≤ length p → isOpen (upTo k F) p ≡ true → length p < k
+      below k F L [] h e = absurd (not-suc-le-zero h)
+      below k F L (x ∷ p) h e = upto-room k F (λ w m. (L .short w m, L .inRange w m)) x p e
+
+      size : length (take len prefix) ≡ len
+      size = taken-length prefix len (b .size) (omega (arith, b .short))
+
+      go : Dec (kind ≡ 1) → len < mostAtoms kind s
+      go (yes path) =
+          let opened = rw (family-paths n table kind s t path few) at (b .isOpened) in
+          let adj = linkedBy table in
+          let short =
+          below 128 (paths n adj s t) (paths-lawful n adj s t) (take len prefix) (omega (arith, size)) opened in
+          omega (arith, size, most-paths n table kind s t path)
+      go (no ring) =
+          let opened = rw (family-rings n table kind s t ring few) at (b .isOpened) in
+          let adj = linkedBy table in
+          let short =
+          below (mostAtoms kind s) (rings n adj) (rings-lawful n adj) (take len prefix) (omega (arith, size)) opened in
+          omega (arith, size)
+
+  -- the steps left past it
+  pub begun-steps :
+      {steps : ℕ} → steps ≡ stepsLeft kind s len → steps ≡ mostAtoms kind s - suc (length (take len prefix))
+  begun-steps e = rw (taken-length prefix len (b .size) (omega (arith, b .short))) e
+
   -- the sets steer it
   abbrev pub SteeredHere : Aim → Type 0
   SteeredHere aim =
-      Steered (familyBy n table kind s t) (linkedBy table) (take len prefix) (getD prefix (len - 1) 0) aim
+      Steered (familyBy n table kind s t) (linkedBy table) (mostAtoms kind s) (take len prefix)
+      (getD prefix (len - 1) 0) aim
 
   steered-here :
       {aim : Aim} → 1 ≤ len →
-      Steers (familyBy n table kind s t) (linkedBy table) (take len prefix) (getD prefix (len - 1) 0)
-      (has (aim .goal)) (has (aim .free)) → SteeredHere aim
+      Steers (familyBy n table kind s t) (linkedBy table) (mostAtoms kind s) (take len prefix)
+      (getD prefix (len - 1) 0) (has (aim .goal)) (has (aim .free)) → SteeredHere aim
   steered-here h k =
       record {
         lawful = family-by-lawful n table kind s t;
@@ -102,7 +147,7 @@ module _ {n : ℕ} {table : List ℕ} {kind s t : ℕ} {prefix : List ℕ} {len 
       }
 
   -- a first beginning of a ring: two atoms
-  module _ (first : len ≡ firstLength kind) (ring : kind ≡ 0) {x y : ℕ} (at-first : x ≡ atomAt prefix 0)
+  module _ (first : len ≡ firstLength kind) (ring : kind ≡ 1 → ⊥) {x y : ℕ} (at-first : x ≡ atomAt prefix 0)
       (at-second : y ≡ atomAt prefix 1) where
     two : len ≡ 2
     two = first ∙ first-of-rings kind ring
@@ -128,14 +173,15 @@ module _ {n : ℕ} {table : List ℕ} {kind s t : ℕ} {prefix : List ℕ} {len 
 
     pub first-ring :
         {aim : Aim} →
-        Steers (rings n (linkedBy table)) (linkedBy table) (x ∷ y ∷ []) y (has (aim .goal)) (has (aim .free)) →
-        SteeredHere aim
+        ((most : ℕ) → Steers (ringsBy n table most) (linkedBy table) most (x ∷ y ∷ []) y (has (aim .goal))
+        (has (aim .free))) → SteeredHere aim
     first-ring k =
         let long = two in
-        steered-here (omega arith) (rw (family-rings n table kind s t ring, two-read, two-last) k)
+        steered-here (omega arith)
+        (rw (family-rings n table kind s t ring (b .words .few), two-read, two-last) (k (mostAtoms kind s)))
 
   -- a first beginning of a path: one atom, s
-  module _ (first : len ≡ firstLength kind) (path : kind ≡ 0 → ⊥) where
+  module _ (first : len ≡ firstLength kind) (path : kind ≡ 1) where
     one : len ≡ 1
     one = first ∙ first-of-paths kind path
 
@@ -144,19 +190,21 @@ module _ {n : ℕ} {table : List ℕ} {kind s t : ℕ} {prefix : List ℕ} {len 
 
     one-is : atomAt prefix 0 ≡ s
     one-is =
-        path-first n (linkedBy table) s t (atomAt prefix 0)
-        (rw (family-paths n table kind s t path, one-read) at (b .isOpened))
+        path-first n (linkedBy table) s t 128 (atomAt prefix 0)
+        (rw (family-paths n table kind s t path (b .words .few), one-read) at (b .isOpened))
 
     one-last : getD prefix (len - 1) 0 ≡ s
     one-last = rw one one-is
 
     pub first-path :
         {aim : Aim} →
-        Steers (paths n (linkedBy table) s t) (linkedBy table) (s ∷ []) s (has (aim .goal)) (has (aim .free)) →
+        Steers (pathsBy n table s t) (linkedBy table) 128 (s ∷ []) s (has (aim .goal)) (has (aim .free)) →
         SteeredHere aim
     first-path k =
         let long = one in
-        steered-here (omega arith) (rw (family-paths n table kind s t path, one-read, one-last, one-is) k)
+        let few = b .words .few in
+        steered-here (omega arith)
+        (rw (family-paths n table kind s t path few, most-paths n table kind s t path, one-read, one-last, one-is) k)
 
 -- ---- the loop over the places
 
@@ -166,11 +214,12 @@ pub record AimedTo (n : ℕ) (table : List ℕ) (kind s t : ℕ) (prefix : List 
     pub some : firstLength kind ≤ i
     pub within : i ≤ len
     pub steered :
-        Steered (familyBy n table kind s t) (linkedBy table) (take i prefix) (getD prefix (i - 1) 0) aim
+        Steered (familyBy n table kind s t) (linkedBy table) (mostAtoms kind s) (take i prefix)
+        (getD prefix (i - 1) 0) aim
 
 pub aimed-start :
     {n : ℕ} {table : List ℕ} {kind s t : ℕ} {prefix : List ℕ} {len : ℕ} {aim : Aim} {i : ℕ} → firstLength kind ≤ len →
-    Steered (familyBy n table kind s t) (linkedBy table) (take (firstLength kind) prefix)
+    Steered (familyBy n table kind s t) (linkedBy table) (mostAtoms kind s) (take (firstLength kind) prefix)
     (getD prefix (firstLength kind - 1) 0) aim → i ≡ firstLength kind → AimedTo n table kind s t prefix len aim i
 aimed-start h steered e = rw e (record { some = omega arith; within = h; steered = steered })
 
@@ -198,8 +247,8 @@ module _ {n : ℕ} {table : List ℕ} {kind s t : ℕ} {prefix : List ℕ} {len 
       on = rw at at handed
 
       steers :
-          Steers (familyBy n table kind s t) (linkedBy table) (take (i + 1) prefix) (getD prefix (i + 1 - 1) 0)
-          (has (next .goal)) (has (next .free))
+          Steers (familyBy n table kind s t) (linkedBy table) (mostAtoms kind s) (take (i + 1) prefix)
+          (getD prefix (i + 1 - 1) 0) (has (next .goal)) (has (next .free))
       steers =
           let place : i + 1 - 1 ≡ i = omega arith in
           rw (place, add-one i, take-suc prefix i 0 (omega (arith, b .size, b .short)))
@@ -207,12 +256,14 @@ module _ {n : ℕ} {table : List ℕ} {kind s t : ℕ} {prefix : List ℕ} {len 
           (steers-more (k .steered .steers) (getD prefix i 0)))
 
   pub aimed-all :
-      len ≤ i → Steered (familyBy n table kind s t) (linkedBy table) (take len prefix) (getD prefix (len - 1) 0) aim
+      len ≤ i →
+      Steered (familyBy n table kind s t) (linkedBy table) (mostAtoms kind s) (take len prefix)
+      (getD prefix (len - 1) 0) aim
   aimed-all h = let all : i ≡ len = omega (arith, k .within) in rw all at (k .steered)
 
 -- ---- the last atom, as it is read from the array
 
 pub steered-last :
-    {F : Family} {adj : Adjacency} {p : List ℕ} {x y : ℕ} {aim : Aim} → x ≡ y → Steered F adj p y aim →
-    Steered F adj p x aim
+    {F : Family} {adj : Adjacency} {most : ℕ} {p : List ℕ} {x y : ℕ} {aim : Aim} → x ≡ y →
+    Steered F adj most p y aim → Steered F adj most p x aim
 steered-last e k = rw e k

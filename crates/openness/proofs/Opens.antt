@@ -15,16 +15,16 @@ use Rattle.graph.specs.Chordless.{atomAt}
 use Rattle.graph.proofs.Below.{clash, false-of}
 use Rattle.enumeration.specs.Words.{Family, isOpen}
 use Rattle.enumeration.specs.Lawful.{Lawful}
-use Rattle.chordless.specs.Families.{rings, paths}
 use Rattle.chordless.proofs.Members.{Bounded, open-has, open-of}
 use Rattle.molecule.specs.Record.{isAtom}
-use Rattle.atomset.specs.Set.{has, linkedBy}
+use Rattle.atomset.specs.Set.{has}
 use Rattle.atomset.proofs.Members.{has-range}
 use Rattle.search.specs.Place.{kindKept}
 use Rattle.search.proofs.Readings.{atom-of}
 use Rattle.openness.specs.declared.Plan.{Plan}
-use Rattle.openness.specs.Plan.{familyBy, Words, Tells, Beginning, firstLength}
+use Rattle.openness.specs.Plan.{familyBy, mostAtoms, ringsBy, pathsBy, firstLength, Words, Tells, Beginning}
 use Rattle.openness.proofs.Arrays.{one-taken, two-taken, open-atoms}
+use Rattle.openness.proofs.Rings.{rings-by-lawful}
 use Rattle.openness.proofs.Plans.{family-rings, family-paths, family-by-lawful, family-by-atoms, first-of-rings, first-of-paths, first-few}
 
 module _ (F : Family) (L : Lawful F) where
@@ -66,17 +66,12 @@ in-no-set set v a =
 -- ---- a place without an atom
 
 pub no-atom :
-    (n : ℕ) (table : List ℕ) (kind s t : ℕ) (prefix : List ℕ) {len i v : ℕ} → length prefix ≡ 128 → len ≤ 128 →
-    i < len → v ≡ atomAt prefix i → isAtom n v ≡ false → isOpen (familyBy n table kind s t) (take len prefix) ≡ false
-no-atom n table kind s t prefix {len} {i} {v} size short h e a =
-    false-of (isOpen (familyBy n table kind s t) (take len prefix))
-    (λ o. let range = at-place o in clash (isAtom n v) (atom-of n v (omega arith) (omega arith)) a)
-  where
-    at-place :
-        isOpen (familyBy n table kind s t) (take len prefix) ≡ true → (1 ≤ atomAt prefix i) × (atomAt prefix i ≤ n)
-    at-place o =
-        let L = family-by-lawful n table kind s t in
-        open-atoms prefix len L (family-by-atoms n table kind s t) size short o i h
+    {F : Family} {n : ℕ} → Lawful F → F .atoms ≡ n → (prefix : List ℕ) {len i v : ℕ} → length prefix ≡ 128 →
+    len ≤ 128 → i < len → v ≡ atomAt prefix i → isAtom n v ≡ false → isOpen F (take len prefix) ≡ false
+no-atom {F} {n} L atoms prefix {len} {i} {v} size short h e a =
+    false-of (isOpen F (take len prefix))
+    (λ o. let range = open-atoms prefix len L atoms size short o i h in
+    clash (isAtom n v) (atom-of n v (omega arith) (omega arith)) a)
 
 -- ---- one atom after an open beginning
 
@@ -143,34 +138,32 @@ open-none {n} {table} {kind} {s} {t} known =
 
 -- ---- a ring beginning of one atom, tested by itself
 
-module _ (n : ℕ) (table : List ℕ) (prefix : List ℕ) (size : length prefix ≡ 128) where
+module _ (n : ℕ) (table : List ℕ) (most : ℕ) (prefix : List ℕ) (size : length prefix ≡ 128) where
   pub one-told :
-      {a : ℕ} {opens : Bool} → a ≡ atomAt prefix 0 → opens ≡ isOpen (rings n (linkedBy table)) (a ∷ []) →
-      opens ≡ isOpen (rings n (linkedBy table)) (take 1 prefix)
+      {a : ℕ} {opens : Bool} → a ≡ atomAt prefix 0 → opens ≡ isOpen (ringsBy n table most) (a ∷ []) →
+      opens ≡ isOpen (ringsBy n table most) (take 1 prefix)
   one-told at told = told ∙ rw (one-taken prefix size, at)
 
   pub one-no-atom :
-      {a : ℕ} → a ≡ atomAt prefix 0 → isAtom n a ≡ false →
-      isOpen (rings n (linkedBy table)) (take 1 prefix) ≡ false
+      {a : ℕ} → a ≡ atomAt prefix 0 → isAtom n a ≡ false → isOpen (ringsBy n table most) (take 1 prefix) ≡ false
   one-no-atom at none =
-      rw (family-rings n table 0 0 0 refl) at
-      (no-atom n table 0 0 0 prefix {len = 1} {i = 0} size (omega arith) (omega arith) at none)
+      no-atom (rings-by-lawful n table most) refl prefix {len = 1} {i = 0} size (omega arith) (omega arith) at none
 
   -- of a ring search
   pub one-of-rings :
-      {len : ℕ} {opens : Bool} (kind s t : ℕ) → 1 ≤ len → len < firstLength kind →
-      opens ≡ isOpen (rings n (linkedBy table)) (take 1 prefix) →
+      {len : ℕ} {opens : Bool} (kind s t : ℕ) → n ≤ 128 → most ≡ mostAtoms kind s → 1 ≤ len → len < firstLength kind →
+      opens ≡ isOpen (ringsBy n table most) (take 1 prefix) →
       opens ≡ isOpen (familyBy n table kind s t) (take len prefix)
-  one-of-rings {len} kind s t some short told = told ∙ sym (go (ℕ-discrete kind 0))
+  one-of-rings {len} kind s t few most-is some short told = told ∙ sym (go (ℕ-discrete kind 1))
     where
       one : len ≡ 1
       one = omega (arith, first-few kind)
 
       go :
-          Dec (kind ≡ 0) →
-          isOpen (familyBy n table kind s t) (take len prefix) ≡ isOpen (rings n (linkedBy table)) (take 1 prefix)
-      go (yes ring) = rw (family-rings n table kind s t ring, one)
-      go (no path) = absurd (omega (arith, first-of-paths kind path))
+          Dec (kind ≡ 1) →
+          isOpen (familyBy n table kind s t) (take len prefix) ≡ isOpen (ringsBy n table most) (take 1 prefix)
+      go (yes path) = absurd (omega (arith, first-of-paths kind path))
+      go (no ring) = rw (family-rings n table kind s t ring few, one, most-is)
 
 -- ---- the shortest beginning that two sets steer, tested by itself
 
@@ -178,26 +171,35 @@ module _ (n : ℕ) (table : List ℕ) (kind s t : ℕ) (prefix : List ℕ) where
   abbrev FirstOpens : Bool → Type 0
   FirstOpens opens = opens ≡ isOpen (familyBy n table kind s t) (take (firstLength kind) prefix)
 
-  module _ (size : length prefix ≡ 128) where
+  module _ (few : n ≤ 128) (size : length prefix ≡ 128) where
     pub first-path-opens :
-        {a : ℕ} {opens : Bool} → (kind ≡ 0 → ⊥) → a ≡ atomAt prefix 0 →
-        opens ≡ isOpen (paths n (linkedBy table) s t) (a ∷ []) → FirstOpens opens
-    first-path-opens d at told =
-        told ∙ rw (family-paths n table kind s t d, first-of-paths kind d, one-taken prefix size, at)
+        {a : ℕ} {opens : Bool} → kind ≡ 1 → a ≡ atomAt prefix 0 →
+        opens ≡ isOpen (pathsBy n table s t) (a ∷ []) → FirstOpens opens
+    first-path-opens path at told =
+        told ∙ rw (family-paths n table kind s t path few, first-of-paths kind path, one-taken prefix size, at)
 
     pub first-ring-opens :
-        {a b : ℕ} {opens : Bool} → kind ≡ 0 → a ≡ atomAt prefix 0 → b ≡ atomAt prefix 1 →
-        opens ≡ isOpen (rings n (linkedBy table)) (a ∷ b ∷ []) → FirstOpens opens
-    first-ring-opens ring at at-next told =
-        told ∙ rw (family-rings n table kind s t ring, first-of-rings kind ring, two-taken prefix size, at, at-next)
+        {most a b : ℕ} {opens : Bool} → (kind ≡ 1 → ⊥) → most ≡ mostAtoms kind s → a ≡ atomAt prefix 0 →
+        b ≡ atomAt prefix 1 → opens ≡ isOpen (ringsBy n table most) (a ∷ b ∷ []) → FirstOpens opens
+    first-ring-opens ring most-is at at-next told =
+        told ∙
+        rw (
+          family-rings n table kind s t ring few,
+          first-of-rings kind ring,
+          two-taken prefix size,
+          most-is,
+          at,
+          at-next,
+        )
 
     -- no atom stands at one of its places
     pub first-no-atom :
-        {i v : ℕ} → kind ≡ 0 → i < 2 → v ≡ atomAt prefix i → isAtom n v ≡ false → FirstOpens false
+        {i v : ℕ} → (kind ≡ 1 → ⊥) → i < 2 → v ≡ atomAt prefix i → isAtom n v ≡ false → FirstOpens false
     first-no-atom ring h at none =
         let two = first-of-rings kind ring in
         let short : firstLength kind ≤ 128 = omega arith in
-        sym (no-atom n table kind s t prefix size short (omega arith) at none)
+        let L = family-by-lawful n table kind s t in
+        sym (no-atom L (family-by-atoms n table kind s t) prefix size short (omega arith) at none)
 
   -- a beginning that goes on from it
   module _ {len : ℕ} {opens : Bool} (h : firstLength kind ≤ len) (told : FirstOpens opens) where

@@ -10,35 +10,53 @@ use mathlib.Core.List.{List, [], _∷_}
 use mathlib.Core.Logic.{inl, inr}
 use lib.ListN.{take}
 use lib.Dec.{leb, eqb}
-use borrow.Author.Tests.{eq-eqb, ne-eqb, le-leb}
-use Rattle.graph.specs.Chordless.{atomAt}
+use borrow.Author.Tests.{eq-eqb, ne-eqb, le-leb, lt-leb}
+use Rattle.graph.specs.Chordless.{Adjacency, atomAt}
 use Rattle.graph.proofs.Below.{clash}
 use Rattle.enumeration.specs.Words.{Family, isOpen}
 use Rattle.enumeration.specs.Lawful.{Lawful}
-use Rattle.chordless.specs.Families.{rings, paths}
-use Rattle.chordless.proofs.Lawful.{rings-lawful}
-use Rattle.chordless.proofs.Rings.{ring-not-short}
+use Rattle.chordless.specs.Families.{rings, paths, upTo}
+use Rattle.chordless.proofs.UpTo.{upto-all}
+use Rattle.chordless.proofs.Lawful.{rings-lawful, paths-lawful}
 use Rattle.chordless.proofs.Paths.{path-not-one}
 use Rattle.atomset.specs.Set.{has, linkedBy}
 use Rattle.search.specs.Place.{familyIn, kindKept, endsKept}
-use Rattle.search.proofs.Readings.{family-in-lawful, family-in-atoms, kind-facts, KindFacts, ends-facts, ends-of}
+use Rattle.search.proofs.Readings.{family-in-lawful, family-in-atoms, kind-facts, KindFacts, ends-facts, ends-of, bound-facts}
 use Rattle.openness.specs.declared.Plan.{Plan}
 use Rattle.openness.specs.declared.FirstPlan.{FirstPlan}
 use Rattle.openness.specs.declared.Found.{Found}
-use Rattle.openness.specs.Plan.{familyBy, firstLength, Planned, Ahead, Everywhere, Beginning, Planning, FoundAt}
+use Rattle.openness.specs.Plan.{familyBy, mostAtoms, ringsBy, pathsBy, firstLength}
+use Rattle.openness.specs.Plan.{Planned, Ahead, Everywhere, Beginning, Planning, FoundAt}
 use Rattle.openness.specs.Parts.{OneAtom, TwoEnds, FirstOf, FirstAhead, ShortRing, PathFirsts}
 use Rattle.openness.proofs.Arrays.{one-taken, open-atoms}
+use Rattle.openness.proofs.Rings.{rings-by-lawful, ring-by-not-short}
 
 -- ---- the family of a kind
 
 module _ (n : ℕ) (table : List ℕ) (kind s t : ℕ) where
-  pub family-rings : kind ≡ 0 → familyBy n table kind s t ≡ rings n (linkedBy table)
+  -- of every kind but 1, rings of at most so many atoms: where the kind has no bound, no ring exceeds 128
+  pub family-rings : (kind ≡ 1 → ⊥) → n ≤ 128 → familyBy n table kind s t ≡ ringsBy n table (mostAtoms kind s)
   unfolding familyBy familyIn
-  family-rings e = rw (eq-eqb kind 0 e)
+  family-rings d few = go (ℕ-discrete kind 0)
+    where
+      adj : Adjacency
+      adj = linkedBy table
 
-  pub family-paths : (kind ≡ 0 → ⊥) → familyBy n table kind s t ≡ paths n (linkedBy table) s t
+      go :
+          Dec (kind ≡ 0) →
+          cond (eqb kind 0) (rings n adj) (cond (eqb kind 1) (paths n adj s t) (upTo s (rings n adj)))
+          ≡ ringsBy n table (mostAtoms kind s)
+      go (yes e) = rw e (sym (upto-all 128 (rings n adj) (rings-lawful n adj) few))
+      go (no other) = rw (ne-eqb kind 0 other, ne-eqb kind 1 d, lt-leb kind 1 (omega arith))
+
+  pub family-paths : kind ≡ 1 → n ≤ 128 → familyBy n table kind s t ≡ pathsBy n table s t
   unfolding familyBy familyIn
-  family-paths d = rw (ne-eqb kind 0 d)
+  family-paths e few =
+      let adj = linkedBy table in
+      rw e (sym (upto-all 128 (paths n adj s t) (paths-lawful n adj s t) few))
+
+  pub most-paths : kind ≡ 1 → mostAtoms kind s ≡ 128
+  most-paths e = rw e
 
   pub family-by-lawful : Lawful (familyBy n table kind s t)
   unfolding familyBy
@@ -48,24 +66,36 @@ module _ (n : ℕ) (table : List ℕ) (kind s t : ℕ) where
   unfolding familyBy
   family-by-atoms = family-in-atoms n (linkedBy table) kind s t
 
-  pub kind-ends : (kind ≡ 0 → ⊥) → kindKept n kind s t ≡ true → endsKept n s t ≡ true
-  kind-ends d e = go (kind-facts n kind s t e)
+  pub kind-ends : kind ≡ 1 → kindKept n kind s t ≡ true → endsKept n s t ≡ true
+  kind-ends one e = go (kind-facts n kind s t e)
     where
       go : KindFacts n kind s t → endsKept n s t ≡ true
-      go (inl f) = absurd (d (f .0))
-      go (inr f) = ends-of n s t (f .1)
+      go (inl f) = absurd (omega arith)
+      go (inr (inl f)) = ends-of n s t (f .1)
+      go (inr (inr f)) = absurd (omega arith)
+
+  -- every kind has room for the first two atoms of a ring
+  pub most-room : kindKept n kind s t ≡ true → 2 ≤ mostAtoms kind s
+  most-room e = go (kind-facts n kind s t e)
+    where
+      go : KindFacts n kind s t → 2 ≤ mostAtoms kind s
+      go (inl f) = rw (f .0) (omega arith)
+      go (inr (inl f)) = rw (f .0) (omega arith)
+      go (inr (inr (two, bound, t-zero))) =
+          let (low, high) = bound-facts bound in
+          rw two (omega arith)
 
 -- the first length of each kind
-pub first-of-rings : (kind : ℕ) → kind ≡ 0 → firstLength kind ≡ 2
-first-of-rings kind e = rw (eq-eqb kind 0 e)
+pub first-of-rings : (kind : ℕ) → (kind ≡ 1 → ⊥) → firstLength kind ≡ 2
+first-of-rings kind d = rw (ne-eqb kind 1 d)
 
-pub first-of-paths : (kind : ℕ) → (kind ≡ 0 → ⊥) → firstLength kind ≡ 1
-first-of-paths kind d = rw (ne-eqb kind 0 d)
+pub first-of-paths : (kind : ℕ) → kind ≡ 1 → firstLength kind ≡ 1
+first-of-paths kind e = rw (eq-eqb kind 1 e)
 
 pub first-few : (kind : ℕ) → firstLength kind ≤ 2
-first-few kind = go (eqb kind 0)
+first-few kind = go (eqb kind 1)
   where
-    go : (b : Bool) → cond b 2 1 ≤ 2
+    go : (b : Bool) → cond b 1 2 ≤ 2
     go true = omega arith
     go false = omega arith
 
@@ -107,14 +137,14 @@ module _ {atom : ℕ} {set : ℕ → Bool} where
 
 -- the first atom ahead is the first that opens
 first-alone :
-    {n : ℕ} {table : List ℕ} {c a : ℕ} {plan : Plan} (opens : List ℕ) →
-    FirstAhead n table c (record { plan = plan; atom = a }) → 1 ≤ c →
+    {n : ℕ} {table : List ℕ} {most c a : ℕ} {plan : Plan} (opens : List ℕ) →
+    FirstAhead n table most c (record { plan = plan; atom = a }) → 1 ≤ c →
     ((v : ℕ) → has opens v ≡ (leb 1 v && eqb v a)) → (v : ℕ) → c ≤ v →
-    ((u : ℕ) → c ≤ u → u < v → has opens u ≡ false) → has opens v ≡ isOpen (rings n (linkedBy table)) (v ∷ [])
-first-alone {n} {table} {c} {a} opens k low opens-is v l shut =
+    ((u : ℕ) → c ≤ u → u < v → has opens u ≡ false) → has opens v ≡ isOpen (ringsBy n table most) (v ∷ [])
+first-alone {n} {table} {most} {c} {a} opens k low opens-is v l shut =
     opens-is v ∙ rw (le-leb 1 v (omega arith)) (go (ℕ-discrete a 0) (decLt v a) (decLt a v))
   where
-    go : Dec (a ≡ 0) → Dec (v < a) → Dec (a < v) → eqb v a ≡ isOpen (rings n (linkedBy table)) (v ∷ [])
+    go : Dec (a ≡ 0) → Dec (v < a) → Dec (a < v) → eqb v a ≡ isOpen (ringsBy n table most) (v ∷ [])
     go (yes none) d e = ne-eqb v a (λ q. omega arith) ∙ sym (k .none none v l)
     go (no some) (yes below) e = ne-eqb v a (λ q. omega arith) ∙ sym (k .before v l below)
     go (no some) (no other) (yes above) =
@@ -124,24 +154,24 @@ first-alone {n} {table} {c} {a} opens k low opens-is v l shut =
         let same : v ≡ a = omega arith in
         eq-eqb v a same ∙ sym (rw same (k .begins (omega arith)))
 
-module _ {n : ℕ} {table prefix : List ℕ} {len c : ℕ} {first : FirstPlan}
-    (q : ShortRing n table prefix len c first) where
+module _ {n : ℕ} {table : List ℕ} {most : ℕ} {prefix : List ℕ} {len c : ℕ} {first : FirstPlan}
+    (q : ShortRing n table most prefix len c first) where
   abbrev FoundHere : Found → Type 0
-  FoundHere found = FoundAt (rings n (linkedBy table)) (take len prefix) c found
+  FoundHere found = FoundAt (ringsBy n table most) (take len prefix) c found
 
-  pub next-atom : OneAtom n table c
-  next-atom = record { words = q .words; low = q .low; high = q .high }
+  pub next-atom : OneAtom n table most c
+  next-atom = record { words = q .words; room = q .room; low = q .low; high = q .high }
 
   -- at the empty beginning
   pub start-found :
       {none opens : List ℕ} {ahead : FirstPlan} → len ≡ 0 → ((v : ℕ) → has none v ≡ false) →
-      FirstAhead n table c ahead → ((v : ℕ) → has opens v ≡ (leb 1 v && eqb v (ahead .atom))) →
+      FirstAhead n table most c ahead → ((v : ℕ) → has opens v ≡ (leb 1 v && eqb v (ahead .atom))) →
       FoundHere (record { plan = record { members = none; opens = opens }; first = ahead })
   start-found {opens = opens} empty none-is k opens-is =
       record {
         planned = rw (none-taken prefix empty)
             (planned-ahead (λ v l shut. record {
-              members = none-is v ∙ sym (ring-not-short n (linkedBy table) [] v (omega arith));
+              members = none-is v ∙ sym (ring-by-not-short n table most [] v (omega arith));
               opens = first-alone opens k (q .low) opens-is v l shut;
             }));
         tells = k .tells;
@@ -152,12 +182,12 @@ module _ {n : ℕ} {table prefix : List ℕ} {len c : ℕ} {first : FirstPlan}
     one-atom : take len prefix ≡ atomAt prefix 0 ∷ []
     one-atom = let one : len ≡ 1 = omega (arith, q .short) in rw one (one-taken prefix (q .size))
 
-    pub first-atom : {a : ℕ} → a ≡ atomAt prefix 0 → OneAtom n table a
+    pub first-atom : {a : ℕ} → a ≡ atomAt prefix 0 → OneAtom n table most a
     first-atom e =
         let short : len ≤ 128 = omega (arith, q .short) in
-        let (low, high) =
-        open-atoms prefix len (rings-lawful n (linkedBy table)) refl (q .size) short (q .isOpened) 0 (omega arith) in
-        record { words = q .words; low = rw e low; high = rw e high }
+        let L = rings-by-lawful n table most in
+        let (low, high) = open-atoms prefix len L refl (q .size) short (q .isOpened) 0 (omega arith) in
+        record { words = q .words; room = q .room; low = rw e low; high = rw e high }
 
     -- the plan that is kept is of this atom
     pub kept-found : atomAt prefix 0 ≡ first .atom → FoundHere (record { plan = first .plan; first = first })
@@ -167,7 +197,7 @@ module _ {n : ℕ} {table prefix : List ℕ} {len c : ℕ} {first : FirstPlan}
 
     -- a new plan
     pub made-found :
-        {made : FirstPlan} → FirstOf n table (atomAt prefix 0) made →
+        {made : FirstPlan} → FirstOf n table most (atomAt prefix 0) made →
         FoundHere (record { plan = made .plan; first = made })
     made-found k =
         record { planned = rw one-atom (planned-every (k .tells)); tells = λ low. rw (k .atom-is) (k .tells) }
@@ -176,9 +206,9 @@ module _ {n : ℕ} {table prefix : List ℕ} {len c : ℕ} {first : FirstPlan}
 
 pub path-ends :
     {n : ℕ} {table : List ℕ} {kind s t : ℕ} {prefix : List ℕ} {len : ℕ} → Beginning n table kind s t prefix len →
-    (kind ≡ 0 → ⊥) → TwoEnds n table s t
-path-ends {n} {table} {kind} {s} {t} b d =
-    record { words = b .words; ends = kind-ends n table kind s t d (b .kinds) }
+    kind ≡ 1 → TwoEnds n table s t
+path-ends {n} {table} {kind} {s} {t} b e =
+    record { words = b .words; ends = kind-ends n table kind s t e (b .kinds) }
 
 module _ {n : ℕ} {table : List ℕ} {kind s t : ℕ} {prefix : List ℕ} {len c : ℕ} {first : FirstPlan}
     (q : Planning n table kind s t prefix len c first) where
@@ -192,12 +222,15 @@ module _ {n : ℕ} {table : List ℕ} {kind s t : ℕ} {prefix : List ℕ} {len 
   steered-found k = record { planned = planned-every k; tells = q .tells }
 
   -- a ring search
-  module _ (e : kind ≡ 0) where
-    pub ring-asked : len < firstLength kind → ShortRing n table prefix len c first
+  module _ (d : kind ≡ 1 → ⊥) {most : ℕ} (most-is : most ≡ mostAtoms kind s) where
+    same : familyBy n table kind s t ≡ ringsBy n table most
+    same = rw most-is (family-rings n table kind s t d (q .begun .words .few))
+
+    pub ring-asked : len < firstLength kind → ShortRing n table most prefix len c first
     ring-asked short =
-        let same = family-rings n table kind s t e in
         record {
           words = q .begun .words;
+          room = rw most-is (most-room n table kind s t (q .begun .kinds));
           size = q .begun .size;
           short = omega (arith, first-few kind);
           isOpened = rw same at (q .begun .isOpened);
@@ -206,22 +239,22 @@ module _ {n : ℕ} {table : List ℕ} {kind s t : ℕ} {prefix : List ℕ} {len 
           tells = rw same at (q .tells);
         }
 
-    pub ring-found : {found : Found} → FoundAt (rings n (linkedBy table)) (take len prefix) c found → FoundBy found
-    ring-found k = rw (family-rings n table kind s t e) k
+    pub ring-found : {found : Found} → FoundAt (ringsBy n table most) (take len prefix) c found → FoundBy found
+    ring-found k = rw same k
 
   -- a path search, at the empty beginning
   pub path-found :
-      {none opens : List ℕ} → (kind ≡ 0 → ⊥) → len < firstLength kind → ((v : ℕ) → has none v ≡ false) →
+      {none opens : List ℕ} → kind ≡ 1 → len < firstLength kind → ((v : ℕ) → has none v ≡ false) →
       PathFirsts n table s t opens → FoundBy (record { plan = record { members = none; opens = opens }; first = first })
-  path-found {none} {opens} d before none-is opens-is = record { planned = planned; tells = q .tells }
+  path-found {none} {opens} e before none-is opens-is = record { planned = planned; tells = q .tells }
     where
       planned : Planned (familyBy n table kind s t) (take len prefix) c (record { members = none; opens = opens })
       planned =
-          let empty : len ≡ 0 = omega (arith, first-of-paths kind d) in
-          let differ = ends-facts n s t (path-ends (q .begun) d .ends) .differ in
-          rw (family-paths n table kind s t d, none-taken prefix empty)
+          let empty : len ≡ 0 = omega (arith, first-of-paths kind e) in
+          let differ = ends-facts n s t (path-ends (q .begun) e .ends) .differ in
+          rw (family-paths n table kind s t e (q .begun .words .few), none-taken prefix empty)
           (planned-every
           (λ v. record {
-            members = none-is v ∙ sym (path-not-one n (linkedBy table) s t v differ);
+            members = none-is v ∙ sym (rw (path-not-one n (linkedBy table) s t v differ));
             opens = opens-is v;
           }))

@@ -1,22 +1,25 @@
 -- Openness of a beginning of one atom or two of a ring, from what sweeps tell: a second atom opens when it reaches a
 -- higher one. By `ring-opens-one` and `ring-opens-none`; a loop over the second atoms takes each as the last one, from
 -- the lowest on, and one over the first atoms stops at the first that begins a ring.
-use Prim.Native.Nat.{ℕ, _+_, _≤_, _<_}
+use Prim.Native.Nat.{ℕ, _+_, _-_, _≤_, _<_}
 use native.Mathlib.Decide.{decLt}
 use native.Mathlib.Omega.{arith}
 use mathlib.Core.Path.{_≡_, refl, sym, _∙_}
 use mathlib.Core.Bool.{Bool, true, false, _&&_, _||_, not}
-use mathlib.Core.List.{List, [], _∷_}
+use mathlib.Core.List.{List, [], _∷_, _++_}
 use mathlib.Core.Logic.{_⊎_, inl, inr}
+use lib.ListN.{length}
 use lib.Dec.{leb, ltb, eqb}
 use borrow.Author.Tests.{lt-ltb, ltb-true, le-leb, leb-true, eq-eqb, ne-eqb, eqb-true, eqb-false, not-true}
 use Rattle.graph.proofs.Below.{clash, false-of, true-of, and-parts, same-test}
 use Rattle.graph.proofs.All as all
 use Rattle.enumeration.specs.Words.{isOpen}
+use Rattle.enumeration.specs.Lawful.{Lawful}
 use Rattle.enumeration.proofs.Basics.{or-either, or-right, or-neither}
 use Rattle.chordless.specs.Families.{rings}
 use Rattle.chordless.specs.Reach.{Walk, clear, free}
 use Rattle.chordless.proofs.Touch.{touches-facts, touches-of, closing-facts, closing-of}
+use Rattle.chordless.proofs.UpTo.{upto-lawful}
 use Rattle.chordless.proofs.Lawful.{rings-lawful}
 use Rattle.chordless.proofs.Rings.{ring-opens-one, ring-opens-none, ring-not-short}
 use Rattle.atomset.specs.Set.{has, linkedBy, Lowest, Emptiness}
@@ -24,9 +27,13 @@ use Rattle.sweep.specs.Swept.{Reached}
 use Rattle.sweep.proofs.Walks.{reached-same}
 use Rattle.search.proofs.Readings.{open-range}
 use Rattle.openness.specs.declared.Plan.{Plan}
-use Rattle.openness.specs.Plan.{Everywhere}
+use Rattle.openness.specs.Plan.{ringsBy, Everywhere}
 use Rattle.openness.specs.Parts.{OneAtom, TwoAtoms, FirstAhead}
 use Rattle.openness.proofs.Counts.{TakesLowest, taken-off, taken-within}
+
+-- rings of at most so many atoms are a family that the theory of a search is about
+pub rings-by-lawful : (n : ℕ) (table : List ℕ) (most : ℕ) → Lawful (ringsBy n table most)
+rings-by-lawful n table most = upto-lawful most (rings n (linkedBy table)) (rings-lawful n (linkedBy table))
 
 -- ---- two atoms
 
@@ -36,12 +43,13 @@ pub record Second (n : ℕ) (table : List ℕ) (s v : ℕ) : Type 0 where
   pub range : v ≤ n
   pub bond : linkedBy table s v ≡ true
 
--- from it, a higher one is reached through the atoms above s that are not bonded to s: it may come last
-pub record Reaching (n : ℕ) (table : List ℕ) (s v last : ℕ) : Type 0 where
+-- from it, a higher one is reached through the atoms above s that are not bonded to s, in as many steps as a ring of at
+-- most so many atoms leaves: it may come last
+pub record Reaching (n : ℕ) (table : List ℕ) (most s v last : ℕ) : Type 0 where
   pub second : Second n table s v
   pub closing : Second n table s last
   pub higher : v < last
-  pub reached : Walk (linkedBy table) (free n (linkedBy table) s (s ∷ [])) last v
+  pub reached : Walk (linkedBy table) (free n (linkedBy table) s (s ∷ [])) last (most - 2) v
 
 -- the test of an atom above x that is bonded to s
 module _ {n : ℕ} (table : List ℕ) (s : ℕ) {x v : ℕ} where
@@ -55,12 +63,12 @@ module _ {n : ℕ} (table : List ℕ) (s : ℕ) {x v : ℕ} where
   bonded-of : x < v → v ≤ n → linkedBy table s v ≡ true → ltb x v && leb v n && linkedBy table s v ≡ true
   bonded-of above high bond = rw (lt-ltb x v above, le-leb v n high) bond
 
-module _ {n : ℕ} {table : List ℕ} {s : ℕ} (b : OneAtom n table s) where
+module _ {n : ℕ} {table : List ℕ} {most s : ℕ} (b : OneAtom n table most s) where
   -- it opens exactly when it reaches one
-  pub reaching-opens : {v last : ℕ} → Reaching n table s v last → isOpen (rings n (linkedBy table)) (s ∷ v ∷ []) ≡ true
+  pub reaching-opens : {v last : ℕ} → Reaching n table most s v last → isOpen (ringsBy n table most) (s ∷ v ∷ []) ≡ true
   reaching-opens {v} {last} k =
       let end = k .closing in
-      ring-opens-one n (linkedBy table) (b .words .irreflexive) s v (b .low) .1
+      ring-opens-one n (linkedBy table) (b .words .irreflexive) most s v (b .low) .1
       (record {
         above = k .second .above;
         range = k .second .range;
@@ -71,9 +79,9 @@ module _ {n : ℕ} {table : List ℕ} {s : ℕ} (b : OneAtom n table s) where
       })
 
   pub opens-reaching :
-      {v : ℕ} → isOpen (rings n (linkedBy table)) (s ∷ v ∷ []) ≡ true → (last : ℕ) × Reaching n table s v last
+      {v : ℕ} → isOpen (ringsBy n table most) (s ∷ v ∷ []) ≡ true → (last : ℕ) × Reaching n table most s v last
   opens-reaching {v} e =
-      let o = ring-opens-one n (linkedBy table) (b .words .irreflexive) s v (b .low) .0 e in
+      let o = ring-opens-one n (linkedBy table) (b .words .irreflexive) most s v (b .low) .0 e in
       let bond = touches-facts (linkedBy table) (s ∷ []) v (o .touches) in
       let (higher, high, closes, clear) = closing-facts (linkedBy table) n s [] v (o .last) (o .closes) in
       let above : s < o .last = omega (arith, o .above) in (
@@ -86,72 +94,75 @@ module _ {n : ℕ} {table : List ℕ} {s : ℕ} (b : OneAtom n table s) where
         },
       )
 
-  pub pair-above : (v : ℕ) → v ≤ s → isOpen (rings n (linkedBy table)) (s ∷ v ∷ []) ≡ false
+  pub pair-above : (v : ℕ) → v ≤ s → isOpen (ringsBy n table most) (s ∷ v ∷ []) ≡ false
   pair-above v h =
-      false-of (isOpen (rings n (linkedBy table)) (s ∷ v ∷ []))
+      false-of (isOpen (ringsBy n table most) (s ∷ v ∷ []))
       (λ e. omega (arith, opens-reaching e .1 .second .above))
 
   pub pair-bonded :
-      (v : ℕ) → linkedBy table s v ≡ false → isOpen (rings n (linkedBy table)) (s ∷ v ∷ []) ≡ false
+      (v : ℕ) → linkedBy table s v ≡ false → isOpen (ringsBy n table most) (s ∷ v ∷ []) ≡ false
   pair-bonded v h =
-      false-of (isOpen (rings n (linkedBy table)) (s ∷ v ∷ []))
+      false-of (isOpen (ringsBy n table most) (s ∷ v ∷ []))
       (λ e. clash (linkedBy table s v) (opens-reaching e .1 .second .bond) h)
 
   -- one opens: some ring begins with s
   pub start-some :
-      (v : ℕ) → isOpen (rings n (linkedBy table)) (s ∷ v ∷ []) ≡ true →
-      isOpen (rings n (linkedBy table)) (s ∷ []) ≡ true
+      (v : ℕ) → isOpen (ringsBy n table most) (s ∷ v ∷ []) ≡ true →
+      isOpen (ringsBy n table most) (s ∷ []) ≡ true
   start-some v e =
       let irr = b .words .irreflexive in
-      ring-opens-none n (linkedBy table) irr s .1 (v, b .low, ring-opens-one n (linkedBy table) irr s v (b .low) .0 e)
+      let opens = ring-opens-one n (linkedBy table) irr most s v (b .low) .0 e in
+      ring-opens-none n (linkedBy table) irr most s .1 (v, b .low, opens)
 
   -- none opens: no ring begins with s
   pub start-none :
-      ((v : ℕ) → isOpen (rings n (linkedBy table)) (s ∷ v ∷ []) ≡ false) →
-      isOpen (rings n (linkedBy table)) (s ∷ []) ≡ false
+      ((v : ℕ) → isOpen (ringsBy n table most) (s ∷ v ∷ []) ≡ false) →
+      isOpen (ringsBy n table most) (s ∷ []) ≡ false
   start-none shut =
       let irr = b .words .irreflexive in
-      false-of (isOpen (rings n (linkedBy table)) (s ∷ []))
-      (λ e. let (v, low, o) = ring-opens-none n (linkedBy table) irr s .0 e in
-      clash (isOpen (rings n (linkedBy table)) (s ∷ v ∷ [])) (ring-opens-one n (linkedBy table) irr s v low .1 o)
+      false-of (isOpen (ringsBy n table most) (s ∷ []))
+      (λ e. let (v, low, o) = ring-opens-none n (linkedBy table) irr most s .0 e in
+      clash (isOpen (ringsBy n table most) (s ∷ v ∷ [])) (ring-opens-one n (linkedBy table) irr most s v low .1 o)
       (shut v))
 
-pub first-of : {n : ℕ} {table : List ℕ} {s v : ℕ} → TwoAtoms n table s v → OneAtom n table s
-first-of b = record { words = b .words; low = b .first-low; high = b .first-high }
+pub first-of : {n : ℕ} {table : List ℕ} {most s v : ℕ} → TwoAtoms n table s v × (2 ≤ most) → OneAtom n table most s
+first-of (b, room) = record { words = b .words; room = room; low = b .first-low; high = b .first-high }
 
 -- a sweep through the atoms above s that are not bonded to s
-module _ (n : ℕ) (table : List ℕ) (s : ℕ) {between targets want swept : ℕ → Bool}
+module _ (n : ℕ) (table : List ℕ) (s : ℕ) {between targets : ℕ → Bool} {steps : ℕ} {want swept : ℕ → Bool}
     (between-is : (u : ℕ) → between u ≡ (ltb s u && leb u n && not (linkedBy table s u)))
-    (swept-is : Reached (linkedBy table) between targets want swept) where
+    (swept-is : Reached (linkedBy table) between targets steps want swept) where
   between-one : (u : ℕ) → between u ≡ free n (linkedBy table) s (s ∷ []) u
   unfolding free clear
   between-one u = between-is u
 
-  sweeps : Reached (linkedBy table) (free n (linkedBy table) s (s ∷ [])) targets want swept
+  sweeps : Reached (linkedBy table) (free n (linkedBy table) s (s ∷ [])) targets steps want swept
   sweeps = reached-same (λ a b. refl) between-one (λ u. refl) swept-is
 
 -- of which the second atom v is the sole candidate
-module _ {n : ℕ} {table : List ℕ} {s v : ℕ} {targets between want swept : ℕ → Bool} (b : TwoAtoms n table s v)
+module _ {n : ℕ} {table : List ℕ} {most s v : ℕ} {targets between want swept : ℕ → Bool}
+    (b : TwoAtoms n table s v × (2 ≤ most))
     (targets-is : (u : ℕ) → targets u ≡ (ltb v u && leb u n && linkedBy table s u))
     (between-is : (u : ℕ) → between u ≡ (ltb s u && leb u n && not (linkedBy table s u)))
-    (want-is : (u : ℕ) → want u ≡ eqb u v) (swept-is : Reached (linkedBy table) between targets want swept) where
-  pub pair-told : s < v → linkedBy table s v ≡ true → swept v ≡ isOpen (rings n (linkedBy table)) (s ∷ v ∷ [])
-  pair-told above bond = same-test (swept v) (isOpen (rings n (linkedBy table)) (s ∷ v ∷ [])) to back
+    (want-is : (u : ℕ) → want u ≡ eqb u v)
+    (swept-is : Reached (linkedBy table) between targets (most - 2) want swept) where
+  pub pair-told : s < v → linkedBy table s v ≡ true → swept v ≡ isOpen (ringsBy n table most) (s ∷ v ∷ [])
+  pair-told above bond = same-test (swept v) (isOpen (ringsBy n table most) (s ∷ v ∷ [])) to back
     where
-      to : swept v ≡ true → isOpen (rings n (linkedBy table)) (s ∷ v ∷ []) ≡ true
+      to : swept v ≡ true → isOpen (ringsBy n table most) (s ∷ v ∷ []) ≡ true
       to e =
           let (wanted, reaches) = sweeps n table s between-is swept-is v .0 e in
           let (last, target, walk) = reaches in
           let (higher, high, closes) = bonded-facts table s (sym (targets-is last) ∙ target) in
           reaching-opens (first-of b)
           (record {
-            second = record { above = above; range = b .second-high; bond = bond };
+            second = record { above = above; range = b .0 .second-high; bond = bond };
             closing = record { above = omega arith; range = high; bond = closes };
             higher = higher;
             reached = walk;
           })
 
-      back : isOpen (rings n (linkedBy table)) (s ∷ v ∷ []) ≡ true → swept v ≡ true
+      back : isOpen (ringsBy n table most) (s ∷ v ∷ []) ≡ true → swept v ≡ true
       back e =
           let (last, k) = opens-reaching (first-of b) e in
           let target = targets-is last ∙ bonded-of table s (k .higher) (k .closing .range) (k .closing .bond) in
@@ -161,20 +172,20 @@ module _ {n : ℕ} {table : List ℕ} {s v : ℕ} {targets between want swept : 
 
 -- Of the atoms that may come second, those in `left` are not yet taken as the last one. Of the others, those in `found`
 -- open, and one in `shut` reaches no higher one but those that are left
-pub record Sifted (n : ℕ) (table : List ℕ) (s : ℕ) (left shut found : List ℕ) : Type 0 where
+pub record Sifted (n : ℕ) (table : List ℕ) (most s : ℕ) (left shut found : List ℕ) : Type 0 where
   pub left-second : (v : ℕ) → has left v ≡ true → Second n table s v
   pub shut-second : (v : ℕ) → has shut v ≡ true → Second n table s v
   pub shut-lower : (v w : ℕ) → has shut v ≡ true → has left w ≡ true → v < w
-  pub found-opens : (v : ℕ) → has found v ≡ true → isOpen (rings n (linkedBy table)) (s ∷ v ∷ []) ≡ true
+  pub found-opens : (v : ℕ) → has found v ≡ true → isOpen (ringsBy n table most) (s ∷ v ∷ []) ≡ true
   pub others :
-      (v last : ℕ) → Reaching n table s v last → has found v ≡ false →
+      (v last : ℕ) → Reaching n table most s v last → has found v ≡ false →
       (has left last ≡ true) × (has left v || has shut v ≡ true)
 
 pub sifted-start :
-    {n : ℕ} {table : List ℕ} {s : ℕ} {all shut found : List ℕ} →
+    {n : ℕ} {table : List ℕ} {most s : ℕ} {all shut found : List ℕ} →
     ((v : ℕ) → has all v ≡ (ltb s v && leb v n && linkedBy table s v)) → ((v : ℕ) → has shut v ≡ false) →
-    ((v : ℕ) → has found v ≡ false) → Sifted n table s all shut found
-sifted-start {n} {table} {s} {all} {shut} {found} all-is shut-none found-none =
+    ((v : ℕ) → has found v ≡ false) → Sifted n table most s all shut found
+sifted-start {n} {table} {most} {s} {all} {shut} {found} all-is shut-none found-none =
     record {
       left-second = λ v e.
           let (above, range, bond) = bonded-facts table s (sym (all-is v) ∙ e) in
@@ -189,25 +200,26 @@ sifted-start {n} {table} {s} {all} {shut} {found} all-is shut-none found-none =
     listed v k = all-is v ∙ bonded-of table s (k .above) (k .range) (k .bond)
 
 -- a turn: the lowest atom that is left is taken as the last one; `more` are those of `shut` from which it is reached
-pub record SiftingTurn (n : ℕ) (table : List ℕ) (s : ℕ) (left shut found rest closed opened : List ℕ) : Type 0 where
-  pub atom : OneAtom n table s
-  pub sifted : Sifted n table s left shut found
-  pub last : ℕ
-  pub alone : List ℕ
-  pub between : List ℕ
-  pub more : List ℕ
-  pub fewer : List ℕ
-  pub takes : TakesLowest left rest last
-  pub alone-is : (v : ℕ) → has alone v ≡ eqb v last
-  pub between-is : (v : ℕ) → has between v ≡ (ltb s v && leb v n && not (linkedBy table s v))
-  pub more-is : Reached (linkedBy table) (has between) (has alone) (has shut) (has more)
-  pub opened-is : (v : ℕ) → has opened v ≡ (has found v || has more v)
-  pub fewer-is : (v : ℕ) → has fewer v ≡ (has shut v && not (has more v))
-  pub closed-is : (v : ℕ) → has closed v ≡ (has fewer v || has alone v)
+pub record SiftingTurn (n : ℕ) (table : List ℕ) (most s : ℕ) (left shut found rest closed opened : List ℕ) : Type 0
+  where
+    pub atom : OneAtom n table most s
+    pub sifted : Sifted n table most s left shut found
+    pub last : ℕ
+    pub alone : List ℕ
+    pub between : List ℕ
+    pub more : List ℕ
+    pub fewer : List ℕ
+    pub takes : TakesLowest left rest last
+    pub alone-is : (v : ℕ) → has alone v ≡ eqb v last
+    pub between-is : (v : ℕ) → has between v ≡ (ltb s v && leb v n && not (linkedBy table s v))
+    pub more-is : Reached (linkedBy table) (has between) (has alone) (most - 2) (has shut) (has more)
+    pub opened-is : (v : ℕ) → has opened v ≡ (has found v || has more v)
+    pub fewer-is : (v : ℕ) → has fewer v ≡ (has shut v && not (has more v))
+    pub closed-is : (v : ℕ) → has closed v ≡ (has fewer v || has alone v)
 
-module _ {n : ℕ} {table : List ℕ} {s : ℕ} {left shut found rest closed opened : List ℕ}
-    (t : SiftingTurn n table s left shut found rest closed opened) where
-  abbrev k : Sifted n table s left shut found
+module _ {n : ℕ} {table : List ℕ} {most s : ℕ} {left shut found rest closed opened : List ℕ}
+    (t : SiftingTurn n table most s left shut found rest closed opened) where
+  abbrev k : Sifted n table most s left shut found
   k = t .sifted
 
   abbrev last : ℕ
@@ -225,7 +237,7 @@ module _ {n : ℕ} {table : List ℕ} {s : ℕ} {left shut found rest closed ope
   rest-has : (v : ℕ) → has left v ≡ true → last < v → has rest v ≡ true
   rest-has v e h = rw (taken-off (t .takes) v, e, ne-eqb v last (λ q. omega arith))
 
-  more-reaching : (v : ℕ) → has (t .more) v ≡ true → Reaching n table s v last
+  more-reaching : (v : ℕ) → has (t .more) v ≡ true → Reaching n table most s v last
   more-reaching v e =
       let (in-shut, reaches) = sweeps n table s (t .between-is) (t .more-is) v .0 e in
       let (end, target, walk) = reaches in
@@ -238,7 +250,7 @@ module _ {n : ℕ} {table : List ℕ} {s : ℕ} {left shut found rest closed ope
       }
 
   -- one in `shut` that is not among `more` does not reach it
-  not-last : (v end : ℕ) → Reaching n table s v end → has shut v ≡ true → has (t .more) v ≡ false → end ≡ last → ⊥
+  not-last : (v end : ℕ) → Reaching n table most s v end → has shut v ≡ true → has (t .more) v ≡ false → end ≡ last → ⊥
   not-last v end r in-shut not-more same =
       let target = t .alone-is end ∙ eq-eqb end last same in
       let swept = sweeps n table s (t .between-is) (t .more-is) v .1 (in-shut, (end, target, r .reached)) in
@@ -262,7 +274,7 @@ module _ {n : ℕ} {table : List ℕ} {s : ℕ} {left shut found rest closed ope
     | inr same ↦ rw same (rest-higher w l)
   ]
 
-  opened-opens : (v : ℕ) → has opened v ≡ true → isOpen (rings n (linkedBy table)) (s ∷ v ∷ []) ≡ true
+  opened-opens : (v : ℕ) → has opened v ≡ true → isOpen (ringsBy n table most) (s ∷ v ∷ []) ≡ true
   opened-opens v e = elim (or-either (has found v) (has (t .more) v) (sym (t .opened-is v) ∙ e)) [
     | inl in-found ↦ k .found-opens v in-found
     | inr in-more ↦ reaching-opens (t .atom) (more-reaching v in-more)
@@ -272,7 +284,7 @@ module _ {n : ℕ} {table : List ℕ} {s : ℕ} {left shut found rest closed ope
   abbrev Placed : ℕ → ℕ → Type 0
   Placed v end = (has rest end ≡ true) × (has rest v || has closed v ≡ true)
 
-  from-left : (v end : ℕ) → Reaching n table s v end → has left end ≡ true → has left v ≡ true → Placed v end
+  from-left : (v end : ℕ) → Reaching n table most s v end → has left end ≡ true → has left v ≡ true → Placed v end
   from-left v end r end-left v-left =
       (rest-has end end-left (omega (arith, r .higher, lowest .least v v-left)), go (decLt last v))
     where
@@ -284,7 +296,7 @@ module _ {n : ℕ} {table : List ℕ} {s : ℕ} {left shut found rest closed ope
           or-right (has rest v) (has closed v) (t .closed-is v ∙ joins)
 
   from-shut :
-      (v end : ℕ) → Reaching n table s v end → has left end ≡ true → has shut v ≡ true → has (t .more) v ≡ false →
+      (v end : ℕ) → Reaching n table most s v end → has left end ≡ true → has shut v ≡ true → has (t .more) v ≡ false →
       Placed v end
   from-shut v end r end-left v-shut not-more =
       let differ = not-last v end r v-shut not-more in
@@ -292,7 +304,7 @@ module _ {n : ℕ} {table : List ℕ} {s : ℕ} {left shut found rest closed ope
       let stays : has closed v ≡ true = rw (t .closed-is v, t .fewer-is v, v-shut, not-more) in
       (rest-has end end-left above, or-right (has rest v) (has closed v) stays)
 
-  placed : (v end : ℕ) → Reaching n table s v end → has opened v ≡ false → Placed v end
+  placed : (v end : ℕ) → Reaching n table most s v end → has opened v ≡ false → Placed v end
   placed v end r not-opened =
       let (not-found, not-more) = or-neither (has found v) (has (t .more) v) (sym (t .opened-is v) ∙ not-opened) in
       let (end-left, place) = k .others v end r not-found in
@@ -301,7 +313,7 @@ module _ {n : ℕ} {table : List ℕ} {s : ℕ} {left shut found rest closed ope
         | inr v-shut ↦ from-shut v end r end-left v-shut not-more
       ]
 
-  pub sifted-turn : Sifted n table s rest closed opened
+  pub sifted-turn : Sifted n table most s rest closed opened
   sifted-turn =
       record {
         left-second = λ v e. k .left-second v (taken-within (t .takes) v e);
@@ -313,30 +325,36 @@ module _ {n : ℕ} {table : List ℕ} {s : ℕ} {left shut found rest closed ope
 
 -- none is left
 pub sifted-end :
-    {n : ℕ} {table : List ℕ} {s : ℕ} {left shut found : List ℕ} → OneAtom n table s →
-    Sifted n table s left shut found → ((v : ℕ) → has left v ≡ false) →
-    (v : ℕ) → has found v ≡ isOpen (rings n (linkedBy table)) (s ∷ v ∷ [])
+    {n : ℕ} {table : List ℕ} {most s : ℕ} {left shut found : List ℕ} → OneAtom n table most s →
+    Sifted n table most s left shut found → ((v : ℕ) → has left v ≡ false) →
+    (v : ℕ) → has found v ≡ isOpen (ringsBy n table most) (s ∷ v ∷ [])
 sifted-end {left = left} {found = found} b k none v =
     same-test (has found v) _ (k .found-opens v)
     (λ e. let (last, r) = opens-reaching b e in
     true-of (has found v) (λ not-found. clash (has left last) (k .others v last r not-found .0) (none last)))
 
+-- a ring has three atoms or more
+pub ring-by-not-short :
+    (n : ℕ) (table : List ℕ) (most : ℕ) (p : List ℕ) (v : ℕ) → length p ≤ 1 →
+    ringsBy n table most .member (p ++ v ∷ []) ≡ false
+ring-by-not-short n table most p v h = rw (ring-not-short n (linkedBy table) p v h)
+
 -- they are the plan of the beginning s
 pub seconds-tell :
-    {n : ℕ} (table : List ℕ) {s : ℕ} {members opens : List ℕ} → ((v : ℕ) → has members v ≡ false) →
-    ((v : ℕ) → has opens v ≡ isOpen (rings n (linkedBy table)) (s ∷ v ∷ [])) →
-    Everywhere (rings n (linkedBy table)) (s ∷ []) (record { members = members; opens = opens })
-seconds-tell {n} table {s} members-none opens-is v =
+    {n : ℕ} (table : List ℕ) (most : ℕ) {s : ℕ} {members opens : List ℕ} → ((v : ℕ) → has members v ≡ false) →
+    ((v : ℕ) → has opens v ≡ isOpen (ringsBy n table most) (s ∷ v ∷ [])) →
+    Everywhere (ringsBy n table most) (s ∷ []) (record { members = members; opens = opens })
+seconds-tell {n} table most {s} members-none opens-is v =
     record {
-      members = members-none v ∙ sym (ring-not-short n (linkedBy table) (s ∷ []) v (omega arith));
+      members = members-none v ∙ sym (ring-by-not-short n table most (s ∷ []) v (omega arith));
       opens = opens-is v;
     }
 
 -- whether there is one tells whether some ring begins with s
 pub starts-told :
-    {n : ℕ} {table : List ℕ} {s : ℕ} {opens : List ℕ} {empty : Bool} → OneAtom n table s →
-    ((v : ℕ) → has opens v ≡ isOpen (rings n (linkedBy table)) (s ∷ v ∷ [])) → Emptiness opens empty →
-    not empty ≡ isOpen (rings n (linkedBy table)) (s ∷ [])
+    {n : ℕ} {table : List ℕ} {most s : ℕ} {opens : List ℕ} {empty : Bool} → OneAtom n table most s →
+    ((v : ℕ) → has opens v ≡ isOpen (ringsBy n table most) (s ∷ v ∷ [])) → Emptiness opens empty →
+    not empty ≡ isOpen (ringsBy n table most) (s ∷ [])
 starts-told {empty = true} b opens-is k = sym (start-none b (λ v. sym (opens-is v) ∙ k .none refl v))
 starts-told {empty = false} b opens-is k =
     let (v, e) = k .some refl in
@@ -345,25 +363,25 @@ starts-told {empty = false} b opens-is k =
 -- ---- the first atom ahead
 
 -- no atom from c on and below a begins a ring
-pub record NoneBefore (n : ℕ) (table : List ℕ) (c a : ℕ) : Type 0 where
+pub record NoneBefore (n : ℕ) (table : List ℕ) (most c a : ℕ) : Type 0 where
   pub from : c ≤ a
-  pub shut : (v : ℕ) → c ≤ v → v < a → isOpen (rings n (linkedBy table)) (v ∷ []) ≡ false
+  pub shut : (v : ℕ) → c ≤ v → v < a → isOpen (ringsBy n table most) (v ∷ []) ≡ false
 
-pub none-before : {n : ℕ} {table : List ℕ} (c : ℕ) → NoneBefore n table c c
+pub none-before : {n : ℕ} {table : List ℕ} {most : ℕ} (c : ℕ) → NoneBefore n table most c c
 none-before c = record { from = omega arith; shut = λ v l h. absurd (omega arith) }
 
-module _ {n : ℕ} {table : List ℕ} {c a : ℕ} (k : NoneBefore n table c a) where
-  pub none-more : isOpen (rings n (linkedBy table)) (a ∷ []) ≡ false → NoneBefore n table c (a + 1)
+module _ {n : ℕ} {table : List ℕ} {most c a : ℕ} (k : NoneBefore n table most c a) where
+  pub none-more : isOpen (ringsBy n table most) (a ∷ []) ≡ false → NoneBefore n table most c (a + 1)
   none-more e = record { from = omega (arith, k .from); shut = λ v l h. go v l h (decLt v a) }
     where
-      go : (v : ℕ) → c ≤ v → v < a + 1 → Dec (v < a) → isOpen (rings n (linkedBy table)) (v ∷ []) ≡ false
+      go : (v : ℕ) → c ≤ v → v < a + 1 → Dec (v < a) → isOpen (ringsBy n table most) (v ∷ []) ≡ false
       go v l h (yes below) = k .shut v l below
       go v l h (no other) = let same : v ≡ a = omega arith in rw same e
 
   -- the atom a begins one
   pub ahead-first :
-      {plan : Plan} → OneAtom n table a → isOpen (rings n (linkedBy table)) (a ∷ []) ≡ true →
-      Everywhere (rings n (linkedBy table)) (a ∷ []) plan → FirstAhead n table c (record { plan = plan; atom = a })
+      {plan : Plan} → OneAtom n table most a → isOpen (ringsBy n table most) (a ∷ []) ≡ true →
+      Everywhere (ringsBy n table most) (a ∷ []) plan → FirstAhead n table most c (record { plan = plan; atom = a })
   ahead-first b e tells =
       record {
         tells = λ low. tells;
@@ -375,7 +393,7 @@ module _ {n : ℕ} {table : List ℕ} {c a : ℕ} (k : NoneBefore n table c a) w
       }
 
   -- a is past the last atom: none begins one
-  pub ahead-none : {plan : Plan} → n < a → FirstAhead n table c (record { plan = plan; atom = 0 })
+  pub ahead-none : {plan : Plan} → n < a → FirstAhead n table most c (record { plan = plan; atom = 0 })
   ahead-none end =
       record {
         tells = λ low. absurd (omega arith);
@@ -386,9 +404,10 @@ module _ {n : ℕ} {table : List ℕ} {c a : ℕ} (k : NoneBefore n table c a) w
         none = λ zero v l. go v l (decLt v a);
       }
     where
-      go : (v : ℕ) → c ≤ v → Dec (v < a) → isOpen (rings n (linkedBy table)) (v ∷ []) ≡ false
+      go : (v : ℕ) → c ≤ v → Dec (v < a) → isOpen (ringsBy n table most) (v ∷ []) ≡ false
       go v l (yes below) = k .shut v l below
       go v l (no other) =
-          false-of (isOpen (rings n (linkedBy table)) (v ∷ []))
-          (λ o. let range = open-range (rings n (linkedBy table)) (rings-lawful n (linkedBy table)) (v ∷ []) o 0
-          (omega arith) in omega (arith, range))
+          false-of (isOpen (ringsBy n table most) (v ∷ []))
+          (λ o. let L = rings-by-lawful n table most in
+          let range = open-range (ringsBy n table most) L (v ∷ []) o 0 (omega arith) in
+          omega (arith, range))

@@ -1,9 +1,10 @@
 -- The two sets at an open beginning: how they are handed on, which atoms they tell open, and the plan they make.
 -- From the laws of `Steers`; the sets handed on are equal at every atom, so they are equal as functions.
-use Prim.Native.Nat.{ℕ}
+use Prim.Native.Nat.{ℕ, suc, _-_}
 use mathlib.Core.Path.{_≡_, sym, fun-ext, _∙_}
 use mathlib.Core.Bool.{Bool, true, _&&_, not}
 use mathlib.Core.List.{List, [], _∷_, _++_}
+use lib.ListN.{length}
 use Rattle.graph.specs.Chordless.{Adjacency}
 use Rattle.graph.proofs.Below.{clash, false-of, same-test}
 use Rattle.enumeration.specs.Words.{Family, isOpen}
@@ -36,20 +37,21 @@ handed-on row-is goal-is free-is =
 
 -- ---- what opens
 
-module _ {F : Family} {adj : Adjacency} {p : List ℕ} {x : ℕ} {aim next : Aim} {members want : List ℕ}
-    (k : Stepping F adj p x aim next members want) where
+module _ {F : Family} {adj : Adjacency} {most : ℕ} {p : List ℕ} {x : ℕ} {aim next : Aim} {steps : ℕ}
+    {members want : List ℕ} (k : Stepping F adj most p x aim next steps members want) where
   -- the atoms that the sets handed on reach, as those of `Onward`
   abbrev Ahead : ℕ → Type 0
-  Ahead v = Reaches adj (has (next .free)) (has (next .goal)) v
+  Ahead v = Reaches adj (has (next .free)) (has (next .goal)) steps v
 
   abbrev Onwards : ℕ → Type 0
-  Onwards v = Reaches adj (without adj x (has (aim .free))) (without adj x (has (aim .goal))) v
+  Onwards v =
+      Reaches adj (without adj x (has (aim .free))) (without adj x (has (aim .goal))) (most - suc (length p)) v
 
   ahead-onwards : (v : ℕ) → Ahead v → Onwards v
-  ahead-onwards v r = rw (fun-ext (k .handed .free-left), fun-ext (k .handed .goal-left)) at r
+  ahead-onwards v r = rw (fun-ext (k .handed .free-left), fun-ext (k .handed .goal-left), k .left) at r
 
   onwards-ahead : (v : ℕ) → Onwards v → Ahead v
-  onwards-ahead v r = rw (fun-ext (k .handed .free-left), fun-ext (k .handed .goal-left)) r
+  onwards-ahead v r = rw (fun-ext (k .handed .free-left), fun-ext (k .handed .goal-left), k .left) r
 
   -- an atom that opens is a candidate, and something is ahead of it
   opening-wanted : (v : ℕ) → isOpen F (p ++ v ∷ []) ≡ true → has want v ≡ true
@@ -92,7 +94,7 @@ module _ {F : Family} {adj : Adjacency} {p : List ℕ} {x : ℕ} {aim next : Aim
 
   -- otherwise the sweep tells
   pub sweep-opens :
-      {swept : ℕ → Bool} → Reached adj (has (next .free)) (has (next .goal)) (has want) swept → (v : ℕ) →
+      {swept : ℕ → Bool} → Reached adj (has (next .free)) (has (next .goal)) steps (has want) swept → (v : ℕ) →
       swept v ≡ isOpen F (p ++ v ∷ [])
   sweep-opens {swept} reached v =
       same-test (swept v) (isOpen F (p ++ v ∷ [])) (λ h. opens (reached v .0 h))
@@ -108,15 +110,23 @@ module _ {F : Family} {adj : Adjacency} {p : List ℕ} {x : ℕ} {aim next : Aim
 module _ {adj : Adjacency} {x : ℕ} {aim next : Aim} {near : Beside} (handed : HandedOn adj x aim next)
     (k : BesideLast adj x aim near) where
   pub plan-told :
-      {opens : List ℕ} →
-      ((F : Family) (p : List ℕ) (y : ℕ) (before : Aim) → Stepping F adj p y before next (near .members) (near .want) →
+      {steps : ℕ} {opens : List ℕ} →
+      ((F : Family) (most : ℕ) (p : List ℕ) (y : ℕ) (before : Aim) →
+      Stepping F adj most p y before next steps (near .members) (near .want) →
       (v : ℕ) → has opens v ≡ isOpen F (p ++ v ∷ [])) →
-      (F : Family) (p : List ℕ) → Steered F adj p x aim →
+      (F : Family) (most : ℕ) (p : List ℕ) → Steered F adj most p x aim → steps ≡ most - suc (length p) →
       Everywhere F p (record { members = near .members; opens = opens })
-  plan-told opens-is F p steered v =
+  plan-told opens-is F most p steered left v =
       record {
         members = k .members-is v ∙ sym (steers-member (steered .steers) (steered .isOpened) v);
         opens =
-            opens-is F p x aim
-            (record { steered = steered; handed = handed; members-is = k .members-is; want-is = k .want-is }) v;
+            opens-is F most p x aim
+            (record {
+              steered = steered;
+              left = left;
+              handed = handed;
+              members-is = k .members-is;
+              want-is = k .want-is;
+            })
+            v;
       }

@@ -1,13 +1,14 @@
 -- What a trial finds at a beginning, as two sets of atoms, over the word table of a molecule's rows.
-use Prim.Native.Nat.{ℕ, _≤_, _<_}
+use Prim.Native.Nat.{ℕ, suc, _-_, _≤_, _<_}
 use mathlib.Core.Path.{_≡_}
 use mathlib.Core.Bool.{true, false, cond}
 use mathlib.Core.List.{List, [], _∷_, _++_}
 use lib.ListN.{length, take}
-use lib.Dec.{eqb}
+use lib.Dec.{leb, eqb}
 use Rattle.graph.specs.Chordless.{Adjacency}
 use Rattle.enumeration.specs.Words.{Family, isOpen}
 use Rattle.enumeration.specs.Lawful.{Lawful}
+use Rattle.chordless.specs.Families.{rings, paths, upTo}
 use Rattle.chordless.specs.Reach.{Irreflexive}
 use Rattle.chordless.specs.Steers.{without, Steers}
 use Rattle.atomset.specs.Set.{has, linkedBy}
@@ -21,6 +22,21 @@ use Rattle.openness.specs.declared.Found.{Found}
 -- The family of a kind over a word table
 unfoldable pub familyBy : ℕ → List ℕ → ℕ → ℕ → ℕ → Family
 familyBy n table kind s t = familyIn n (linkedBy table) kind s t
+
+-- the most atoms that a member may have: of kind 2 its largest size s; of kinds 0 and 1 128, which no member exceeds
+abbrev pub mostAtoms : ℕ → ℕ → ℕ
+mostAtoms kind s = cond (leb kind 1) 128 s
+
+-- the steps that are left past an atom added to a beginning of `len` atoms
+abbrev pub stepsLeft : ℕ → ℕ → ℕ → ℕ
+stepsLeft kind s len = mostAtoms kind s - suc len
+
+-- the rings of at most so many atoms over a word table, and the paths, of which none has more than 128
+abbrev pub ringsBy : ℕ → List ℕ → ℕ → Family
+ringsBy n table most = upTo most (rings n (linkedBy table))
+
+abbrev pub pathsBy : ℕ → List ℕ → ℕ → ℕ → Family
+pathsBy n table s t = upTo 128 (paths n (linkedBy table) s t)
 
 -- a word table of n atoms
 pub record Words (n : ℕ) (table : List ℕ) : Type 0 where
@@ -74,16 +90,16 @@ pub record FoundAt (F : Family) (p : List ℕ) (c : ℕ) (found : Found) : Type 
 
 -- the length of the shortest beginnings that two sets steer, by the kind
 abbrev pub firstLength : ℕ → ℕ
-firstLength kind = cond (eqb kind 0) 2 1
+firstLength kind = cond (eqb kind 1) 1 2
 
 -- the sets handed on past the last atom x
 pub record HandedOn (adj : Adjacency) (x : ℕ) (aim next : Aim) : Type 0 where
   pub goal-left : (u : ℕ) → has (next .goal) u ≡ without adj x (has (aim .goal)) u
   pub free-left : (u : ℕ) → has (next .free) u ≡ without adj x (has (aim .free)) u
 
--- an open beginning p, with the last atom x, that the sets steer
-pub record Steered (F : Family) (adj : Adjacency) (p : List ℕ) (x : ℕ) (aim : Aim) : Type 0 where
+-- an open beginning p, with the last atom x, that the sets steer to members of at most so many atoms
+pub record Steered (F : Family) (adj : Adjacency) (most : ℕ) (p : List ℕ) (x : ℕ) (aim : Aim) : Type 0 where
   pub lawful : Lawful F
   pub some : 1 ≤ length p
   pub isOpened : isOpen F p ≡ true
-  pub steers : Steers F adj p x (has (aim .goal)) (has (aim .free))
+  pub steers : Steers F adj most p x (has (aim .goal)) (has (aim .free))

@@ -1,19 +1,19 @@
 // Members and open beginnings by sets of atoms (lemma 2 of document 003). Two sets steer a search below a beginning,
 // and are handed on to each longer one; a kind of search supplies the first two.
 use widen::u8_usize;
-ghost use Prim.Native.Nat.{ℕ, _≤_, _-_};
+ghost use Prim.Native.Nat.{ℕ, suc, _-_, _≤_, _<_};
 ghost use mathlib.Core.Path.{_≡_};
 ghost use mathlib.Core.Bool.{true, _&&_};
 ghost use mathlib.Core.List.{List, [], _∷_, _++_};
 ghost use lib.ListN.{length, take, getD};
 ghost use lib.Dec.{leb, eqb};
 ghost use Rattle.enumeration.specs.Words.{Family, isOpen};
-ghost use Rattle.chordless.specs.Families.{rings, paths};
 ghost use Rattle.chordless.specs.Steers.{Steers};
 ghost use Rattle.atomset.specs.Set.{has, linkedBy};
 ghost use Rattle.sweep.specs.Swept.{Symmetric, Reached};
 ghost use Rattle.search.specs.Place.{kindKept};
-ghost use Rattle.openness.specs.Plan.{familyBy, Words, Beginning, Planning, FoundAt, Everywhere, Steered, HandedOn, firstLength};
+ghost use Rattle.openness.specs.Plan.{familyBy, ringsBy, pathsBy, mostAtoms, stepsLeft, firstLength};
+ghost use Rattle.openness.specs.Plan.{Words, Beginning, Planning, FoundAt, Everywhere, Steered, HandedOn};
 ghost use Rattle.openness.specs.Parts.{OneAtom, TwoAtoms, TwoEnds, BesideLast, Stepping, FirstOf, FirstAhead, ShortRing, PathFirsts};
 
 // The atoms that make a member of a beginning, and those that open it.
@@ -51,10 +51,28 @@ struct Beside {
 pub fn first_length(kind: usize) -> usize
     ensures { λ r. ⌜ r ≡ firstLength kind ⌝ }
 {
-    if kind == 0 {
-        return 2;
+    if kind == 1 {
+        return 1;
     }
-    1
+    2
+}
+
+// The most atoms that a member of the kind may have.
+fn most_atoms(kind: usize, s: usize) -> usize
+    ensures { λ r. ⌜ r ≡ mostAtoms kind s ⌝ }
+{
+    if kind <= 1 {
+        return 128;
+    }
+    s
+}
+
+// The steps that are left past an atom added to a beginning of `len` atoms.
+pub fn steps_left(kind: usize, s: usize, len: usize) -> usize
+    requires { ⌜ len < mostAtoms kind s ⌝ }
+    ensures { λ r. ⌜ r ≡ stepsLeft kind s len ⌝ }
+{
+    most_atoms(kind, s) - 1 - len
 }
 
 // The sets handed on past the last atom x: less the atoms bonded to it.
@@ -77,8 +95,9 @@ pub fn aim_after(table: &[u64; 256], aim: Aim, x: usize) -> Aim
 fn ring_aim(table: &[u64; 256], n: usize, s: usize, a: usize) -> Aim
     requires { ⌜ TwoAtoms n (now table) s a ⌝ }
     ensures { λ r. ⌜
-        Steers (rings n (linkedBy (now (table .entry)))) (linkedBy (now (table .entry))) (s ∷ a ∷ []) a
-        (has (r .goal)) (has (r .free)) ⌝ }
+        ((most : ℕ) →
+        Steers (ringsBy n (now (table .entry)) most) (linkedBy (now (table .entry))) most (s ∷ a ∷ []) a
+        (has (r .goal)) (has (r .free))) ⌝ }
 {
     let row = atomset::row(table, s);
     let above = atomset::range(a, n);
@@ -95,7 +114,7 @@ fn ring_aim(table: &[u64; 256], n: usize, s: usize, a: usize) -> Aim
 fn path_aim(table: &[u64; 256], n: usize, s: usize, t: usize) -> Aim
     requires { ⌜ TwoEnds n (now table) s t ⌝ }
     ensures { λ r. ⌜
-        Steers (paths n (linkedBy (now (table .entry))) s t) (linkedBy (now (table .entry))) (s ∷ []) s
+        Steers (pathsBy n (now (table .entry)) s t) (linkedBy (now (table .entry))) 128 (s ∷ []) s
         (has (r .goal)) (has (r .free)) ⌝ }
 {
     let goal = atomset::single(t);
@@ -118,10 +137,10 @@ pub fn first_aim(
 ) -> Aim
     requires { ⌜ Beginning n (now table) kind s t (now prefix) (firstLength kind) ⌝ }
     ensures { λ r. ⌜
-        Steered (familyBy n (now (table .entry)) kind s t) (linkedBy (now (table .entry)))
+        Steered (familyBy n (now (table .entry)) kind s t) (linkedBy (now (table .entry))) (mostAtoms kind s)
         (take (firstLength kind) (now (prefix .entry))) (getD (now (prefix .entry)) (firstLength kind - 1) 0) r ⌝ }
 {
-    if kind != 0 {
+    if kind == 1 {
         return path_aim(table, n, s, t);
     }
     ring_aim(table, n, u8_usize(prefix[0]), u8_usize(prefix[1]))
@@ -139,7 +158,7 @@ pub fn aim_at(
 ) -> Aim
     requires { ⌜ Beginning n (now table) kind s t (now prefix) len × (firstLength kind ≤ len) ⌝ }
     ensures { λ r. ⌜
-        Steered (familyBy n (now (table .entry)) kind s t) (linkedBy (now (table .entry)))
+        Steered (familyBy n (now (table .entry)) kind s t) (linkedBy (now (table .entry))) (mostAtoms kind s)
         (take len (now (prefix .entry))) (getD (now (prefix .entry)) (len - 1) 0) r ⌝ }
 {
     let mut aim = first_aim(table, n, kind, s, t, prefix);
@@ -155,11 +174,17 @@ pub fn aim_at(
 // Of the candidates `want` at an open beginning with these members, those that open it. Where nothing may close a
 // member later, or there is no candidate, none does; where it has no member, a sole candidate opens it, in every
 // family; otherwise one sweep tells.
-fn opening(table: &[u64; 256], next: Aim, members: [u64; 2], want: [u64; 2]) -> [u64; 2]
+fn opening(
+    table: &[u64; 256],
+    next: Aim,
+    members: [u64; 2],
+    want: [u64; 2],
+    steps: usize,
+) -> [u64; 2]
     requires { ⌜ Symmetric (linkedBy (now table)) ⌝ }
     ensures { λ r. ⌜
-        ((F : Family) (p : List ℕ) (x : ℕ) (aim : Aim) →
-        Stepping F (linkedBy (now (table .entry))) p x aim next members want →
+        ((F : Family) (most : ℕ) (p : List ℕ) (x : ℕ) (aim : Aim) →
+        Stepping F (linkedBy (now (table .entry))) most p x aim next steps members want →
         (v : ℕ) → has r v ≡ isOpen F (p ++ v ∷ [])) ⌝ }
 {
     let goal = next.goal;
@@ -175,7 +200,7 @@ fn opening(table: &[u64; 256], next: Aim, members: [u64; 2], want: [u64; 2]) -> 
         }
     }
     let free = next.free;
-    sweep::reached(table, free, goal, want)
+    sweep::reached(table, free, goal, want, steps)
 }
 
 // What the two sets have beside the last atom x: the atoms that make a member, and the candidates.
@@ -194,17 +219,19 @@ fn beside_last(table: &[u64; 256], aim: Aim, x: usize) -> Beside
     }
 }
 
-// The plan of an open beginning that the sets steer, with the last atom x; `next` are the sets handed on.
-pub fn plan_by(table: &[u64; 256], aim: Aim, next: Aim, x: usize) -> Plan
+// The plan of an open beginning that the sets steer, with the last atom x; `next` are the sets handed on, and `steps`
+// are left past an atom added.
+pub fn plan_by(table: &[u64; 256], aim: Aim, next: Aim, x: usize, steps: usize) -> Plan
     requires { ⌜
         Symmetric (linkedBy (now table)) × HandedOn (linkedBy (now table)) x aim next × (1 ≤ x) × (x ≤ 128) ⌝ }
     ensures { λ r. ⌜
-        ((F : Family) (p : List ℕ) → Steered F (linkedBy (now (table .entry))) p x aim → Everywhere F p r) ⌝ }
+        ((F : Family) (most : ℕ) (p : List ℕ) → Steered F (linkedBy (now (table .entry))) most p x aim →
+        steps ≡ most - suc (length p) → Everywhere F p r) ⌝ }
 {
     let near = beside_last(table, aim, x);
     let members = near.members;
     let want = near.want;
-    let opens = opening(table, next, members, want);
+    let opens = opening(table, next, members, want, steps);
     Plan {
         members: members,
         opens: opens,
@@ -213,18 +240,19 @@ pub fn plan_by(table: &[u64; 256], aim: Aim, next: Aim, x: usize) -> Plan
 
 // The same plan by one sweep, whatever the candidates: for the places where single beginnings are planned. The fast
 // loop alone calls `plan_by`, so that it is compiled into the loop.
-fn swept_plan(table: &[u64; 256], aim: Aim, next: Aim, x: usize) -> Plan
+fn swept_plan(table: &[u64; 256], aim: Aim, next: Aim, x: usize, steps: usize) -> Plan
     requires { ⌜
         Symmetric (linkedBy (now table)) × HandedOn (linkedBy (now table)) x aim next × (1 ≤ x) × (x ≤ 128) ⌝ }
     ensures { λ r. ⌜
-        ((F : Family) (p : List ℕ) → Steered F (linkedBy (now (table .entry))) p x aim → Everywhere F p r) ⌝ }
+        ((F : Family) (most : ℕ) (p : List ℕ) → Steered F (linkedBy (now (table .entry))) most p x aim →
+        steps ≡ most - suc (length p) → Everywhere F p r) ⌝ }
 {
     let near = beside_last(table, aim, x);
     let members = near.members;
     let want = near.want;
     let targets = next.goal;
     let through = next.free;
-    let opens = sweep::reached(table, through, targets, want);
+    let opens = sweep::reached(table, through, targets, want, steps);
     Plan {
         members: members,
         opens: opens,
@@ -247,13 +275,14 @@ fn steered_plan(
     let aim = aim_at(table, n, kind, s, t, prefix, len);
     let x = u8_usize(prefix[len - 1]);
     let next = aim_after(table, aim, x);
-    swept_plan(table, aim, next, x)
+    let steps = steps_left(kind, s, len);
+    swept_plan(table, aim, next, x, steps)
 }
 
-// Whether the ring beginning s, v is open.
-fn pair_opens(table: &[u64; 256], n: usize, s: usize, v: usize) -> bool
-    requires { ⌜ TwoAtoms n (now table) s v ⌝ }
-    ensures { λ r. ⌜ r ≡ isOpen (rings n (linkedBy (now (table .entry)))) (s ∷ v ∷ []) ⌝ }
+// Whether the beginning s, v of a ring of at most `most` atoms is open.
+fn pair_opens(table: &[u64; 256], n: usize, most: usize, s: usize, v: usize) -> bool
+    requires { ⌜ TwoAtoms n (now table) s v × (2 ≤ most) ⌝ }
+    ensures { λ r. ⌜ r ≡ isOpen (ringsBy n (now (table .entry)) most) (s ∷ v ∷ []) ⌝ }
 {
     if v <= s {
         return false;
@@ -267,26 +296,34 @@ fn pair_opens(table: &[u64; 256], n: usize, s: usize, v: usize) -> bool
     let targets = atomset::intersection(above, first);
     let free = atomset::minus(low, first);
     let alone = atomset::single(v);
-    let swept = sweep::reached(table, free, targets, alone);
+    let swept = sweep::reached(table, free, targets, alone, most - 2);
     atomset::contains(swept, v)
 }
 
-// Of the atoms of `want`, those from which a target is reached through free atoms; no sweep where none is wanted.
-fn reached_from(table: &[u64; 256], free: [u64; 2], targets: [u64; 2], want: [u64; 2]) -> [u64; 2]
+// Of the atoms of `want`, those from which a target is reached through free atoms in at most `steps` steps; no sweep
+// where none is wanted.
+fn reached_from(
+    table: &[u64; 256],
+    free: [u64; 2],
+    targets: [u64; 2],
+    want: [u64; 2],
+    steps: usize,
+) -> [u64; 2]
     requires { ⌜ Symmetric (linkedBy (now table)) ⌝ }
-    ensures { λ r. ⌜ Reached (linkedBy (now (table .entry))) (has free) (has targets) (has want) (has r) ⌝ }
+    ensures { λ r. ⌜ Reached (linkedBy (now (table .entry))) (has free) (has targets) steps (has want) (has r) ⌝ }
 {
     if atomset::is_empty(want) {
         return want;
     }
-    sweep::reached(table, free, targets, want)
+    sweep::reached(table, free, targets, want, steps)
 }
 
-// The atoms that open the ring beginning s: those above s, bonded to it, from which a higher one is reached through
-// the atoms above s that are not bonded to it. Each of them is taken as the last atom of a ring, from the lowest on.
-fn second_atoms(table: &[u64; 256], n: usize, s: usize) -> [u64; 2]
-    requires { ⌜ OneAtom n (now table) s ⌝ }
-    ensures { λ r. ⌜ ((v : ℕ) → has r v ≡ isOpen (rings n (linkedBy (now (table .entry)))) (s ∷ v ∷ [])) ⌝ }
+// The atoms that open the beginning s of a ring of at most `most` atoms: those above s, bonded to it, from which a
+// higher one is reached through the atoms above s that are not bonded to it, in as many steps as are left. Each of them
+// is taken as the last atom of a ring, from the lowest on.
+fn second_atoms(table: &[u64; 256], n: usize, most: usize, s: usize) -> [u64; 2]
+    requires { ⌜ OneAtom n (now table) most s ⌝ }
+    ensures { λ r. ⌜ ((v : ℕ) → has r v ≡ isOpen (ringsBy n (now (table .entry)) most) (s ∷ v ∷ [])) ⌝ }
 {
     let row = atomset::row(table, s);
     let low = atomset::range(s, n);
@@ -298,7 +335,7 @@ fn second_atoms(table: &[u64; 256], n: usize, s: usize) -> [u64; 2]
     while !atomset::is_empty(left) {
         let rest = atomset::without_lowest(left);
         let last = atomset::lowest_alone(left, rest);
-        let more = reached_from(table, between, last, shut);
+        let more = reached_from(table, between, last, shut, most - 2);
         let opened = atomset::union(found, more);
         found = opened;
         let fewer = atomset::minus(shut, more);
@@ -309,21 +346,21 @@ fn second_atoms(table: &[u64; 256], n: usize, s: usize) -> [u64; 2]
     found
 }
 
-// Whether some ring begins with c.
-fn ring_starts(table: &[u64; 256], n: usize, c: usize) -> bool
-    requires { ⌜ OneAtom n (now table) c ⌝ }
-    ensures { λ r. ⌜ r ≡ isOpen (rings n (linkedBy (now (table .entry)))) (c ∷ []) ⌝ }
+// Whether some ring of at most `most` atoms begins with c.
+fn ring_starts(table: &[u64; 256], n: usize, most: usize, c: usize) -> bool
+    requires { ⌜ OneAtom n (now table) most c ⌝ }
+    ensures { λ r. ⌜ r ≡ isOpen (ringsBy n (now (table .entry)) most) (c ∷ []) ⌝ }
 {
-    !atomset::is_empty(second_atoms(table, n, c))
+    !atomset::is_empty(second_atoms(table, n, most, c))
 }
 
 // The plan of the ring beginning of one atom.
-fn first_plan(table: &[u64; 256], n: usize, atom: u8) -> FirstPlan
-    requires { ⌜ OneAtom n (now table) atom ⌝ }
-    ensures { λ r. ⌜ FirstOf n (now (table .entry)) atom r ⌝ }
+fn first_plan(table: &[u64; 256], n: usize, most: usize, atom: u8) -> FirstPlan
+    requires { ⌜ OneAtom n (now table) most atom ⌝ }
+    ensures { λ r. ⌜ FirstOf n (now (table .entry)) most atom r ⌝ }
 {
     let none = atomset::empty();
-    let opens = second_atoms(table, n, u8_usize(atom));
+    let opens = second_atoms(table, n, most, u8_usize(atom));
     FirstPlan {
         plan: Plan {
             members: none,
@@ -334,14 +371,14 @@ fn first_plan(table: &[u64; 256], n: usize, atom: u8) -> FirstPlan
 }
 
 // The atom from c on that is the first to begin a ring, and its plan; the atom is 0 where there is none.
-fn first_ahead(table: &[u64; 256], n: usize, c: usize) -> FirstPlan
-    requires { ⌜ OneAtom n (now table) c ⌝ }
-    ensures { λ r. ⌜ FirstAhead n (now (table .entry)) c r ⌝ }
+fn first_ahead(table: &[u64; 256], n: usize, most: usize, c: usize) -> FirstPlan
+    requires { ⌜ OneAtom n (now table) most c ⌝ }
+    ensures { λ r. ⌜ FirstAhead n (now (table .entry)) most c r ⌝ }
 {
     let none = atomset::empty();
     let mut a = c;
     while a <= n {
-        let opens = second_atoms(table, n, a);
+        let opens = second_atoms(table, n, most, a);
         if !atomset::is_empty(opens) {
             return FirstPlan {
                 plan: Plan {
@@ -381,13 +418,13 @@ fn path_firsts(table: &[u64; 256], n: usize, s: usize, t: usize) -> [u64; 2]
     let all = atomset::up_to(n);
     let goal = atomset::single(t);
     let alone = atomset::single(s);
-    sweep::reached(table, all, goal, alone)
+    sweep::reached(table, all, goal, alone, 127)
 }
 
 // Whether some path from s to t begins with c.
 fn path_starts(table: &[u64; 256], n: usize, s: usize, t: usize, c: usize) -> bool
     requires { ⌜ TwoEnds n (now table) s t ⌝ }
-    ensures { λ r. ⌜ r ≡ isOpen (paths n (linkedBy (now (table .entry))) s t) (c ∷ []) ⌝ }
+    ensures { λ r. ⌜ r ≡ isOpen (pathsBy n (now (table .entry)) s t) (c ∷ []) ⌝ }
 {
     if c != s {
         return false;
@@ -400,17 +437,18 @@ fn path_starts(table: &[u64; 256], n: usize, s: usize, t: usize, c: usize) -> bo
 fn short_ring(
     table: &[u64; 256],
     n: usize,
+    most: usize,
     prefix: &[u8; 128],
     len: usize,
     c: usize,
     first: FirstPlan,
 ) -> Found
-    requires { ⌜ ShortRing n (now table) (now prefix) len c first ⌝ }
-    ensures { λ r. ⌜ FoundAt (rings n (linkedBy (now (table .entry)))) (take len (now (prefix .entry))) c r ⌝ }
+    requires { ⌜ ShortRing n (now table) most (now prefix) len c first ⌝ }
+    ensures { λ r. ⌜ FoundAt (ringsBy n (now (table .entry)) most) (take len (now (prefix .entry))) c r ⌝ }
 {
     let none = atomset::empty();
     if len == 0 {
-        let ahead = first_ahead(table, n, c);
+        let ahead = first_ahead(table, n, most, c);
         let opens = atom_alone(ahead.atom);
         return Found {
             plan: Plan {
@@ -427,7 +465,7 @@ fn short_ring(
             first: first,
         };
     }
-    let made = first_plan(table, n, prefix[0]);
+    let made = first_plan(table, n, most, prefix[0]);
     let plan = made.plan;
     Found {
         plan: plan,
@@ -458,8 +496,9 @@ pub fn plan_at(
             first: first,
         };
     }
-    if kind == 0 {
-        return short_ring(table, n, prefix, len, c, first);
+    if kind != 1 {
+        let most = most_atoms(kind, s);
+        return short_ring(table, n, most, prefix, len, c, first);
     }
     let none = atomset::empty();
     let firsts = path_firsts(table, n, s, t);
@@ -483,16 +522,16 @@ fn opens_by(found: Plan, v: usize) -> bool
     atomset::contains(opens, v)
 }
 
-// Whether some ring begins with the first atom of the array.
-fn one_opens(table: &[u64; 256], n: usize, prefix: &[u8; 128]) -> bool
-    requires { ⌜ Words n (now table) × (length (now prefix) ≡ 128) ⌝ }
-    ensures { λ r. ⌜ r ≡ isOpen (rings n (linkedBy (now (table .entry)))) (take 1 (now (prefix .entry))) ⌝ }
+// Whether some ring of at most `most` atoms begins with the first atom of the array.
+fn one_opens(table: &[u64; 256], n: usize, most: usize, prefix: &[u8; 128]) -> bool
+    requires { ⌜ Words n (now table) × (2 ≤ most) × (length (now prefix) ≡ 128) ⌝ }
+    ensures { λ r. ⌜ r ≡ isOpen (ringsBy n (now (table .entry)) most) (take 1 (now (prefix .entry))) ⌝ }
 {
     let a = u8_usize(prefix[0]);
     if !molecule::is_atom(n, a) {
         return false;
     }
-    ring_starts(table, n, a)
+    ring_starts(table, n, most, a)
 }
 
 // Whether the shortest beginning that two sets steer is open: of a ring the first two atoms, of a path the first one.
@@ -509,7 +548,7 @@ fn first_opens(
         r ≡ isOpen (familyBy n (now (table .entry)) kind s t) (take (firstLength kind) (now (prefix .entry))) ⌝ }
 {
     let a = u8_usize(prefix[0]);
-    if kind != 0 {
+    if kind == 1 {
         return path_starts(table, n, s, t, a);
     }
     if !molecule::is_atom(n, a) {
@@ -519,7 +558,8 @@ fn first_opens(
     if !molecule::is_atom(n, b) {
         return false;
     }
-    pair_opens(table, n, a, b)
+    let most = most_atoms(kind, s);
+    pair_opens(table, n, most, a, b)
 }
 
 // Whether the first `len` atoms are an open beginning, where the first ones that two sets steer are: the sets are
@@ -542,7 +582,8 @@ fn goes_on_open(
     while i < len {
         let x = u8_usize(prefix[i - 1]);
         let next = aim_after(table, aim, x);
-        if !opens_by(swept_plan(table, aim, next, x), u8_usize(prefix[i])) {
+        let steps = steps_left(kind, s, i);
+        if !opens_by(swept_plan(table, aim, next, x, steps), u8_usize(prefix[i])) {
             return false;
         }
         aim = next;
@@ -569,7 +610,8 @@ pub fn is_open(
         return true;
     }
     if len < first_length(kind) {
-        return one_opens(table, n, prefix);
+        let most = most_atoms(kind, s);
+        return one_opens(table, n, most, prefix);
     }
     if !first_opens(table, n, kind, s, t, prefix) {
         return false;

@@ -2,12 +2,9 @@
 -- Rule 9 is a law of accepted sheets, rule 12 one of fresh searches and of runs; the mark of such a search restores it.
 use Prim.Native.Nat.{ℕ, _≤_}
 use mathlib.Core.Path.{_≡_, sym, ap, ap₂, subst, _∙_}
-use mathlib.Core.Bool.{true, cond}
+use mathlib.Core.Bool.{true}
 use mathlib.Core.List.{List, [], _∷_, _++_}
-use mathlib.Core.Logic.{inl, inr}
 use lib.ListN.{length, drop}
-use lib.Dec.{eqb}
-use borrow.Author.Tests.{ne-eqb}
 use Rattle.enumeration.specs.Words.{members}
 use Rattle.enumeration.specs.Run.{Outcome}
 use Rattle.enumeration.specs.Trials.{Valid}
@@ -20,33 +17,18 @@ use Rattle.sheet.proofs.Accepted.{accepted-well-formed}
 use Rattle.search.specs.declared.Search.{Search}
 use Rattle.search.specs.declared.Ran.{Ran}
 use Rattle.search.specs.declared.Saved.the-variants.{Written}
-use Rattle.search.specs.Place.{familyOf, family, stateOf, searchAt, freshSearch, kindKept, restorable}
-use Rattle.search.specs.Entries.{acceptedSearch, freshPaths, startRings, startPaths, outcome, ran, runSearch, runOutput}
+use Rattle.search.specs.Place.{familyOf, family, stateOf, searchAt, kindKept, restorable}
+use Rattle.search.specs.Entries.{acceptedSearch, outcome, ran, runSearch, runOutput}
 use Rattle.search.specs.Mark.{markText, saveOutput, restoreMark}
-use Rattle.search.proofs.Readings.{family-lawful, KindFacts, kind-facts, atom-of}
+use Rattle.search.proofs.Readings.{family-lawful}
 use Rattle.search.proofs.Views.{restorable-valid, valid-full, fresh-restorable, run-restorable}
 use Rattle.search.proofs.MarkLaws.{saved-restores, save-writes}
+use Rattle.start.proofs.Accepts.{kept-starts}
 use Rattle.reference.specs.Table.{Line, moleculeOf, freshOf, Saves, Holds, AllHold}
 
 -- ---- what entries answer where rules 9 and 12 are kept
 
 module _ (R : Molecule) (good : wellFormed R ≡ true) where
-  start-answers :
-      (kind s t : ℕ) → kindKept (R .atoms) kind s t ≡ true →
-      cond (eqb kind 0) (startRings R) (startPaths R s t) ≡ acceptedSearch (freshSearch kind s t)
-  unfolding startRings startPaths freshPaths
-  start-answers kind s t kept = go (kind-facts (R .atoms) kind s t kept)
-    where
-      go :
-          KindFacts (R .atoms) kind s t →
-          cond (eqb kind 0) (startRings R) (startPaths R s t) ≡ acceptedSearch (freshSearch kind s t)
-      go (inl f) = rw (f .0, f .1, f .2, good)
-      go (inr f) =
-          let ends = f .1 in
-          let s-atom = atom-of (R .atoms) s (ends .s-low) (ends .s-high) in
-          let t-atom = atom-of (R .atoms) t (ends .t-low) (ends .t-high) in
-          rw (f .0, good, s-atom, t-atom, ne-eqb s t (ends .differ))
-
   module _ (q : Search) (kept : restorable R q ≡ true) (budget : ℕ) (out : List ℕ) where
     run-answers : runSearch R q budget out ≡ ran q (outcome R q budget out)
     unfolding runSearch
@@ -148,7 +130,7 @@ module _ (l : Line) (c : Computed l) where
   line-holds =
       record {
         reads = c .reads;
-        starts = start-answers R good (l .kind) (l .s) (l .t) (c .kinds);
+        starts = kept-starts R (l .kind) (l .s) (l .t) good (c .kinds);
         lists = c .lists;
         returns = run-answers R good q fresh-kept (l .budget) (l .output) ∙ returned-is;
         writes = run-leaves R good q fresh-kept (l .budget) (l .output) ∙ written-is;

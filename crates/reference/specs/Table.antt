@@ -3,10 +3,8 @@
 use Prim.Native.Nat.{ℕ, suc, _-_, _≤_}
 use Prim.Native.String.{String}
 use mathlib.Core.Path.{_≡_}
-use mathlib.Core.Bool.{cond}
 use mathlib.Core.List.{List, [], _∷_, _++_, reverse}
 use lib.ListN.{length, drop, replicate}
-use lib.Dec.{eqb}
 use Rattle.enumeration.specs.declared.Stop.{Stop}
 use Rattle.enumeration.specs.declared.Stop.the-variants.{Done, Spent, Full}
 use Rattle.enumeration.specs.Words.{members}
@@ -20,7 +18,7 @@ use Rattle.search.specs.declared.Ran.{Ran}
 use Rattle.search.specs.declared.Ended.the-variants.{Stopped}
 use Rattle.search.specs.declared.Saved.the-variants.{Written}
 use Rattle.search.specs.Place.{familyOf, searchAt, freshSearch}
-use Rattle.search.specs.Entries.{acceptedSearch, startRings, startPaths, runSearch, runOutput}
+use Rattle.search.specs.Entries.{acceptedSearch, startSearch, runSearch, runOutput}
 use Rattle.search.specs.Mark.{markText, saveAnswer, saveOutput, restoreMark}
 use Rattle.reference.specs.Text.{text}
 use Rattle.reference.specs.Molecules.{noAtoms, chain, fiveRing, allBonded, paperSheet, twoToThree}
@@ -50,7 +48,7 @@ abbrev pub freshOf : Line → Search
 freshOf l = freshSearch (l .kind) (l .s) (l .t)
 
 abbrev pub started : Line → Made
-started l = cond (eqb (l .kind) 0) (startRings (moleculeOf l)) (startPaths (moleculeOf l) (l .s) (l .t))
+started l = startSearch (moleculeOf l) (l .kind) (l .s) (l .t)
 
 -- The save of the returned search into a buffer writes the mark and says its length; the bytes after it stay
 pub record Saves (l : Line) (buffer : List ℕ) : Type 0 where

@@ -2,8 +2,8 @@
 -- The families are lawful whatever the kind, so an open beginning is short and its atoms are from 1 to n.
 use Prim.Native.Nat.{ℕ, suc, _-_, _≤_, _<_}
 use native.Mathlib.Omega.{arith}
-use mathlib.Core.Path.{_≡_, refl, sym, subst}
-use mathlib.Core.Bool.{Bool, true, false, _&&_, _||_, not, cond}
+use mathlib.Core.Path.{_≡_, refl, sym, subst, _∙_}
+use mathlib.Core.Bool.{Bool, true, false, _&&_, _||_, not}
 use mathlib.Core.List.{List, [], _∷_, _++_}
 use mathlib.Core.Logic.{_⊎_, inl, inr, _↔_}
 use lib.ListN.{length, getD, length-append, List·getD-append}
@@ -15,38 +15,59 @@ use Rattle.graph.proofs.Below.{apart, either, and-parts, and-both, allBelow-at,
 use Rattle.enumeration.specs.Words.{Family, isOpen}
 use Rattle.enumeration.specs.Machine.{isEmpty}
 use Rattle.enumeration.specs.Run.{limit}
-use Rattle.enumeration.specs.Lawful.{Lawful}
+use Rattle.enumeration.specs.Lawful.{Lawful, AtMost}
 use Rattle.enumeration.proofs.Basics.{or-either, or-left, or-right}
-use Rattle.chordless.specs.Families.{rings, paths}
+use Rattle.chordless.specs.Families.{rings, paths, upTo}
 use Rattle.chordless.proofs.Members.{open-has}
+use Rattle.chordless.proofs.UpTo.{upto-facts, upto-lawful, upto-all}
 use Rattle.chordless.proofs.Lawful.{rings-lawful, paths-lawful}
 use Rattle.molecule.specs.declared.Molecule.{Molecule}
 use Rattle.molecule.specs.Record.{isAtom, bonded}
 use Rattle.molecule.proofs.Bonds.{atom-bounds}
 use Rattle.search.specs.declared.Search.{Search}
-use Rattle.search.specs.Place.{familyIn, familyOf, family, beginning, endsKept, kindKept, placeKept, restorable}
+use Rattle.search.specs.Place.{familyIn, familyOf, family, beginning, endsKept, boundKept, ringsAllowed, pathsAllowed, sizesAllowed, kindKept, placeKept, restorable}
 
 -- ---- the family of a search
 
 -- what holds of the family of each kind holds, whatever the kind, s and t
 pub each-family :
     (n : ℕ) (adj : Adjacency) (kind s t : ℕ) (P : Family → Type 0) → P (rings n adj) → P (paths n adj s t) →
-    P (familyIn n adj kind s t)
+    P (upTo s (rings n adj)) → P (familyIn n adj kind s t)
 unfolding familyIn
-each-family n adj kind s t P of-rings of-paths = go (eqb kind 0)
-  where
-    go : (b : Bool) → P (cond b (rings n adj) (paths n adj s t))
-    go true = of-rings
-    go false = of-paths
+each-family n adj kind s t P of-rings of-paths of-bounded = elim (either (eqb kind 0)) [
+  | inl zero ↦ rw zero of-rings
+  | inr other ↦ elim (either (eqb kind 1)) [
+    | inl one ↦ rw (other, one) of-paths
+    | inr two ↦ rw (other, two) of-bounded
+  ]
+]
 
 module _ (n : ℕ) (adj : Adjacency) (kind s t : ℕ) where
   pub family-in-lawful : Lawful (familyIn n adj kind s t)
-  family-in-lawful = each-family n adj kind s t Lawful (rings-lawful n adj) (paths-lawful n adj s t)
+  family-in-lawful =
+      each-family n adj kind s t Lawful (rings-lawful n adj) (paths-lawful n adj s t)
+      (upto-lawful s (rings n adj) (rings-lawful n adj))
 
   pub family-in-atoms : familyIn n adj kind s t .atoms ≡ n
-  family-in-atoms = each-family n adj kind s t (λ (F : Family). F .atoms ≡ n) refl refl
+  family-in-atoms = each-family n adj kind s t (λ (F : Family). F .atoms ≡ n) refl refl refl
+
+-- kind 2: rings of at most s atoms, and with s at least n all rings
+module _ (n : ℕ) (adj : Adjacency) (kind s t : ℕ) (two : kind ≡ 2) where
+  pub bounded-family : familyIn n adj kind s t ≡ upTo s (rings n adj)
+  unfolding familyIn
+  bounded-family = rw two
+
+  pub all-sizes : n ≤ s → familyIn n adj kind s t ≡ rings n adj
+  all-sizes h = bounded-family ∙ upto-all s (rings n adj) (rings-lawful n adj) h
 
 module _ (mol : Molecule) (kind s t : ℕ) where
+  pub bounded-size : kind ≡ 2 → AtMost (familyOf mol kind s t) s
+  unfolding familyOf
+  bounded-size two =
+      let adj = bonded (mol .atoms) (mol .rows) in
+      rw (bounded-family (mol .atoms) adj kind s t two)
+      (λ w e. upto-facts s (rings (mol .atoms) adj) w e .1)
+
   pub family-lawful : Lawful (familyOf mol kind s t)
   unfolding familyOf
   family-lawful = family-in-lawful (mol .atoms) (bonded (mol .atoms) (mol .rows)) kind s t
@@ -104,43 +125,57 @@ unfolding endsKept
 ends-of n s t f =
     rw (atom-of n s (f .s-low) (f .s-high), atom-of n t (f .t-low) (f .t-high), ne-eqb s t (f .differ))
 
+-- the largest size of a ring
+pub bound-facts : {k : ℕ} → boundKept k ≡ true → (3 ≤ k) × (k ≤ 128)
+unfolding boundKept
+bound-facts {k} e =
+    let parts = and-parts _ _ e in
+    (leb-true _ _ (parts .0), leb-true _ _ (parts .1))
+
+pub bound-of : {k : ℕ} → 3 ≤ k → k ≤ 128 → boundKept k ≡ true
+unfolding boundKept
+bound-of {k} low high = rw (le-leb 3 k low, le-leb k 128 high)
+
 abbrev pub KindFacts : ℕ → ℕ → ℕ → ℕ → Type 0
-KindFacts n kind s t = ((kind ≡ 0) × (s ≡ 0) × (t ≡ 0)) ⊎ ((kind ≡ 1) × Ends n s t)
+KindFacts n kind s t =
+    ((kind ≡ 0) × (s ≡ 0) × (t ≡ 0)) ⊎ ((kind ≡ 1) × Ends n s t) ⊎ ((kind ≡ 2) × (boundKept s ≡ true) × (t ≡ 0))
 
 module _ (n kind s t : ℕ) where
-  abbrev of-rings : Bool
-  of-rings = eqb kind 0 && eqb s 0 && eqb t 0
-
-  abbrev of-paths : Bool
-  of-paths = eqb kind 1 && endsKept n s t
+  pub kind-of : KindFacts n kind s t → kindKept n kind s t ≡ true
+  unfolding kindKept
+  kind-of (inl (kind-zero, s-zero, t-zero)) = rw (kind-zero, s-zero, t-zero)
+  kind-of (inr (inl (kind-one, ends))) = rw (kind-one, ends-of n s t ends)
+  kind-of (inr (inr (kind-two, bound, t-zero))) =
+      or-right (ringsAllowed kind s t || pathsAllowed n kind s t) _ (rw (kind-two, t-zero, bound))
 
   pub kind-facts : kindKept n kind s t ≡ true → KindFacts n kind s t
   unfolding kindKept
-  kind-facts e = go (or-either of-rings of-paths e)
-    where
-      go : (of-rings ≡ true) ⊎ (of-paths ≡ true) → KindFacts n kind s t
-      go (inl h) =
-          let (first, t-zero) = and-parts (eqb kind 0 && eqb s 0) (eqb t 0) h in
-          let (kind-zero, s-zero) = and-parts (eqb kind 0) (eqb s 0) first in
-          inl (eqb-true kind 0 kind-zero, eqb-true s 0 s-zero, eqb-true t 0 t-zero)
-      go (inr h) =
-          let (kind-one, ends) = and-parts (eqb kind 1) (endsKept n s t) h in
-          inr (eqb-true kind 1 kind-one, ends-facts n s t ends)
-
-  pub kind-of : KindFacts n kind s t → kindKept n kind s t ≡ true
-  unfolding kindKept
-  kind-of (inl (kind-zero, s-zero, t-zero)) =
-      or-left of-rings of-paths (rw (eq-eqb kind 0 kind-zero, eq-eqb s 0 s-zero, eq-eqb t 0 t-zero))
-  kind-of (inr (kind-one, ends)) =
-      or-right of-rings of-paths (rw (eq-eqb kind 1 kind-one, ends-of n s t ends))
+  kind-facts e = elim (or-either (ringsAllowed kind s t || pathsAllowed n kind s t) (sizesAllowed kind s t) e) [
+    | inl h ↦ elim (or-either (ringsAllowed kind s t) (pathsAllowed n kind s t) h) [
+      | inl f ↦
+          let parts = and-parts _ _ f in
+          let first = and-parts _ _ (parts .0) in
+          inl (eqb-true _ _ (first .0), eqb-true _ _ (first .1), eqb-true _ _ (parts .1))
+      | inr f ↦
+          let parts = and-parts _ _ f in
+          inr (inl (eqb-true _ _ (parts .0), ends-facts n s t (parts .1)))
+    ]
+    | inr f ↦
+        let parts = and-parts _ _ f in
+        let first = and-parts _ _ (parts .0) in
+        inr (inr (eqb-true _ _ (first .0), first .1, eqb-true _ _ (parts .1)))
+  ]
 
 -- kind, s and t are small
-pub kind-small : (n kind s t : ℕ) → kindKept n kind s t ≡ true → (kind ≤ 1) × (s ≤ n) × (t ≤ n)
-kind-small n kind s t e = go (kind-facts n kind s t e)
+pub kind-small : (n kind s t : ℕ) → n ≤ 128 → kindKept n kind s t ≡ true → (kind ≤ 2) × (s ≤ 128) × (t ≤ 128)
+kind-small n kind s t few e = go (kind-facts n kind s t e)
   where
-    go : KindFacts n kind s t → (kind ≤ 1) × (s ≤ n) × (t ≤ n)
+    go : KindFacts n kind s t → (kind ≤ 2) × (s ≤ 128) × (t ≤ 128)
     go (inl f) = (omega arith, omega arith, omega arith)
-    go (inr f) = (omega arith, omega arith, omega arith)
+    go (inr (inl f)) = (omega arith, omega arith, omega arith)
+    go (inr (inr (kind-two, bound, t-zero))) =
+        let (low, high) = bound-facts bound in
+        (omega arith, high, omega arith)
 
 -- ---- the place
 

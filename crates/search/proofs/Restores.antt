@@ -120,7 +120,7 @@ module _ (mol : Molecule) (q : Search) (formed : wellFormed mol ≡ true) (kept 
   head-fits =
       let f = restorable-facts mol q kept in
       let rule = rule9 mol formed in
-      let k = kind-small (mol .atoms) (q .kind) (q .s) (q .t) (f .kind-kept) in
+      let k = kind-small (mol .atoms) (q .kind) (q .s) (q .t) (rule .atoms-high) (f .kind-kept) in
       let high = next-most (mol .atoms) (beginning q) (q .next) (f .next-high) in
       small-fits (q .kind) (omega arith)
       ◁ small-fits (q .s) (omega arith)

@@ -9,14 +9,16 @@ use Rattle.graph.specs.Chordless.{Adjacency}
 use Rattle.enumeration.specs.Words.{Family, isOpen}
 use Rattle.enumeration.specs.Machine.{State, isEmpty, fresh}
 use Rattle.enumeration.specs.Run.{limit}
-use Rattle.chordless.specs.Families.{rings, paths}
+use Rattle.chordless.specs.Families.{rings, paths, upTo}
 use Rattle.molecule.specs.declared.Molecule.{Molecule}
 use Rattle.molecule.specs.Record.{isAtom, bonded}
 use Rattle.search.specs.declared.Search.{Search}
 
--- What a search of a kind lists, over the bonds of n atoms: 0 the rings, 1 the paths from s to t
+-- What a search of a kind lists, over the bonds of n atoms: 0 the rings, 1 the paths from s to t, 2 the rings of at
+-- most s atoms
 unfoldable pub familyIn : ℕ → Adjacency → ℕ → ℕ → ℕ → Family
-familyIn n adj kind s t = cond (eqb kind 0) (rings n adj) (paths n adj s t)
+familyIn n adj kind s t =
+    cond (eqb kind 0) (rings n adj) (cond (eqb kind 1) (paths n adj s t) (upTo s (rings n adj)))
 
 -- and on a molecule
 unfoldable pub familyOf : Molecule → ℕ → ℕ → ℕ → Family
@@ -70,9 +72,20 @@ endsKept n s t = isAtom n s && isAtom n t && not (eqb s t)
 unfoldable pub boundKept : ℕ → Bool
 boundKept k = leb 3 k && leb k 128
 
--- Rule 16 kept: kind 0 with s and t both 0, or kind 1 with s and t that keep rules 10 and 11
+-- Rule 16 of each kind: 0 with s and t both 0; 1 with s and t that keep rules 10 and 11; 2 with the largest size in s,
+-- which keeps rule 21, and t 0
+abbrev pub ringsAllowed : ℕ → ℕ → ℕ → Bool
+ringsAllowed kind s t = eqb kind 0 && eqb s 0 && eqb t 0
+
+abbrev pub pathsAllowed : ℕ → ℕ → ℕ → ℕ → Bool
+pathsAllowed n kind s t = eqb kind 1 && endsKept n s t
+
+abbrev pub sizesAllowed : ℕ → ℕ → ℕ → Bool
+sizesAllowed kind s t = eqb kind 2 && boundKept s && eqb t 0
+
+-- Rule 16 kept: kind, s and t go together
 unfoldable pub kindKept : ℕ → ℕ → ℕ → ℕ → Bool
-kindKept n kind s t = eqb kind 0 && eqb s 0 && eqb t 0 || eqb kind 1 && endsKept n s t
+kindKept n kind s t = ringsAllowed kind s t || pathsAllowed n kind s t || sizesAllowed kind s t
 
 -- Rule 17 kept: p is open, and c is from 1 to n; p empty with c = n + 1 is allowed
 unfoldable pub placeKept : Family → List ℕ → ℕ → Bool

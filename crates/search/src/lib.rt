@@ -1,12 +1,12 @@
 // The search of document 01 and the answers of the entries on it. What they mean is in specs/.
 ghost use mathlib.Core.Path.{_≡_};
-ghost use Rattle.search.specs.Place.{freshSearch};
+ghost use Rattle.search.specs.Place.{freshSearch, boundKept};
 ghost use Rattle.search.specs.Entries.{acceptedSearch, refusedSearch, endedNumber};
 use enumeration::Stop;
 use refusal::Answer;
 use refusal::Refusal;
 
-// Kind 0 lists rings, kind 1 paths from s to t.
+// Kind 0 lists rings, kind 1 paths from s to t, kind 2 rings of at most s atoms.
 // The present beginning is the first `len` places of `prefix`; the places past it hold 0.
 pub struct Search {
     pub kind: usize,
@@ -60,6 +60,16 @@ pub fn fresh_search(kind: usize, s: usize, t: usize) -> Search
         extensions: 0,
         listed: 0,
     }
+}
+
+// Rule 21: whether k may be the largest size of a ring.
+pub fn bound_kept(k: usize) -> bool
+    ensures { λ r. ⌜ r ≡ boundKept k ⌝ }
+{
+    if k < 3 {
+        return false;
+    }
+    k <= 128
 }
 
 // The answer that accepts a search.

@@ -4,7 +4,7 @@ use Prim.Native.Nat.{ℕ, suc, _+_, _≤_, _<_}
 use native.Mathlib.Omega.{arith}
 use native.Mathlib.Numerals.{add-one}
 use mathlib.Core.Path.{_≡_, sym, ap, _∙_}
-use mathlib.Core.Bool.{Bool, true, false, _&&_, not, or-false}
+use mathlib.Core.Bool.{Bool, true, false, _&&_, not, and-true, and-false, or-false}
 use mathlib.Core.List.{List, []}
 use mathlib.Core.Logic.{_⊎_, inl, inr}
 use lib.ListN.{length, getD}
@@ -20,7 +20,7 @@ use Rattle.molecule.specs.declared.Molecule.{Molecule}
 use Rattle.molecule.specs.Record.{isAtom}
 use Rattle.molecule.proofs.Bonds.{atom-bounds}
 use Rattle.search.specs.declared.Search.{Search}
-use Rattle.search.specs.Place.{family, beginning, endsKept, kindKept, restorable}
+use Rattle.search.specs.Place.{family, beginning, endsKept, boundKept, kindKept, restorable}
 use Rattle.search.proofs.Readings.{NextHigh, Restorable, restorable-facts, restorable-of, atom-of}
 use Rattle.search.proofs.Readings.{zeros-past, past-zeros}
 use Rattle.search.proofs.Views.{beginning-length}
@@ -92,20 +92,28 @@ module _ (n kind s t : ℕ) where
   module _ (zero : kind ≡ 0) where
     pub kind-no-zero : (s ≡ 0 → ⊥) → kindKept n kind s t ≡ false
     unfolding kindKept
-    kind-no-zero d = rw (eq-eqb kind 0 zero, ne-eqb s 0 d, ne-eqb kind 1 (omega arith))
+    kind-no-zero d = rw (zero, ne-eqb s 0 d)
 
     pub kind-zero : s ≡ 0 → kindKept n kind s t ≡ eqb t 0
     unfolding kindKept
-    kind-zero e = rw (eq-eqb kind 0 zero, eq-eqb s 0 e, ne-eqb kind 1 (omega arith)) (or-false (eqb t 0))
+    kind-zero e = rw (zero, e, or-false (eqb t 0), or-false (eqb t 0))
 
-  module _ (other : kind ≡ 0 → ⊥) where
-    pub kind-no-one : (kind ≡ 1 → ⊥) → kindKept n kind s t ≡ false
-    unfolding kindKept
-    kind-no-one d = rw (ne-eqb kind 0 other, ne-eqb kind 1 d)
+  pub kind-one : kind ≡ 1 → kindKept n kind s t ≡ endsKept n s t
+  unfolding kindKept
+  kind-one e = rw (e, or-false (endsKept n s t))
 
-    pub kind-one : kind ≡ 1 → kindKept n kind s t ≡ endsKept n s t
+  module _ (two : kind ≡ 2) where
+    pub kind-no-end : (t ≡ 0 → ⊥) → kindKept n kind s t ≡ false
     unfolding kindKept
-    kind-one e = rw (ne-eqb kind 0 other, eq-eqb kind 1 e)
+    kind-no-end d = rw (two, ne-eqb t 0 d) (and-false (boundKept s))
+
+    pub kind-two : t ≡ 0 → kindKept n kind s t ≡ boundKept s
+    unfolding kindKept
+    kind-two e = rw (two, e) (and-true (boundKept s))
+
+  pub kind-none : (kind ≡ 0 → ⊥) → (kind ≡ 1 → ⊥) → (kind ≡ 2 → ⊥) → kindKept n kind s t ≡ false
+  unfolding kindKept
+  kind-none d e f = rw (ne-eqb kind 0 d, ne-eqb kind 1 e, ne-eqb kind 2 f)
 
 -- ---- the next atom
 

@@ -46,10 +46,16 @@ pub fn kind_kept(n: usize, kind: usize, s: usize, t: usize) -> bool
         }
         return t == 0;
     }
-    if kind != 1 {
+    if kind == 1 {
+        return ends_kept(n, s, t);
+    }
+    if kind != 2 {
         return false;
     }
-    ends_kept(n, s, t)
+    if t != 0 {
+        return false;
+    }
+    search::bound_kept(s)
 }
 
 // Whether the next atom is from 1 to n, or n + 1 after an empty beginning.

@@ -6,17 +6,17 @@ use mathlib.Core.Path.{_≡_, refl}
 use mathlib.Core.Logic.{_⊎_, inl, inr}
 use mathlib.Core.Bool.{Bool, true, false, _&&_, not, cond}
 use lib.Dec.{eqb}
-use borrow.Author.Tests.{eqb-true, not-true}
+use borrow.Author.Tests.{eqb-true, ne-eqb}
 use Rattle.graph.proofs.Below.{and-parts}
 use Rattle.refusal.specs.declared.Refusal.{Refusal}
 use Rattle.refusal.specs.declared.Refusal.the-variants as refusal
-use Rattle.refusal.specs.declared.Answer.the-variants.{Accepted, Refused}
+use Rattle.refusal.specs.declared.Answer.the-variants.{Accepted}
 use Rattle.molecule.specs.declared.Molecule.{Molecule}
 use Rattle.molecule.specs.Record.{wellFormed, isAtom}
 use Rattle.search.specs.declared.Made.{Made}
 use Rattle.search.specs.Place.{freshSearch, endsKept, boundKept, kindKept}
 use Rattle.search.specs.Entries.{acceptedSearch, refusedSearch, freshPaths, freshRingsUpTo, freshOfKind, startSearch}
-use Rattle.search.proofs.Readings.{KindFacts, kind-facts, ends-of}
+use Rattle.search.proofs.Readings.{KindFacts, kind-facts, kind-of, ends-facts, atom-of}
 
 abbrev Taken : Made → Type 0
 Taken x = x .answer ≡ Accepted
@@ -40,13 +40,6 @@ passed false x r e = absurd (not-taken r e)
 
 -- ---- the kinds
 
--- What a start asks of a kind, s and t among n atoms: nothing more of rings, rules 10 and 11 of paths, and 21 of rings
--- up to a size
-abbrev pub Startable : ℕ → ℕ → ℕ → ℕ → Type 0
-Startable n kind s t =
-    ((kind ≡ 0) × (s ≡ 0) × (t ≡ 0))
-    ⊎ (((kind ≡ 1) × (endsKept n s t ≡ true)) ⊎ ((kind ≡ 2) × (boundKept s ≡ true) × (t ≡ 0)))
-
 module _ (n kind s t : ℕ) where
   ends-taken : Taken (freshPaths n s t) → endsKept n s t ≡ true
   unfolding freshPaths endsKept
@@ -69,11 +62,12 @@ module _ (n kind s t : ℕ) where
   unfolding freshRingsUpTo
   size-taken e = passed (boundKept s) _ refusal.RingSize e .0
 
-  startable : Taken (freshOfKind n kind s t) → Startable n kind s t
+  -- what a start asks of a kind, s and t is what rule 16 asks
+  startable : Taken (freshOfKind n kind s t) → KindFacts n kind s t
   unfolding freshOfKind
   startable e = first (either (eqb kind 0 && eqb s 0 && eqb t 0) _ _ e)
     where
-      third : (eqb kind 2 && eqb t 0 ≡ true) × Taken (freshRingsUpTo s) → Startable n kind s t
+      third : (eqb kind 2 && eqb t 0 ≡ true) × Taken (freshRingsUpTo s) → KindFacts n kind s t
       third (h, f) =
           let (two, t-zero) = and-parts (eqb kind 2) (eqb t 0) h in
           inr (inr (eqb-true kind 2 two, size-taken f, eqb-true t 0 t-zero))
@@ -82,8 +76,8 @@ module _ (n kind s t : ℕ) where
           ((eqb kind 1 ≡ true) × Taken (freshPaths n s t))
           ⊎ ((eqb kind 1 ≡ false)
           × Taken (cond (eqb kind 2 && eqb t 0) (freshRingsUpTo s) (refusedSearch refusal.MarkKind))) →
-          Startable n kind s t
-      second (inl (one, f)) = inr (inl (eqb-true kind 1 one, ends-taken f))
+          KindFacts n kind s t
+      second (inl (one, f)) = inr (inl (eqb-true kind 1 one, ends-facts n s t (ends-taken f)))
       second (inr (other, f)) = third (passed (eqb kind 2 && eqb t 0) _ refusal.MarkKind f)
 
       first :
@@ -91,39 +85,26 @@ module _ (n kind s t : ℕ) where
           ⊎ ((eqb kind 0 && eqb s 0 && eqb t 0 ≡ false)
           × Taken (cond (eqb kind 1) (freshPaths n s t)
           (cond (eqb kind 2 && eqb t 0) (freshRingsUpTo s) (refusedSearch refusal.MarkKind)))) →
-          Startable n kind s t
+          KindFacts n kind s t
       first (inl (h, f)) =
           let (kind-s, t-zero) = and-parts (eqb kind 0 && eqb s 0) (eqb t 0) h in
           let (zero, s-zero) = and-parts (eqb kind 0) (eqb s 0) kind-s in
           inl (eqb-true kind 0 zero, eqb-true s 0 s-zero, eqb-true t 0 t-zero)
       first (inr (other, f)) = second (either (eqb kind 1) _ _ f)
 
-  startable-starts : Startable n kind s t → freshOfKind n kind s t ≡ acceptedSearch (freshSearch kind s t)
-  unfolding freshOfKind freshPaths freshRingsUpTo endsKept
+  startable-starts : KindFacts n kind s t → freshOfKind n kind s t ≡ acceptedSearch (freshSearch kind s t)
+  unfolding freshOfKind freshPaths freshRingsUpTo
   startable-starts (inl (zero, s-zero, t-zero)) = rw (zero, s-zero, t-zero)
   startable-starts (inr (inl (one, ends))) =
-      let (atoms, apart) = and-parts (isAtom n s && isAtom n t) (not (eqb s t)) ends in
-      rw (one, atoms, not-true (eqb s t) apart)
+      let s-atom = atom-of n s (ends .s-low) (ends .s-high) in
+      let t-atom = atom-of n t (ends .t-low) (ends .t-high) in
+      rw (one, s-atom, t-atom, ne-eqb s t (ends .differ))
   startable-starts (inr (inr (two, size, t-zero))) = rw (two, t-zero, size)
-
-  -- what a start asks is rule 16
-  startable-kept : (kind ≡ 2 → ⊥) → Startable n kind s t → kindKept n kind s t ≡ true
-  unfolding kindKept
-  startable-kept other (inl (zero, s-zero, t-zero)) = rw (zero, s-zero, t-zero)
-  startable-kept other (inr (inl (one, ends))) = rw (one, ends)
-  startable-kept other (inr (inr (two, size, t-zero))) = absurd (other two)
-
-  kept-startable : kindKept n kind s t ≡ true → Startable n kind s t
-  kept-startable kept = go (kind-facts n kind s t kept)
-    where
-      go : KindFacts n kind s t → Startable n kind s t
-      go (inl rings) = inl rings
-      go (inr (one, ends)) = inr (inl (one, ends-of n s t ends))
 
 -- ---- the entry
 
 module _ (mol : Molecule) (kind s t : ℕ) where
-  taken : Taken (startSearch mol kind s t) → Startable (mol .atoms) kind s t
+  taken : Taken (startSearch mol kind s t) → KindFacts (mol .atoms) kind s t
   unfolding startSearch
   taken e = startable (mol .atoms) kind s t (passed (wellFormed mol) _ refusal.Record e .1)
 
@@ -133,7 +114,7 @@ module _ (mol : Molecule) (kind s t : ℕ) where
   started-formed e = passed (wellFormed mol) _ refusal.Record e .0
 
   starts :
-      wellFormed mol ≡ true → Startable (mol .atoms) kind s t →
+      wellFormed mol ≡ true → KindFacts (mol .atoms) kind s t →
       startSearch mol kind s t ≡ acceptedSearch (freshSearch kind s t)
   unfolding startSearch
   starts formed ok = rw formed (startable-starts (mol .atoms) kind s t ok)
@@ -144,11 +125,11 @@ module _ (mol : Molecule) (kind s t : ℕ) where
   started-fresh e = starts (started-formed e) (taken e)
 
   -- rule 16 allows them,
-  pub started-kept : (kind ≡ 2 → ⊥) → Taken (startSearch mol kind s t) → kindKept (mol .atoms) kind s t ≡ true
-  started-kept other e = startable-kept (mol .atoms) kind s t other (taken e)
+  pub started-kept : Taken (startSearch mol kind s t) → kindKept (mol .atoms) kind s t ≡ true
+  started-kept e = kind-of (mol .atoms) kind s t (taken e)
 
   -- and every start that rule 16 allows is accepted
   pub kept-starts :
       wellFormed mol ≡ true → kindKept (mol .atoms) kind s t ≡ true →
       startSearch mol kind s t ≡ acceptedSearch (freshSearch kind s t)
-  kept-starts formed kept = starts formed (kept-startable (mol .atoms) kind s t kept)
+  kept-starts formed kept = starts formed (kind-facts (mol .atoms) kind s t kept)

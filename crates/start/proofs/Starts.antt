@@ -1,11 +1,11 @@
 -- The answers of starting a search, by the tests that lead to each.
 -- The definitions go by `cond`, so each answer follows by rewriting the tests.
-use Prim.Native.Nat.{ℕ, _≤_, _<_}
+use Prim.Native.Nat.{ℕ}
 use native.Mathlib.Omega.{arith}
 use mathlib.Core.Path.{_≡_, refl}
 use mathlib.Core.Bool.{true, false, _&&_, and-false}
 use lib.Dec.{eqb}
-use borrow.Author.Tests.{eq-eqb, ne-eqb, le-leb, lt-leb}
+use borrow.Author.Tests.{eq-eqb, ne-eqb}
 use Rattle.refusal.specs.declared.Refusal.the-variants.{Record, PathEnd, SameEnds, MarkKind, RingSize}
 use Rattle.molecule.specs.declared.Molecule.{Molecule}
 use Rattle.molecule.specs.Record.{wellFormed, isAtom}
@@ -37,18 +37,13 @@ module _ (n s t : ℕ) where
 -- ---- rule 21
 
 module _ (k : ℕ) where
-  pub size-low : k < 3 → freshRingsUpTo k ≡ refusedSearch RingSize
-  unfolding freshRingsUpTo boundKept
-  size-low h = rw (lt-leb 3 k h)
+  pub size-refused : boundKept k ≡ false → freshRingsUpTo k ≡ refusedSearch RingSize
+  unfolding freshRingsUpTo
+  size-refused e = rw e
 
-  module _ (low : 3 ≤ k) where
-    pub size-high : 128 < k → freshRingsUpTo k ≡ refusedSearch RingSize
-    unfolding freshRingsUpTo boundKept
-    size-high h = rw (le-leb 3 k low, lt-leb k 128 h)
-
-    pub size-fresh : k ≤ 128 → freshRingsUpTo k ≡ acceptedSearch (freshSearch 2 k 0)
-    unfolding freshRingsUpTo boundKept
-    size-fresh h = rw (le-leb 3 k low, le-leb k 128 h)
+  pub size-fresh : boundKept k ≡ true → freshRingsUpTo k ≡ acceptedSearch (freshSearch 2 k 0)
+  unfolding freshRingsUpTo
+  size-fresh e = rw e
 
 -- ---- rule 16, and then the rules of the kind
 

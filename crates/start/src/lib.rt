@@ -27,10 +27,7 @@ fn fresh_paths(n: usize, s: usize, t: usize) -> Made
 fn fresh_rings_up_to(k: usize) -> Made
     ensures { λ r. ⌜ r ≡ freshRingsUpTo k ⌝ }
 {
-    if k < 3 {
-        return search::refused_search(Refusal::RingSize);
-    }
-    if k > 128 {
+    if !search::bound_kept(k) {
         return search::refused_search(Refusal::RingSize);
     }
     search::accepted_search(search::fresh_search(2, k, 0))

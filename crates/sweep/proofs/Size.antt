@@ -1,4 +1,4 @@
--- A set that loses an atom and gains none is smaller: the measure of the rounds of the sweep.
+-- A set that loses an atom and gains none is smaller: the measure of a loop that takes atoms from a set.
 -- Counted atom by atom.
 use Prim.Native.Nat.{ℕ, zero, suc, _+_, _≤_, _<_}
 use native.Mathlib.Omega.{arith}

@@ -15,7 +15,7 @@ use Rattle.graph.specs.Chordless.{Adjacency}
 use Rattle.graph.proofs.Below.{clash, either, false-of, not-of, and-left, and-both, and-parts}
 use Rattle.enumeration.proofs.Basics.{or-either, or-left, or-right}
 use Rattle.molecule.specs.Record.{bit}
-use Rattle.atomset.specs.Set.{has, Emptiness, LowestBit}
+use Rattle.atomset.specs.Set.{has, LowestBit}
 use Rattle.atomset.proofs.Digits.{bit-none, bit-cleared}
 use Rattle.atomset.proofs.Members.{has-word, has-range}
 use Rattle.sweep.specs.Swept.{NearWord}
@@ -79,11 +79,6 @@ module _ {adj : Adjacency} {word k : ℕ} where
       finish j a (inr h) = absurd (clash (bit left j) h (ap (λ (n : ℕ). bit n j) z ∙ bit-none j))
 
 -- ---- the words of a round
-
--- a set that the test of emptiness refuses has an atom
-pub some-of :
-    {words : List ℕ} {answer : Bool} → Emptiness words answer → answer ≡ false → (a : ℕ) × (has words a ≡ true)
-some-of e = e .some
 
 -- the atoms of the words from k on
 unfoldable pub fromWord : List ℕ → ℕ → ℕ → Bool

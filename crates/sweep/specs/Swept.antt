@@ -1,4 +1,5 @@
--- What one backward sweep finds: of the atoms wanted, those from which a target is reached through free atoms.
+-- What one backward sweep finds: of the atoms wanted, those from which a target is reached through free atoms in at
+-- most so many steps.
 use Prim.Native.Nat.{ℕ, _+_, _*_, _<_}
 use mathlib.Core.Path.{_≡_}
 use mathlib.Core.Bool.{Bool, true}
@@ -12,9 +13,9 @@ use Rattle.atomset.specs.Set.{has}
 abbrev pub Symmetric : Adjacency → Type 0
 Symmetric adj = (a b : ℕ) → adj a b ≡ adj b a
 
--- S holds exactly for those atoms
-abbrev pub Reached : Adjacency → (ℕ → Bool) → (ℕ → Bool) → (ℕ → Bool) → (ℕ → Bool) → Type 0
-Reached adj free target want S = (v : ℕ) → (S v ≡ true) ↔ ((want v ≡ true) × Reaches adj free target v)
+-- S holds exactly for those atoms, in at most d steps
+abbrev pub Reached : Adjacency → (ℕ → Bool) → (ℕ → Bool) → ℕ → (ℕ → Bool) → (ℕ → Bool) → Type 0
+Reached adj free target d want S = (v : ℕ) → (S v ≡ true) ↔ ((want v ≡ true) × Reaches adj free target d v)
 
 -- The atoms bonded to an atom of a word: bit j of word k stands for atom 64 × k + j + 1
 pub record NearWord (adj : Adjacency) (word k : ℕ) (near : List ℕ) : Type 0 where

@@ -20,17 +20,25 @@ fn near_word(table: &[u64; 256], word: u64, k: usize) -> [u64; 2]
     all
 }
 
-// Of the atoms of `want`, those from which a target is reached through free atoms. It ends once every one is decided.
-// `left` are those not yet decided, `unseen` the free atoms that were in no round, `taken` the atoms of this round,
-// a word at a time, and `front` those of the next round.
-pub fn reached(table: &[u64; 256], free: [u64; 2], targets: [u64; 2], want: [u64; 2]) -> [u64; 2]
+// Of the atoms of `want`, those from which a target is reached through free atoms in at most `steps` steps. It ends
+// once every one is decided. `left` are those not yet decided, `unseen` the free atoms that were in no round, `taken`
+// the atoms of this round, a word at a time, and `front` those of the next round; a round is a step.
+pub fn reached(
+    table: &[u64; 256],
+    free: [u64; 2],
+    targets: [u64; 2],
+    want: [u64; 2],
+    steps: usize,
+) -> [u64; 2]
     requires { ⌜ Symmetric (linkedBy (now table)) ⌝ }
-    ensures { λ r. ⌜ Reached (linkedBy (now (table .entry))) (has free) (has targets) (has want) (has r) ⌝ }
+    ensures { λ r. ⌜ Reached (linkedBy (now (table .entry))) (has free) (has targets) steps (has want) (has r) ⌝ }
 {
     let mut left = want;
     let mut unseen = free;
     let mut front = targets;
-    'sweep: loop {
+    let mut rounds = steps;
+    'sweep: while rounds != 0 {
+        rounds -= 1;
         let taken = front;
         front = atomset::empty();
         let mut k: usize = 0;
@@ -40,7 +48,7 @@ pub fn reached(table: &[u64; 256], free: [u64; 2], targets: [u64; 2], want: [u64
                 let undecided = atomset::minus(left, near);
                 left = undecided;
                 if atomset::is_empty(left) {
-                    break 'sweep want;
+                    break 'sweep;
                 }
                 let fresh = atomset::intersection(near, unseen);
                 let not_fresh = atomset::minus(unseen, fresh);
@@ -51,7 +59,8 @@ pub fn reached(table: &[u64; 256], free: [u64; 2], targets: [u64; 2], want: [u64
             k += 1;
         }
         if atomset::is_empty(front) {
-            break 'sweep atomset::minus(want, left);
+            break 'sweep;
         }
     }
+    atomset::minus(want, left)
 }

@@ -1,12 +1,14 @@
 -- `dive::plan_added` meets its contract: the sets of the shortest beginning that they steer are made and kept, those of
 -- a longer one were handed on; then it is planned. By `added-first` and `added-later`.
+use Prim.Native.Nat.{suc, _-_}
 use native.Mathlib.Omega.{arith}
 use mathlib.Core.Logic.{inl, inr}
 use mathlib.Core.Path.{_≡_, ap, sym, _∙_}
-use lib.ListN.{length}
+use lib.ListN.{length, take}
 use borrow.Author.Needs.{needs}
-use Rattle.openness.specs.Plan.{firstLength}
-use Rattle.dive.proofs.Levels.{added-first, added-later}
+use Rattle.openness.specs.Plan.{mostAtoms, firstLength}
+use Rattle.openness.proofs.Aims.{first-some, begun-room, begun-steps}
+use Rattle.dive.proofs.Levels.{steered-at, added-first, added-later}
 use Rattle.dive.proofs.plan_added.Statement.{statement}
 use Rattle.dive.proofs.plan_added.Tie as tie
 
@@ -16,7 +18,7 @@ abbrev start : tie.After-first-length → tie.Start
 start c = c .before .before
 
 abbrev joined : tie.After-plan-level → tie.Joined1
-joined c = c .before .before
+joined c = c .before .before .before
 
 -- the length is the first one
 same : (c : tie.Then1) → let args = start (c .before) .args in args .len ≡ firstLength (args .kind)
@@ -39,6 +41,16 @@ keep-aim-requires c κs =
     let start : tie.Start = search in
     (omega (arith, start .pre .begun .short), omega (arith, start .pre .sized))
 
+-- the steps that are left
+left : (c : tie.After-steps-left) → let args = start (c .before .before) .args in
+    c .steps-left .result ≡ mostAtoms (args .kind) (args .s) - suc (length (take (args .len) (args .prefix .now)))
+left c = let start : tie.Start = search in begun-steps (start .pre .begun) (c .steps-left .ensures)
+
+steps-left-requires : tie.Need-steps-left-requires
+steps-left-requires c κs =
+    let start : tie.Start = search in
+    begun-room (start .pre .begun) (omega (arith, first-some (start .args .kind), start .pre .long))
+
 plan-level-requires : tie.Need-plan-level-requires
 plan-level-requires c κs =
     let start : tie.Start = search in
@@ -47,7 +59,7 @@ plan-level-requires c κs =
       pre .begun .short,
       pre .low,
       pre .high,
-      omega (arith, pre .sized, size-kept (c .before)),
+      omega (arith, pre .sized, size-kept (search)),
     )
 
 same-length : tie.Need-same-length
@@ -62,13 +74,16 @@ returns c =
     elim (joined plan .if1 .came) [
       | inl (if1, first-aim, arg, keep-aim, back, known, levels) ↦
           let first = if1 .taken ∙ length .first-length .ensures in
-          added-first (first-aim .result) (omega (arith, pre .sized)) first
-          (rw (pre .last-is, first) (first-aim .ensures)) (levels ∙ keep-aim .ensures) (plan .plan-level .ensures)
+          added-first (left (search)) (first-aim .result) (omega (arith, pre .sized)) first
+          (steered-at _ (pre .last-is) first (first-aim .ensures)) (levels ∙ keep-aim .ensures)
+          (plan .plan-level .ensures)
       | inr (if1, levels) ↦
-          added-later (pre .long) (λ e. if1 .left (e ∙ sym (length .first-length .ensures)))
+          added-later (left (search)) (pre .long) (λ e. if1 .left (e ∙ sym (length .first-length .ensures)))
           (rw levels at (plan .plan-level .ensures))
     ]
 
 pub plan-added-spec : {M : Type 1} → statement M
 plan-added-spec =
-    tie.close (tie.spec (λ c κs. tt) first-aim-requires keep-aim-requires plan-level-requires same-length returns)
+    tie.close
+    (tie.spec
+    (λ c κs. tt) first-aim-requires keep-aim-requires steps-left-requires plan-level-requires same-length returns)

@@ -5,6 +5,7 @@ use native.Mathlib.Omega.{arith}
 use mathlib.Core.Path.{_∙_}
 use borrow.Author.Needs.{needs}
 use Rattle.openness.specs.Plan.{firstLength}
+use Rattle.openness.proofs.Aims.{begun-room}
 use Rattle.dive.proofs.Entries.{longer-room, last-atom, starts-steered, starts-short}
 use Rattle.dive.proofs.plan_start.Statement.{statement}
 use Rattle.dive.proofs.plan_start.Tie as tie
@@ -54,7 +55,7 @@ returns c =
 
 -- from where it is planned
 abbrev sets : tie.After-plan-level → tie.After-keep-aim2
-sets c = c .before .before .before .before .before .before
+sets c = c .before .before .before .before .before .before .before
 
 aim-at-requires : tie.Need-aim-at-requires
 aim-at-requires c κs = let start : tie.Start = search in (start .pre .begun, long (search))
@@ -66,6 +67,11 @@ keep-aim-requires-2 c κs =
 
 sub-u8-usize : tie.Need-sub-u8-usize
 sub-u8-usize c = let start : tie.Start = search in start .pre .entered .some
+
+steps-left-requires : tie.Need-steps-left-requires
+steps-left-requires c κs =
+    let start : tie.Start = search in
+    begun-room (start .pre .begun) (start .pre .entered .some)
 
 plan-level-requires : tie.Need-plan-level-requires
 plan-level-requires c κs =
@@ -90,12 +96,15 @@ returns-2 : tie.Need-returns-2
 returns-2 c =
     let plan : tie.After-plan-level = search in
     let start : tie.Start = search in
+    let steps : tie.After-steps-left = search in
     starts-steered (start .pre) (long (search)) (sets plan .before .before .aim-at .ensures)
-    (sets plan .keep-aim2 .ensures) (plan .before .u8-usize .ensures .same) (plan .plan-level .ensures)
+    (sets plan .keep-aim2 .ensures) (plan .before .u8-usize .ensures .same) (steps .steps-left .ensures)
+    (plan .plan-level .ensures)
 
 pub plan-start-spec : {M : Type 1} → statement M
 plan-start-spec =
     tie.close
     (tie.spec
     (λ c κs. tt) (λ c κs. tt) keep-aim-requires keep-rest-requires same-length returns aim-at-requires
-    keep-aim-requires-2 sub-u8-usize (λ c. search needs) (λ c κs. tt) plan-level-requires same-length-2 returns-2)
+    keep-aim-requires-2 steps-left-requires sub-u8-usize (λ c. search needs) (λ c κs. tt) plan-level-requires
+    same-length-2 returns-2)

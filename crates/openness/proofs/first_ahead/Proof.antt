@@ -6,8 +6,7 @@ use mathlib.Core.Path.{_≡_, sym, _∙_}
 use mathlib.Core.Bool.{not}
 use mathlib.Core.List.{[], _∷_}
 use Rattle.enumeration.specs.Words.{isOpen}
-use Rattle.chordless.specs.Families.{rings}
-use Rattle.atomset.specs.Set.{linkedBy}
+use Rattle.openness.specs.Plan.{ringsBy}
 use Rattle.openness.specs.Parts.{OneAtom}
 use Rattle.openness.proofs.Rings.{seconds-tell, starts-told}
 use Rattle.openness.proofs.Rings.{NoneBefore, none-before, none-more, ahead-first, ahead-none}
@@ -15,10 +14,10 @@ use Rattle.openness.proofs.first_ahead.Statement.{statement}
 use Rattle.openness.proofs.first_ahead.Tie as tie
 
 abbrev Inv-loop : tie.InvT-loop
-Inv-loop table n c none a₀ a = NoneBefore n table c a
+Inv-loop table n most c none a₀ a = NoneBefore n table most c a
 
 abbrev μ-loop : tie.MeasureT-loop
-μ-loop table n c none a₀ a = n + 1 - a
+μ-loop table n most c none a₀ a = n + 1 - a
 
 -- ---- the places (in a proof, `search` finds a place in c by its type)
 
@@ -36,11 +35,12 @@ start c = c .before .before
 atom :
     (c : Place tie.In-loop) →
     let args = start (turn c) .args in
-    OneAtom (args .n) (args .table .now) (turn c .loop .a)
+    OneAtom (args .n) (args .table .now) (args .most) (turn c .loop .a)
 atom c =
     let given = start (turn c) .pre in
     record {
       words = given .words;
+      room = given .room;
       low = omega (arith, given .low, turn c .loop .inv .from);
       high = c .loop-test .taken;
     }
@@ -50,12 +50,12 @@ begins :
     (c : Place tie.After-is-empty) →
     let loop = turn (c .before .before) in
     let args = start loop .args in
-    not (c .is-empty .result) ≡ isOpen (rings (args .n) (linkedBy (args .table .now))) (loop .loop .a ∷ [])
+    not (c .is-empty .result) ≡ isOpen (ringsBy (args .n) (args .table .now) (args .most)) (loop .loop .a ∷ [])
 begins c = starts-told (atom (search)) (c .before .second-atoms .ensures) (c .is-empty .ensures)
 
 -- ---- the needs
 
-cast-atom : tie.Need-cast-t10 Inv-loop μ-loop
+cast-atom : tie.Need-cast-t11 Inv-loop μ-loop
 cast-atom c = let a = atom (search) in omega (arith, a .high, a .words .few)
 
 returns : tie.Need-returns Inv-loop μ-loop
@@ -64,7 +64,7 @@ returns c =
     let empty : Place tie.After-empty = search in
     let found : Place tie.After-second-atoms = search in
     ahead-first (loop .loop .inv) (atom (search)) (sym (begins (search)) ∙ c .if1 .taken)
-    (seconds-tell _ (empty .empty .ensures) (found .second-atoms .ensures))
+    (seconds-tell _ _ (empty .empty .ensures) (found .second-atoms .ensures))
 
 add-a : tie.Need-add-a Inv-loop μ-loop
 add-a c = let a = atom (search) in omega (arith, a .high, a .words .few)

@@ -1,4 +1,4 @@
--- `openness::first_length` meets its contract: 2 for rings, 1 for paths.
+-- `openness::first_length` meets its contract: 1 for paths, 2 for rings.
 -- By the two answers of the test of the kind.
 use mathlib.Core.Path.{sym}
 use Rattle.openness.proofs.Plans.{first-of-rings, first-of-paths}
@@ -6,10 +6,10 @@ use Rattle.openness.proofs.first_length.Statement.{statement}
 use Rattle.openness.proofs.first_length.Tie as tie
 
 returns : tie.Need-returns
-returns c = sym (first-of-rings _ (c .if1 .taken))
+returns c = sym (first-of-paths _ (c .if1 .taken))
 
 returns-2 : tie.Need-returns-2
-returns-2 c = sym (first-of-paths _ (c .if1 .left))
+returns-2 c = sym (first-of-rings _ (c .if1 .left))
 
 pub first-length-spec : {M : Type 1} → statement M
 first-length-spec = tie.close (tie.spec returns returns-2)

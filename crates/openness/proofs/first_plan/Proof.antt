@@ -14,7 +14,7 @@ returns : tie.Need-returns
 returns c =
     let read : tie.After-u8-usize = search in
     let empty : tie.After-empty = search in
-    let tells = seconds-tell _ (empty .empty .ensures) (c .second-atoms .ensures) in
+    let tells = seconds-tell _ _ (empty .empty .ensures) (c .second-atoms .ensures) in
     record { atom-is = refl; tells = rw (read .u8-usize .ensures .same) at tells }
 
 pub first-plan-spec : {M : Type 1} → statement M

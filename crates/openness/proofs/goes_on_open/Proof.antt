@@ -7,7 +7,7 @@ use lib.ListN.{take}
 use Rattle.enumeration.specs.Words.{isOpen}
 use Rattle.openness.specs.Plan.{Beginning, familyBy}
 use Rattle.openness.proofs.Opens.{open-beside, opens-in, open-stops, open-more, open-all}
-use Rattle.openness.proofs.Aims.{AimedTo, place-atom, steered-last}
+use Rattle.openness.proofs.Aims.{AimedTo, place-atom, begun-room, begun-steps, steered-last}
 use Rattle.openness.proofs.Aims.{aimed-start, aimed-some, aimed-open, aimed-more}
 use Rattle.openness.proofs.goes_on_open.Statement.{statement}
 use Rattle.openness.proofs.goes_on_open.Tie as tie
@@ -25,7 +25,7 @@ Place place = place Inv-loop μ-loop
 
 -- from the test of the next atom
 abbrev turn : Place tie.After-opens-by → Place tie.In-loop
-turn c = c .before .before .before .before .before .before .before
+turn c = c .before .before .before .before .before .before .before .before
 
 abbrev start : Place tie.In-loop → Place tie.Start
 start c = c .before .before .before .before
@@ -55,10 +55,13 @@ told :
 told c =
     let read : Place tie.After-u8-usize = search in
     let plan : Place tie.After-swept-plan = search in
+    let steps : Place tie.After-steps-left = search in
     let next : Place tie.After-u8-usize2 = search in
+    let here = begun (turn c) in
     let steered = steered-last (read .u8-usize .ensures .same) (turn c .before .loop .inv .steered) in
     c .opens-by .ensures ∙
-    opens-in (begun (turn c)) (next .u8-usize2 .ensures .same) (plan .swept-plan .ensures _ _ steered _)
+    opens-in here (next .u8-usize2 .ensures .same)
+    (plan .swept-plan .ensures _ _ _ steered (begun-steps here (steps .steps-left .ensures)) _)
 
 -- ---- the needs
 
@@ -73,10 +76,16 @@ sub-u8-usize c = aimed-some (c .before .loop .inv)
 element-copy-out-u8-usize : tie.Need-element-copy-out-u8-usize Inv-loop μ-loop
 element-copy-out-u8-usize c = omega (arith, begun c .short)
 
+steps-left-requires : tie.Need-steps-left-requires Inv-loop μ-loop
+steps-left-requires c κs =
+    let turn : Place tie.In-loop = search in
+    begun-room (begun turn) (aimed-some (turn .before .loop .inv))
+
 swept-plan-requires : tie.Need-swept-plan-requires Inv-loop μ-loop
 swept-plan-requires c κs =
+    let handed : Place tie.After-aim-after = search in
     let (low, high) = last (search) in
-    (begun (search) .words .symmetric, c .aim-after .ensures, low, high)
+    (begun (search) .words .symmetric, handed .aim-after .ensures, low, high)
 
 element-copy-out-u8-usize-2 : tie.Need-element-copy-out-u8-usize-2 Inv-loop μ-loop
 element-copy-out-u8-usize-2 c = omega (arith, begun (search) .short)
@@ -107,5 +116,5 @@ goes-on-open-spec =
     tie.close
     (tie.spec
     Inv-loop μ-loop (λ c κs. c .pre .0) (λ c κs. tt) loop-holds sub-u8-usize element-copy-out-u8-usize (λ c κs. tt)
-    (λ c κs. last c) swept-plan-requires element-copy-out-u8-usize-2 (λ c κs. tt) (λ c κs. tt) returns
-    (λ c. omega arith) (λ c. omega arith) loop-again returns-2)
+    (λ c κs. last c) steps-left-requires swept-plan-requires element-copy-out-u8-usize-2 (λ c κs. tt) (λ c κs. tt)
+    returns (λ c. omega arith) (λ c. omega arith) loop-again returns-2)

@@ -5,6 +5,7 @@ use native.Mathlib.Omega.{arith}
 use mathlib.Core.Path.{sym}
 use borrow.Author.Needs.{needs}
 use Rattle.openness.specs.Plan.{Beginning, firstLength}
+use Rattle.openness.proofs.Plans.{most-room}
 use Rattle.openness.proofs.Opens.{open-none, one-of-rings, first-stops, first-goes-on}
 use Rattle.openness.proofs.is_open.Statement.{statement}
 use Rattle.openness.proofs.is_open.Tie as tie
@@ -24,17 +25,25 @@ long c = omega (arith, c .if2 .left, c .before .first-length .ensures)
 returns : tie.Need-returns
 returns c = sym (rw (c .if1 .taken) (none (c .before) .isOpened))
 
+one-opens-requires : tie.Need-one-opens-requires
+one-opens-requires c κs =
+    let start : tie.Start = search in
+    let (words, kinds, size, few) = start .pre in
+    (words, rw (c .most-atoms .ensures) (most-room _ (start .args .table .now) _ _ _ kinds), size)
+
 returns-2 : tie.Need-returns-2
 returns-2 c =
     let start : tie.Start = search in
     let some : tie.Else1 = search in
+    let then : tie.Then2 = search in
     let first : tie.After-first-length = search in
     let args = start .args in
     let short : args .len < firstLength (args .kind) =
-    omega (arith, c .before .if2 .taken, first .first-length .ensures) in
-    let (words, kinds, size, most) = start .pre in
-    one-of-rings _ _ (args .prefix .now) size (args .kind) (args .s) (args .t) (omega (arith, some .if1 .left)) short
-    (c .one-opens .ensures)
+    omega (arith, then .if2 .taken, first .first-length .ensures) in
+    let most : tie.After-most-atoms = search in
+    let (words, kinds, size, few) = start .pre in
+    one-of-rings _ _ _ (args .prefix .now) size (args .kind) (args .s) (args .t) (words .few)
+    (most .most-atoms .ensures) (omega (arith, some .if1 .left)) short (c .one-opens .ensures)
 
 returns-3 : tie.Need-returns-3
 returns-3 c = sym (first-stops _ _ _ _ _ _ (long (search)) (c .before .first-opens .ensures) (c .if3 .taken))
@@ -50,5 +59,5 @@ pub is-open-spec : {M : Type 1} → statement M
 is-open-spec =
     tie.close
     (tie.spec
-    returns (λ c κs. tt) (λ c κs. search needs) returns-2 (λ c κs. search needs) returns-3 goes-on-open-requires
-    (λ c. search needs))
+    returns (λ c κs. tt) (λ c κs. tt) one-opens-requires returns-2 (λ c κs. search needs) returns-3
+    goes-on-open-requires (λ c. search needs))

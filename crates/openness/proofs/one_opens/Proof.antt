@@ -15,19 +15,20 @@ returns c =
     let start : tie.Start = search in
     let read : tie.After-u8-usize = search in
     let none = sym (c .before .is-atom .ensures) ∙ not-true _ (c .if1 .taken) in
-    sym (one-no-atom _ _ (start .args .prefix .now) (start .pre .1) (read .u8-usize .ensures .same) none)
+    sym (one-no-atom _ _ _ (start .args .prefix .now) (start .pre .2) (read .u8-usize .ensures .same) none)
 
 ring-starts-requires : tie.Need-ring-starts-requires
 ring-starts-requires c κs =
     let start : tie.Start = search in
     let (low, high) = atom-bounds _ _ (sym (c .before .is-atom .ensures) ∙ not-false _ (c .if1 .left)) in
-    record { words = start .pre .0; low = low; high = high }
+    record { words = start .pre .0; room = start .pre .1; low = low; high = high }
 
 returns-2 : tie.Need-returns-2
 returns-2 c =
     let start : tie.Start = search in
     let read : tie.After-u8-usize = search in
-    one-told _ _ (start .args .prefix .now) (start .pre .1) (read .u8-usize .ensures .same) (c .ring-starts .ensures)
+    one-told _ _ _ (start .args .prefix .now) (start .pre .2) (read .u8-usize .ensures .same)
+    (c .ring-starts .ensures)
 
 pub one-opens-spec : {M : Type 1} → statement M
 one-opens-spec =

@@ -6,20 +6,20 @@ use Rattle.openness.proofs.opening.Statement.{statement}
 use Rattle.openness.proofs.opening.Tie as tie
 
 returns : tie.Need-returns
-returns c F p x aim k = nothing-ahead k (c .before .is-empty .ensures) (c .if1 .taken)
+returns c F most p x aim k = nothing-ahead k (c .before .is-empty .ensures) (c .if1 .taken)
 
 returns-2 : tie.Need-returns-2
-returns-2 c F p x aim k = nothing-wanted k (c .before .is-empty2 .ensures) (c .if2 .taken)
+returns-2 c F most p x aim k = nothing-wanted k (c .before .is-empty2 .ensures) (c .if2 .taken)
 
 returns-3 : tie.Need-returns-3
-returns-3 c F p x aim k =
+returns-3 c F most p x aim k =
     let members : tie.After-is-empty3 = search in
     let empty : tie.Then3 = search in
     sole-candidate k (members .is-empty3 .ensures) (empty .if3 .taken) (c .before .at-most-one .ensures)
     (c .if4 .taken)
 
 returns-4 : tie.Need-returns-4
-returns-4 c F p x aim k = sweep-opens k (c .reached .ensures)
+returns-4 c F most p x aim k = sweep-opens k (c .reached .ensures)
 
 pub opening-spec : {M : Type 1} → statement M
 opening-spec =

@@ -55,6 +55,9 @@ returns-2 c =
     let start : tie.Start = search in
     sym (pair-bonded (first-of (start .pre)) _ (bonded (search) ∙ not-true _ (c .if2 .taken)))
 
+sub-steps : tie.Need-sub-reached
+sub-steps c = let start : tie.Start = search in start .pre .1
+
 returns-3 : tie.Need-returns-3
 returns-3 c =
     let start : tie.Start = search in
@@ -69,5 +72,5 @@ pair-opens-spec =
     tie.close
     (tie.spec
     returns (λ c κs. search needs) (λ c κs. search needs) returns-2 (λ c κs. search needs) (λ c κs. search needs)
-    (λ c κs. search needs) (λ c κs. search needs) (λ c κs. search needs) (λ c κs. search needs) (λ c κs. search needs)
-    returns-3)
+    (λ c κs. search needs) (λ c κs. search needs) (λ c κs. search needs) sub-steps (λ c κs. search needs)
+    (λ c κs. search needs) returns-3)

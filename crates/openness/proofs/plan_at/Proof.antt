@@ -29,13 +29,15 @@ returns c = let start : tie.Start = search in steered-found (start .pre) (c .ste
 short-ring-requires : tie.Need-short-ring-requires
 short-ring-requires c κs =
     let start : tie.Start = search in
-    ring-asked (start .pre) (c .if2 .taken) (short (search))
+    let ring : tie.Then2 = search in
+    ring-asked (start .pre) (ring .if2 .taken) (c .most-atoms .ensures) (short (search))
 
 returns-2 : tie.Need-returns-2
 returns-2 c =
     let start : tie.Start = search in
     let ring : tie.Then2 = search in
-    ring-found (start .pre) (ring .if2 .taken) (c .short-ring .ensures)
+    let most : tie.After-most-atoms = search in
+    ring-found (start .pre) (ring .if2 .taken) (most .most-atoms .ensures) (c .short-ring .ensures)
 
 path-firsts-requires : tie.Need-path-firsts-requires
 path-firsts-requires c κs =
@@ -53,5 +55,5 @@ pub plan-at-spec : {M : Type 1} → statement M
 plan-at-spec =
     tie.close
     (tie.spec
-    (λ c κs. tt) steered-plan-requires returns short-ring-requires returns-2 (λ c κs. tt) path-firsts-requires
-    returns-3)
+    (λ c κs. tt) steered-plan-requires returns (λ c κs. tt) short-ring-requires returns-2 (λ c κs. tt)
+    path-firsts-requires returns-3)

@@ -15,10 +15,10 @@ use Rattle.openness.proofs.second_atoms.Statement.{statement}
 use Rattle.openness.proofs.second_atoms.Tie as tie
 
 abbrev Inv-loop : tie.InvT-loop
-Inv-loop table n s between left₀ shut₀ found₀ left shut found = Sifted n table s left shut found
+Inv-loop table n most s between left₀ shut₀ found₀ left shut found = Sifted n table most s left shut found
 
 abbrev μ-loop : tie.MeasureT-loop
-μ-loop table n s between left₀ shut₀ found₀ left shut found = size (has left) 128
+μ-loop table n most s between left₀ shut₀ found₀ left shut found = size (has left) 128
 
 -- ---- the places (in a proof, `search` finds a place in c by its type)
 
@@ -64,7 +64,7 @@ turned :
     (c : Place tie.After-union2) →
     let loop = turn (taken c) .loop in
     let args = start (sets (turn (taken c))) .args in
-    SiftingTurn (args .n) (args .table .now) (args .s) (loop .left) (loop .shut) (loop .found)
+    SiftingTurn (args .n) (args .table .now) (args .most) (args .s) (loop .left) (loop .shut) (loop .found)
     (taken c .without-lowest .result) (c .union2 .result) (c .before .before .union .result)
 turned c =
     let loop = turn (taken c) in
@@ -109,6 +109,9 @@ loop-holds c =
     sifted-start (λ v. rw (all .intersection .ensures v, range .range .ensures v, row .row .ensures v))
     (c .before .empty .ensures) (c .empty2 .ensures)
 
+sub-steps : tie.Need-sub-reached-from Inv-loop μ-loop
+sub-steps c = let start : Place tie.Start = search in start .pre .room
+
 returns : tie.Need-returns Inv-loop μ-loop
 returns c =
     let none = c .before .is-empty .ensures .none (not-false _ (c .if1 .left)) in
@@ -120,5 +123,5 @@ second-atoms-spec =
     tie.close
     (tie.spec
     Inv-loop μ-loop row-requires range-requires (λ c κs. tt) (λ c κs. tt) (λ c κs. tt) (λ c κs. tt) loop-holds
-    (λ c κs. tt) (λ c κs. some c) (λ c κs. c .without-lowest .ensures) (λ c κs. search needs) (λ c κs. tt)
+    (λ c κs. tt) (λ c κs. some c) (λ c κs. c .without-lowest .ensures) sub-steps (λ c κs. search needs) (λ c κs. tt)
     (λ c κs. tt) (λ c κs. tt) (λ c. taken-fewer (takes (taken c))) (λ c. sifted-turn (turned c)) returns)

@@ -2,7 +2,7 @@
 -- Its last atom is read from the array, and is an atom since the beginning is open.
 use native.Mathlib.Omega.{arith}
 use borrow.Author.Needs.{needs}
-use Rattle.openness.proofs.Aims.{first-some, place-atom, steered-last}
+use Rattle.openness.proofs.Aims.{first-some, place-atom, begun-room, begun-steps, steered-last}
 use Rattle.openness.proofs.steered_plan.Statement.{statement}
 use Rattle.openness.proofs.steered_plan.Tie as tie
 
@@ -23,17 +23,27 @@ swept-plan-requires c κs =
     let read : tie.After-u8-usize = search in
     let some = first-some (start .args .kind) in
     let (low, high) = place-atom (start .pre .0) _ (omega arith) (read .u8-usize .ensures .same) in
-    (start .pre .0 .words .symmetric, c .aim-after .ensures, low, high)
+    let next : tie.After-aim-after = search in
+    (start .pre .0 .words .symmetric, next .aim-after .ensures, low, high)
+
+steps-left-requires : tie.Need-steps-left-requires
+steps-left-requires c κs =
+    let start : tie.Start = search in
+    let some = first-some (start .args .kind) in
+    begun-room (start .pre .0) (omega arith)
 
 returns : tie.Need-returns
 returns c =
+    let start : tie.Start = search in
     let aimed : tie.After-aim-at = search in
     let read : tie.After-u8-usize = search in
-    c .swept-plan .ensures _ _ (steered-last (read .u8-usize .ensures .same) (aimed .aim-at .ensures))
+    let steps : tie.After-steps-left = search in
+    c .swept-plan .ensures _ _ _ (steered-last (read .u8-usize .ensures .same) (aimed .aim-at .ensures))
+    (begun-steps (start .pre .0) (steps .steps-left .ensures))
 
 pub steered-plan-spec : {M : Type 1} → statement M
 steered-plan-spec =
     tie.close
     (tie.spec
     (λ c κs. search needs) sub-u8-usize (λ c. search needs) (λ c κs. search needs) aim-after-requires
-    swept-plan-requires returns)
+    steps-left-requires swept-plan-requires returns)

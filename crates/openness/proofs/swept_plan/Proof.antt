@@ -10,7 +10,7 @@ returns c =
     let start : tie.Start = search in
     let near : tie.After-beside-last = search in
     let (symmetric, handed, low, high) = start .pre in
-    plan-told handed (near .beside-last .ensures) (λ F p y before k. sweep-opens k (c .reached .ensures))
+    plan-told handed (near .beside-last .ensures) (λ F most p y before k. sweep-opens k (c .reached .ensures))
 
 pub swept-plan-spec : {M : Type 1} → statement M
 swept-plan-spec = tie.close (tie.spec (λ c κs. search needs) (λ c κs. search needs) returns)
