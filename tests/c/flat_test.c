@@ -556,6 +556,11 @@ static uint32_t start_paths(search *given, uint64_t s, uint64_t t) {
                             PLACES);
 }
 
+static uint32_t start_rings_up_to(search *given, uint64_t size) {
+    return flat_start_rings_up_to(4, 5, rows, ROWS, size, given->numbers, NUMBERS, given->prefix,
+                                  PLACES);
+}
+
 /* Runs with an output of exactly `len` bytes, copied into `out` of 16. */
 static uint32_t run(search *given, uint64_t budget, uint8_t out[16], size_t len) {
     memset(out, PATTERN, 16);
@@ -645,6 +650,153 @@ static void four_ring(void) {
     IS(&now, "\1", 0, 0, 0, 1, 3, 11, 3, 1, 0, 1);
     EQUAL(flat_run(4, 4, rows, ROWS, now.numbers, NUMBERS, now.prefix, PLACES, 6, out, 0), 101);
     IS(&now, "", 0, 0, 0, 0, 5, 16, 3, 1, 0, 5);
+}
+
+/* Rings up to a size. The bonds 1-2, 2-3, 3-1 make a ring of three, and 1-4, 4-6,
+   6-5, 5-1 one of four: rings 1 2 3 and 1 4 6 5. With k = 3 the second is no
+   member, and 1 4 does not open.
+     1: -    1  open     2: 1    1  no     3: 1    2  open
+     4: 1 2  1  no       5: 1 2  2  no     6: 1 2  3  listed
+     7 to 9: 1 2 with 4, 5, 6  no, p becomes 1 and c 3
+    10 to 13: 1 with 3, 4, 5, 6  no, p becomes empty and c 2
+    14 to 18: - with 2 to 6  no, done: 6 * (2 + 1) = 18 trials
+   With k = 4 trial 11 opens 1 4, 1 4 with 6 opens, and 1 4 6 with 5 is listed:
+   4 extensions, 30 trials, as without a size. */
+static void two_rings_up_to(void) {
+    /* 1: 2, 3, 4, 5. 2: 1, 3. 3: 1, 2. 4: 1, 6. 5: 1, 6. 6: 4, 5. */
+    static const uint8_t bits[6] = {0x1E, 0x05, 0x03, 0x21, 0x21, 0x18};
+    static const char both[] = "\3\1\2\3\4\1\4\6\5";
+    static const struct {
+        uint64_t size, trials, extensions, listed, used;
+    } cases[4] = {{3, 18, 2, 1, 4}, {4, 30, 4, 2, 9}, {6, 30, 4, 2, 9}, {128, 30, 4, 2, 9}};
+    search now;
+    uint8_t out[16];
+    memset(rows, 0, ROWS);
+    for (int a = 0; a < 6; a++) {
+        rows[16 * a] = bits[a];
+    }
+    for (int i = 0; i < 4; i++) {
+        uint64_t size = cases[i].size;
+        memset(out, PATTERN, 16);
+        memset(&now, PATTERN, sizeof now);
+        EQUAL(flat_start_rings_up_to(6, 7, rows, ROWS, size, now.numbers, NUMBERS, now.prefix,
+                                     PLACES), 0);
+        IS(&now, "", 2, size, 0, 0, 1, 0, 0, 0, 0, 0);
+        EQUAL(flat_run(6, 7, rows, ROWS, now.numbers, NUMBERS, now.prefix, PLACES, 99, out, 16),
+              101);
+        IS(&now, "", 2, size, 0, 0, 7, cases[i].trials, cases[i].extensions, cases[i].listed,
+           cases[i].used, cases[i].trials);
+        CHECK(memcmp(out, both, cases[i].used) == 0);
+        CHECK(all_are(out + cases[i].used, 16 - cases[i].used, PATTERN));
+    }
+    /* The beginning 1 4 is open with k = 4, and not with k = 3. */
+    static const char mark[] =
+        "   2   4   0   6   7   2   6\n"
+        "                   0                   0                   0\n"
+        "   1   4\n";
+    EQUAL(flat_restore(6, 7, rows, ROWS, (const uint8_t *)mark, 99, now.numbers, NUMBERS,
+                       now.prefix, PLACES), 0);
+    IS(&now, "\1\4", 2, 4, 0, 2, 6, 0, 0, 0, 0, 0);
+    uint8_t saved[100];
+    memset(saved, PATTERN, 100);
+    EQUAL(flat_save(6, 7, rows, ROWS, now.numbers, NUMBERS, now.prefix, PLACES, saved, 100), 99);
+    CHECK(memcmp(saved, mark, 99) == 0 && saved[99] == PATTERN);
+    now.numbers[1] = 3;
+    search before = now;
+    EQUAL(flat_run(6, 7, rows, ROWS, now.numbers, NUMBERS, now.prefix, PLACES, 9, out, 16), 12);
+    EQUAL(flat_save(6, 7, rows, ROWS, now.numbers, NUMBERS, now.prefix, PLACES, saved, 100), 12);
+    CHECK(same(&now, &before));
+}
+
+/* A beginning that one ring leaves open and a longer one does not. The bonds 1-2,
+   2-3, 3-4, 4-1 and 2-5, 5-6, 6-4 make the rings 1 2 3 4, 1 2 5 6 4 and
+   2 3 4 6 5. With k = 4 the open beginnings are 1, 1 2, 1 2 3 and not 1 2 5:
+   6 * (3 + 1) = 24 trials. With k = 5 they are also 1 2 5, 1 2 5 6, 2, 2 3, 2 3 4
+   and 2 3 4 6, 9 in all: 60 trials. */
+static void three_rings_up_to(void) {
+    /* 1: 2, 4. 2: 1, 3, 5. 3: 2, 4. 4: 1, 3, 6. 5: 2, 6. 6: 4, 5. */
+    static const uint8_t bits[6] = {0x0A, 0x15, 0x0A, 0x25, 0x22, 0x18};
+    static const char all[] = "\4\1\2\3\4\5\1\2\5\6\4\5\2\3\4\6\5";
+    search now;
+    uint8_t out[17];
+    memset(rows, 0, ROWS);
+    for (int a = 0; a < 6; a++) {
+        rows[16 * a] = bits[a];
+    }
+    for (uint64_t size = 3; size <= 6; size++) {
+        uint64_t listed = size == 3 ? 0 : size == 4 ? 1 : 3;
+        uint64_t extensions = size == 3 ? 0 : size == 4 ? 3 : 9;
+        uint64_t used = size == 3 ? 0 : size == 4 ? 5 : 17;
+        uint64_t trials = 6 * (extensions + 1);
+        memset(out, PATTERN, 17);
+        EQUAL(flat_start_rings_up_to(6, 7, rows, ROWS, size, now.numbers, NUMBERS, now.prefix,
+                                     PLACES), 0);
+        EQUAL(flat_run(6, 7, rows, ROWS, now.numbers, NUMBERS, now.prefix, PLACES, 99, out, 17),
+              101);
+        IS(&now, "", 2, size, 0, 0, 7, trials, extensions, listed, used, trials);
+        CHECK(memcmp(out, all, used) == 0 && all_are(out + used, 17 - used, PATTERN));
+    }
+}
+
+/* The same functions on the document's sheet: what they refuse. */
+static void refused_up_to(void) {
+    static const uint64_t sizes[9] = {0, 1, 2, 129, 130, 256, 259, (UINT64_C(1) << 32) + 3,
+                                      UINT64_MAX};
+    search now, before, full;
+    uint8_t out[16];
+    document_rows(rows);
+    /* k from 3 to 128, whatever n is. */
+    for (uint64_t size = 3; size <= 128; size++) {
+        memset(&now, PATTERN, sizeof now);
+        EQUAL(start_rings_up_to(&now, size), 0);
+        IS(&now, "", 2, size, 0, 0, 1, 0, 0, 0, 0, 0);
+    }
+    memset(&before, PATTERN, sizeof before);
+    now = before;
+    for (int i = 0; i < 9; i++) {
+        EQUAL(start_rings_up_to(&now, sizes[i]), 21);
+    }
+    CHECK(same(&now, &before));
+    /* 12: of a search at 1 2 with k = 4, in s or t or another kind. */
+    EQUAL(start_rings_up_to(&full, 4), 0);
+    EQUAL(run(&full, 5, out, 16), 103);
+    IS(&full, "\1\2", 2, 4, 0, 2, 3, 5, 2, 0, 0, 5);
+    for (int i = 0; i < 9; i++) {
+        SEARCH_REFUSED(numbers[1] = sizes[i]);
+    }
+    SEARCH_REFUSED(numbers[2] = 1);
+    SEARCH_REFUSED(numbers[2] = UINT64_C(1) << 32);
+    SEARCH_REFUSED(numbers[0] = 0);
+    SEARCH_REFUSED(numbers[0] = 1);
+    SEARCH_REFUSED(numbers[0] = 3);
+    SEARCH_REFUSED(numbers[0] = (UINT64_C(1) << 32) + 2);
+    SEARCH_REFUSED(prefix[1] = 4);
+    SEARCH_REFUSED(numbers[4] = 5);
+    now = full;
+    now.numbers[1] = 128;
+    EQUAL(run(&now, 11, out, 8), 101);
+    IS(&now, "", 2, 128, 0, 0, 5, 16, 3, 2, 8, 11);
+    /* 16 in marks, before 17. */
+    MARK_REFUSED("   2   2   0   4   5   2   0\n" LINE_2 LINE_3, 16);
+    MARK_REFUSED("   2 129   0   4   5   2   3\n" LINE_2 LINE_3, 16);
+    MARK_REFUSED("   2 259   0   4   5   2   3\n" LINE_2 LINE_3, 16);
+    MARK_REFUSED("   2   3   1   4   5   2   3\n" LINE_2 LINE_3, 16);
+    MARK_REFUSED("   3   3   0   4   5   2   3\n" LINE_2 LINE_3, 16);
+    MARK_REFUSED("   2   3   0   4   5   2   0\n" LINE_2 LINE_3, 17);
+    MARK_REFUSED("   2   3   0   4   5   2   3\n" LINE_2 "   1   4\n", 17);
+    MARK_REFUSED("   2   2   0   5   5   2   3\n" LINE_2 LINE_3, 15);
+    MARK_REFUSED("0002   3   0   4   5   2   3\n" LINE_2 LINE_3, 14);
+    /* 9 before 21: the bond 1-2 has lost one of its bits. And 200 before both. */
+    rows[0] = 0x0C;
+    now = before;
+    EQUAL(start_rings_up_to(&now, 3), 9);
+    EQUAL(start_rings_up_to(&now, 2), 9);
+    EQUAL(flat_start_rings_up_to(4, 5, rows, ROWS - 1, 2, now.numbers, NUMBERS, now.prefix, PLACES),
+          200);
+    EQUAL(flat_start_rings_up_to(4, 5, rows, ROWS, 2, now.numbers, 9, now.prefix, PLACES), 200);
+    EQUAL(flat_start_rings_up_to(4, 5, rows, ROWS, 2, now.numbers, 11, now.prefix, PLACES), 200);
+    EQUAL(flat_start_rings_up_to(4, 5, rows, ROWS, 2, now.numbers, NUMBERS, now.prefix, 127), 200);
+    CHECK(same(&now, &before));
 }
 
 /* The document's sheet has the rings 1 2 3 and 1 3 4. The trials of a fresh
@@ -764,6 +916,7 @@ static void searches(void) {
 
     /* 12: kind, s, t, length, place past the length, next atom, counts, p. */
     SEARCH_REFUSED(numbers[0] = 2);
+    SEARCH_REFUSED(numbers[0] = 3);
     SEARCH_REFUSED(numbers[0] = 1);
     SEARCH_REFUSED(numbers[1] = 1);
     SEARCH_REFUSED(numbers[2] = 1);
@@ -812,6 +965,7 @@ static void searches(void) {
     MARK_REFUSED("   0   0   0   5   5   2   3\n" LINE_2 LINE_3, 15);
     MARK_REFUSED("   0   0   0   4   6   2   3\n" LINE_2 LINE_3, 15);
     MARK_REFUSED("   2   0   0   4   5   2   3\n" LINE_2 LINE_3, 16);
+    MARK_REFUSED("   3   0   0   4   5   2   3\n" LINE_2 LINE_3, 16);
     MARK_REFUSED("   0   1   3   4   5   2   3\n" LINE_2 LINE_3, 16);
     MARK_REFUSED("   1   1   5   4   5   2   3\n" LINE_2 LINE_3, 16);
     MARK_REFUSED("   1   1   1   4   5   2   3\n" LINE_2 LINE_3, 16);
@@ -828,7 +982,7 @@ static void searches(void) {
     /* 9 before all that: the bond 1-2 has lost one of its bits. */
     rows[0] = 0x0C;
     now = full;
-    now.numbers[0] = 2;
+    now.numbers[0] = 3;
     search before = now;
     EQUAL(start_rings(&now), 9);
     EQUAL(start_paths(&now, 0, 0), 9);
@@ -854,6 +1008,9 @@ int main(void) {
     fields();
     searches();
     four_ring();
+    two_rings_up_to();
+    three_rings_up_to();
+    refused_up_to();
     printf("C test: %u checks, %u failed\n", checks, failures);
     return failures == 0 ? 0 : 1;
 }

@@ -278,7 +278,13 @@ static void refusals(void) {
     REFUSED(document, "   2   0   0   9   5   2   0\n" LINE_2 "   1\n", MARK, 14);
     REFUSED(document, "   2   0   0   5   5   2   0\n" LINE_2 LINE_3, MARK, 15);
     REFUSED(document, "   0   0   0   4   4   2   3\n" LINE_2 LINE_3, MARK, 15);
+    REFUSED(document, "   3   0   0   4   5   2   0\n" LINE_2 LINE_3, MARK, 16);
     REFUSED(document, "   2   0   0   4   5   2   0\n" LINE_2 LINE_3, MARK, 16);
+    REFUSED(document, "   2   2   0   4   5   2   0\n" LINE_2 LINE_3, MARK, 16);
+    REFUSED(document, "   2 129   0   4   5   2   3\n" LINE_2 LINE_3, MARK, 16);
+    REFUSED(document, "   2   3   1   4   5   2   3\n" LINE_2 LINE_3, MARK, 16);
+    REFUSED(document, "   2   3   0   4   5   2   3\n" LINE_2 "   1   4\n", MARK, 17);
+    REFUSED(document, "   2   3   0   4   5   2   3\n" LINE_2 LINE_3, 598, 13);
     REFUSED(document, "   0   1   0   4   5   2   3\n" LINE_2 LINE_3, MARK, 16);
     REFUSED(document, "   1   1   1   4   5   1   1\n" LINE_2 "   1\n", MARK, 16);
     REFUSED(document, "   1   1   5   4   5   1   1\n" LINE_2 "   1\n", MARK, 16);
@@ -311,6 +317,8 @@ static void zero_lengths(void) {
         EQUAL(ringlist_resume((const uint8_t *)SHEET, any, 0, 5, any, 0, any, 0), 13);
         EQUAL(ringlist_resume((const uint8_t *)SHEET, any, 0, 5, any, 0, next, MARK), 103);
         CHECK(memcmp(next, full_mark, 99) == 0);
+        EQUAL(ringlist_start(any, 0, 0, 0, 0, any, 0), 1);
+        EQUAL(ringlist_start((const uint8_t *)SHEET, 0, 0, 0, any, 0), 13);
         EQUAL(ringlist_mark_length(any, 0), 0);
         EQUAL(ringlist_listed(any, 0), 0);
     }
@@ -351,61 +359,162 @@ static void paths(void) {
     wrote(call(SHEET, start, 91, 99, 8, MARK), 101, "\3\2\1\4\3\2\3\4", 8, end, 91, __LINE__);
 }
 
-/* A start, in a mark output with margins around it: its answer, and the mark at
-   the start of the output, or nothing written where it is NULL. */
-static void starts(const void *sheet, size_t sheet_len, uint64_t kind, uint64_t s, uint64_t t,
-                   size_t next_len, uint32_t answer, const char *mark, int line) {
-    uint8_t *next = some(next_len + 2 * MARGIN), *given = exact(sheet, sheet_len);
-    size_t wrote_len = mark == NULL ? 0 : 91;
+/* A start, its answer and all that it wrote, in a mark output of `next_len`
+   bytes. */
+static void started(const void *sheet, size_t sheet_len, uint64_t kind, uint64_t s, uint64_t t,
+                    size_t next_len, uint32_t answer, const char *mark, int line) {
+    uint8_t *given = exact(sheet, sheet_len), *next = some(next_len + 2 * MARGIN);
     memset(next, PATTERN, next_len + 2 * MARGIN);
     check_number(ringlist_start(given, sheet_len, kind, s, t, next + MARGIN, next_len), answer,
-                 line, "the answer of a start");
-    check(all_are(next, MARGIN, PATTERN), line, "nothing before the mark output");
-    check(wrote_len == 0 || memcmp(next + MARGIN, mark, wrote_len) == 0, line, "the first mark");
-    check(all_are(next + MARGIN + wrote_len, next_len - wrote_len + MARGIN, PATTERN), line,
-          "nothing past the mark");
-    if (mark != NULL) {
-        check_number(ringlist_mark_length(next + MARGIN, next_len), 91, line, "its length");
-    }
-    free(next);
+                 line, "answer of start");
+    check(sheet_len == 0 || memcmp(given, sheet, sheet_len) == 0, line, "sheet kept");
+    check(begins(next, next_len, mark, strlen(mark)), line, "mark of start");
     free(given);
+    free(next);
 }
 
-#define COUNTS_0 "                   0                   0                   0\n\n"
-#define STARTS(kind, s, t, mark) starts(SHEET, kind, s, t, MARK, 0, mark COUNTS_0, __LINE__)
-#define NO_START(sheet, kind, s, t, room, rule) \
-    starts(sheet, sizeof(sheet) - 1, kind, s, t, room, rule, NULL, __LINE__)
+#define NO_COUNTS "                   0                   0                   0\n\n"
+#define STARTED(kind, s, t, line_1)                                                  \
+    do {                                                                             \
+        started(SHEET, kind, s, t, MARK, 0, line_1 "\n" NO_COUNTS, __LINE__);        \
+        started(SHEET, kind, s, t, 700, 0, line_1 "\n" NO_COUNTS, __LINE__);         \
+        started(SHEET, kind, s, t, MARK - 1, 13, "", __LINE__);                      \
+        started(SHEET, kind, s, t, 91, 13, "", __LINE__);                            \
+        started(SHEET, kind, s, t, 0, 13, "", __LINE__);                             \
+        started("   4   2\n   1   2\n   2   1\n", 27, kind, s, t, MARK, 8, "", __LINE__); \
+    } while (0)
+/* A start refused by a rule of its kind, which comes after the sheet's and before
+   the room for the mark. */
+#define NOT_STARTED(kind, s, t, rule)                                              \
+    do {                                                                           \
+        started(SHEET, kind, s, t, MARK, rule, "", __LINE__);                      \
+        started(SHEET, kind, s, t, 0, rule, "", __LINE__);                         \
+        started("   4   2\n   1   2\n   2   1\n", 27, kind, s, t, 0, 8, "", __LINE__); \
+        started("", 0, kind, s, t, MARK, 1, "", __LINE__);                         \
+    } while (0)
 
-static void first_marks(void) {
-    STARTS(0, 0, 0, "   0   0   0   4   5   0   1\n");
-    STARTS(1, 2, 4, "   1   2   4   4   5   0   1\n");
-    STARTS(1, 4, 1, "   1   4   1   4   5   0   1\n");
-    STARTS(2, 3, 0, "   2   3   0   4   5   0   1\n");
-    STARTS(2, 128, 0, "   2 128   0   4   5   0   1\n");
-    starts(SHEET, 0, 0, 0, 700, 0, "   0   0   0   4   5   0   1\n" COUNTS_0, __LINE__);
-    /* The sheet comes first, then kind, s and t, and the room last. */
-    NO_START("", 3, 1, 1, 0, 1);
-    NO_START("   4   x\n", 3, 1, 1, 0, 2);
-    NO_START("   3   1\n   1   1\n", 3, 1, 1, 0, 7);
-    NO_START(document, 3, 0, 0, 0, 16);
-    NO_START(document, UINT64_MAX, 0, 0, MARK, 16);
-    NO_START(document, UINT64_C(1) << 32, 0, 0, MARK, 16);
-    NO_START(document, 0, 1, 0, 0, 16);
-    NO_START(document, 0, 0, 1, MARK, 16);
-    NO_START(document, 2, 0, 1, 0, 16);
-    NO_START(document, 2, 3, 4, MARK, 16);
-    NO_START(document, 1, 0, 0, 0, 10);
-    NO_START(document, 1, 5, 5, MARK, 10);
-    NO_START(document, 1, 1, 5, MARK, 10);
-    NO_START(document, 1, (UINT64_C(1) << 32) + 1, 2, MARK, 10);
-    NO_START(document, 1, 4, 4, 0, 11);
-    NO_START(document, 2, 2, 0, 0, 21);
-    NO_START(document, 2, 0, 0, MARK, 21);
-    NO_START(document, 2, 129, 0, MARK, 21);
-    NO_START(document, 2, (UINT64_C(1) << 32) + 3, 0, MARK, 21);
-    NO_START(document, 0, 0, 0, MARK - 1, 13);
-    NO_START(document, 1, 2, 4, 91, 13);
-    NO_START(document, 2, 3, 0, 0, 13);
+/* The fresh mark of each kind, byte for byte, and every refusal. */
+static void starts(void) {
+    const uint64_t high = UINT64_C(1) << 32;
+    STARTED(0, 0, 0, "   0   0   0   4   5   0   1");
+    STARTED(1, 2, 4, "   1   2   4   4   5   0   1");
+    STARTED(1, 4, 1, "   1   4   1   4   5   0   1");
+    STARTED(2, 3, 0, "   2   3   0   4   5   0   1");
+    STARTED(2, 12, 0, "   2  12   0   4   5   0   1");
+    STARTED(2, 128, 0, "   2 128   0   4   5   0   1");
+    /* Zeros may fill the sheet, and blanks fill the mark. */
+    started("00040001\n00010002\n", 18, 2, 6, 0, MARK, 0, "   2   6   0   4   1   0   1\n" NO_COUNTS,
+            __LINE__);
+    started("   0   0\n", 9, 2, 6, 0, MARK, 0, "   2   6   0   0   0   0   1\n" NO_COUNTS, __LINE__);
+    /* Each rule of the sheet. */
+    started("   4   1\n", 8, 0, 0, 0, MARK, 1, "", __LINE__);
+    started("  04   0\n", 9, 0, 0, 0, MARK, 2, "", __LINE__);
+    started(" 1291025\n", 9, 0, 0, 0, MARK, 3, "", __LINE__);
+    started(" 1281025\n", 9, 0, 0, 0, MARK, 4, "", __LINE__);
+    started("   4   1\n", 9, 0, 0, 0, MARK, 5, "", __LINE__);
+    started("   4   1\n   0   0\n", 18, 0, 0, 0, MARK, 6, "", __LINE__);
+    started("   4   1\n   3   3\n", 18, 0, 0, 0, MARK, 7, "", __LINE__);
+    /* 16: no such kind, or s or t where the kind has none. */
+    NOT_STARTED(3, 0, 0, 16);
+    NOT_STARTED(3, 3, 0, 16);
+    NOT_STARTED(256, 0, 0, 16);
+    NOT_STARTED(high, 0, 0, 16);
+    NOT_STARTED(high + 1, 2, 4, 16);
+    NOT_STARTED(high + 2, 3, 0, 16);
+    NOT_STARTED(UINT64_MAX, 0, 0, 16);
+    NOT_STARTED(0, 1, 0, 16);
+    NOT_STARTED(0, 0, 1, 16);
+    NOT_STARTED(0, high, 0, 16);
+    NOT_STARTED(0, 0, high, 16);
+    NOT_STARTED(2, 3, 1, 16);
+    NOT_STARTED(2, 2, 1, 16);
+    NOT_STARTED(2, 3, high, 16);
+    /* 10 and 11: the ends of paths. */
+    NOT_STARTED(1, 0, 0, 10);
+    NOT_STARTED(1, 0, 4, 10);
+    NOT_STARTED(1, 2, 0, 10);
+    NOT_STARTED(1, 5, 5, 10);
+    NOT_STARTED(1, 2, 5, 10);
+    NOT_STARTED(1, high + 2, 4, 10);
+    NOT_STARTED(1, 2, UINT64_MAX, 10);
+    NOT_STARTED(1, 3, 3, 11);
+    /* 21: the size. */
+    NOT_STARTED(2, 0, 0, 21);
+    NOT_STARTED(2, 1, 0, 21);
+    NOT_STARTED(2, 2, 0, 21);
+    NOT_STARTED(2, 129, 0, 21);
+    NOT_STARTED(2, 259, 0, 21);
+    NOT_STARTED(2, high + 3, 0, 21);
+    NOT_STARTED(2, UINT64_MAX, 0, 21);
+}
+
+/* A host that starts a search of a kind and lists to its end, a few trials and
+   one record a call; the bytes past each output are watched. Returns the bytes of
+   the joined records, which are put into `all`, and checks the last counts. */
+static size_t list_all(const char *sheet, uint64_t kind, uint64_t s, uint64_t t, uint8_t *all,
+                       const char *counts) {
+    uint8_t mark[2][MARK + 1], rings[10];
+    size_t mark_len = 91, used = 0;
+    uint32_t stop;
+    int now = 0;
+    memset(mark, PATTERN, sizeof mark);
+    EQUAL(ringlist_start((const uint8_t *)sheet, strlen(sheet), kind, s, t, mark[0], MARK), 0);
+    EQUAL(ringlist_mark_length(mark[0], MARK), 91);
+    EQUAL(ringlist_listed(mark[0], MARK), 0);
+    CHECK(all_are(mark[0] + 91, MARK + 1 - 91, PATTERN));
+    do {
+        uint8_t *from = mark[now], *to = mark[!now];
+        memset(rings, PATTERN, sizeof rings);
+        memset(to, PATTERN, MARK + 1);
+        stop = ringlist_resume((const uint8_t *)sheet, strlen(sheet), from, mark_len, 7, rings, 9, to,
+                               MARK);
+        if (stop < 101) {
+            EQUAL(stop, 101);
+            return 0;
+        }
+        size_t len = 0;
+        for (uint64_t left = ringlist_listed(to, MARK) - ringlist_listed(from, mark_len); left > 0;
+             left--) {
+            len += 1 + (size_t)rings[len];
+        }
+        CHECK(len <= 9 && all_are(rings + len, 10 - len, PATTERN));
+        memcpy(all + used, rings, len);
+        used += len;
+        mark_len = ringlist_mark_length(to, MARK);
+        CHECK(mark_len >= 91 && all_are(to + mark_len, MARK + 1 - mark_len, PATTERN));
+        now = !now;
+    } while (stop > 102);
+    EQUAL(stop, 101);
+    CHECK(memcmp(mark[now] + 29, counts, 60) == 0);
+    return used;
+}
+
+/* The bonds 1-2, 2-3, 3-1 and 1-4, 4-6, 6-5, 5-1: the rings 1 2 3 and 1 4 6 5.
+   Open beginnings: 1, 1 2, 1 4, 1 4 6; with k = 3 only 1 and 1 2. Six trials for
+   each of them and for the empty one. The paths from 2 to 6 are 2 1 4 6 and
+   2 1 5 6, with the beginnings 2, 2 1, 2 1 4, 2 1 5. */
+static void listings_of_each_kind(void) {
+    static const char sheet[] =
+        "   6   7\n   1   2\n   2   3\n   1   3\n   1   4\n   4   6\n   5   6\n   1   5\n";
+    static const char rings[] = "\3\1\2\3\4\1\4\6\5";
+    static const char counts[] = "                  30                   4                   2";
+    static const char fewer[] = "                  18                   2                   1";
+    static const uint64_t sizes[4] = {4, 5, 6, 128};
+    uint8_t all[64];
+    EQUAL(list_all(sheet, 0, 0, 0, all, counts), 9);
+    CHECK(memcmp(all, rings, 9) == 0);
+    EQUAL(list_all(sheet, 1, 2, 6, all, counts), 10);
+    CHECK(memcmp(all, "\4\2\1\4\6\4\2\1\5\6", 10) == 0);
+    EQUAL(list_all(sheet, 2, 3, 0, all, fewer), 4);
+    CHECK(memcmp(all, rings, 4) == 0);
+    for (int i = 0; i < 4; i++) {
+        EQUAL(list_all(sheet, 2, sizes[i], 0, all, counts), 9);
+        CHECK(memcmp(all, rings, 9) == 0);
+    }
+    /* The document's sheet with k = 3: both rings. */
+    EQUAL(list_all(document, 2, 3, 0, all,
+                   "                  16                   3                   2"), 8);
+    CHECK(memcmp(all, records, 8) == 0);
 }
 
 /* Counts are taken as they are; at the limit a run stops before its first
@@ -473,11 +582,13 @@ static void mark_readers(void) {
     EQUAL(ringlist_mark_length(mark, 700), 0);
 }
 
-static void *resume_in_thread(void *calls) {
-    uint8_t rings[8], next[MARK];
+static void *call_in_thread(void *calls) {
+    uint8_t rings[8], next[MARK], fresh[MARK];
     return calls != NULL &&
                    ringlist_resume((const uint8_t *)SHEET, (const uint8_t *)full_mark, 99, 11,
-                                   rings, 8, next, MARK) == 101
+                                   rings, 8, next, MARK) == 101 &&
+                   ringlist_start((const uint8_t *)SHEET, 2, 12, 0, fresh, MARK) == 0 &&
+                   ringlist_resume((const uint8_t *)SHEET, fresh, 91, 16, rings, 8, next, MARK) == 101
                ? calls
                : NULL;
 }
@@ -495,7 +606,7 @@ static size_t stack_used(void *calls) {
     memset(stack, PATTERN, STACK);
     if (pthread_attr_init(&attributes) != 0 ||
         pthread_attr_setstack(&attributes, stack, STACK) != 0 ||
-        pthread_create(&thread, &attributes, resume_in_thread, calls) != 0 ||
+        pthread_create(&thread, &attributes, call_in_thread, calls) != 0 ||
         pthread_join(thread, &result) != 0) {
         abort();
     }
@@ -508,7 +619,7 @@ static size_t stack_used(void *calls) {
     return STACK - kept;
 }
 
-/* A call uses less than the 32 kilobytes of stack that the header says. */
+/* Calls use less than the 32 kilobytes of stack that the header says. */
 static void stack(void) {
     int yes = 1;
     size_t without = stack_used(NULL);
@@ -528,7 +639,8 @@ int main(int words, char **word) {
     zero_lengths();
     overlap();
     paths();
-    first_marks();
+    starts();
+    listings_of_each_kind();
     limit();
     mark_readers();
     if (words == 1) {

@@ -6,7 +6,7 @@ use std::collections::BTreeMap;
 
 use crate::ffi;
 use crate::guard::Guarded;
-use crate::model::list::Lists;
+use crate::model::list::{Lists, Task};
 use crate::model::machine::{self, Ran, Search, NUMBERS, PLACES};
 use crate::model::{mark, Record};
 use crate::rng::Rng;
@@ -74,7 +74,7 @@ impl Calls {
     /// Prints all counts.
     pub fn print(&self) {
         for ((function, answer), count) in &self.answers {
-            println!("{function:12} {answer:3} {count:8} times");
+            println!("{function:17} {answer:3} {count:8} times");
         }
     }
 
@@ -137,37 +137,49 @@ impl Calls {
         );
     }
 
-    pub fn start_rings(&mut self, on: On) -> Result<Search, u32> {
+    /// A start of a kind with its s and t, by the function of that kind.
+    fn start(
+        &mut self,
+        function: &'static str,
+        on: On,
+        [kind, s, t]: [u64; 3],
+    ) -> Result<Search, u32> {
         let seed = self.seeds.next();
         let mut numbers = Guarded::numbers(NUMBERS, seed);
         let mut prefix = Guarded::new(PLACES, seed);
+        let (given, places) = (numbers.buffer(), prefix.buffer());
         let Record { atoms, bonds, rows } = on.record;
-        let answer = ffi::start_rings(*atoms, *bonds, rows, numbers.buffer(), prefix.buffer());
-        let expected = machine::start_rings(on.lists.is_some());
-        self.end_with_search("start_rings", answer, &expected, (numbers, prefix), || {
-            on.describe()
+        let answer = match kind {
+            0 => ffi::start_rings(*atoms, *bonds, rows, given, places),
+            1 => ffi::start_paths(*atoms, *bonds, rows, (s, t), given, places),
+            _ => ffi::start_rings_up_to(*atoms, *bonds, rows, s, given, places),
+        };
+        let expected = machine::start(on.record, on.lists.is_some(), [kind, s, t]);
+        self.end_with_search(function, answer, &expected, (numbers, prefix), || {
+            format!("{s} and {t}, {}", on.describe())
         });
         expected
     }
 
+    pub fn start_rings(&mut self, on: On) -> Result<Search, u32> {
+        self.start("start_rings", on, [0, 0, 0])
+    }
+
     pub fn start_paths(&mut self, on: On, s: u64, t: u64) -> Result<Search, u32> {
-        let seed = self.seeds.next();
-        let mut numbers = Guarded::numbers(NUMBERS, seed);
-        let mut prefix = Guarded::new(PLACES, seed);
-        let Record { atoms, bonds, rows } = on.record;
-        let answer = ffi::start_paths(
-            *atoms,
-            *bonds,
-            rows,
-            (s, t),
-            numbers.buffer(),
-            prefix.buffer(),
-        );
-        let expected = machine::start_paths(on.record, on.lists.is_some(), s, t);
-        self.end_with_search("start_paths", answer, &expected, (numbers, prefix), || {
-            format!("{s} to {t}, {}", on.describe())
-        });
-        expected
+        self.start("start_paths", on, [1, s, t])
+    }
+
+    pub fn start_rings_up_to(&mut self, on: On, k: u64) -> Result<Search, u32> {
+        self.start("start_rings_up_to", on, [2, k, 0])
+    }
+
+    /// The start of a task, by the function of its kind.
+    pub fn start_task(&mut self, on: On, task: Task) -> Result<Search, u32> {
+        match task {
+            Task::Rings => self.start_rings(on),
+            Task::Paths { s, t } => self.start_paths(on, s.into(), t.into()),
+            Task::RingsUpTo { k } => self.start_rings_up_to(on, k.into()),
+        }
     }
 
     /// Used and made, which are only results, hold anything before the call.

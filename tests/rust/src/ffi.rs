@@ -52,6 +52,17 @@ mod c {
             prefix: *mut u8,
             prefix_len: usize,
         ) -> u32;
+        pub fn flat_start_rings_up_to(
+            atoms: u64,
+            bonds: u64,
+            rows: *const u8,
+            rows_len: usize,
+            size: u64,
+            numbers: *mut u64,
+            numbers_len: usize,
+            prefix: *mut u8,
+            prefix_len: usize,
+        ) -> u32;
         pub fn flat_run(
             atoms: u64,
             bonds: u64,
@@ -205,6 +216,31 @@ pub fn start_paths(
             rows.len(),
             s,
             t,
+            numbers.as_mut_ptr(),
+            numbers.len(),
+            prefix.as_mut_ptr(),
+            prefix.len(),
+        )
+    }
+}
+
+pub fn start_rings_up_to(
+    atoms: u64,
+    bonds: u64,
+    rows: &[u8],
+    size: u64,
+    numbers: &mut [u64],
+    prefix: &mut [u8],
+) -> u32 {
+    // SAFETY: the pointers come with the lengths of live slices, and only
+    // those borrowed mutably are written.
+    unsafe {
+        c::flat_start_rings_up_to(
+            atoms,
+            bonds,
+            rows.as_ptr(),
+            rows.len(),
+            size,
             numbers.as_mut_ptr(),
             numbers.len(),
             prefix.as_mut_ptr(),

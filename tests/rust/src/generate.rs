@@ -1,5 +1,6 @@
 //! Molecules, sheets, records and atom lists, right and damaged.
 
+use crate::model::list::{Task, SIZES};
 use crate::model::sheet::LINE;
 use crate::model::{self, Record, MAX_ATOMS, MAX_BONDS, ROWS};
 use crate::rng::Rng;
@@ -757,6 +758,56 @@ pub fn any_ends(rng: &mut Rng, n: u64) -> (u64, u64) {
     let s = rng.between(1, n);
     let t = rng.between(1, n - 1);
     (s, if t < s { t } else { t + 1 })
+}
+
+/// The paths between any two different atoms; there are at least two.
+pub fn any_paths(rng: &mut Rng, n: u64) -> Task {
+    let (s, t) = any_ends(rng, n);
+    Task::of(n, 1, s, t).expect("two atoms")
+}
+
+/// The rings up to any size: mostly about those that `n` atoms can have, often
+/// small, also the largest and all between.
+pub fn any_up_to(rng: &mut Rng, n: u64) -> Task {
+    let (lowest, highest) = (*SIZES.start(), *SIZES.end());
+    let k = match rng.below(8) {
+        0 => highest,
+        1 => rng.between(lowest, highest),
+        2..=4 => rng.between(lowest, 8),
+        _ => rng.between(lowest, (n + 2).clamp(lowest, highest)),
+    };
+    Task::RingsUpTo { k: k as u8 }
+}
+
+/// A task of each kind that `n` atoms can have.
+pub fn any_tasks(rng: &mut Rng, n: u64) -> Vec<Task> {
+    let mut tasks = vec![Task::Rings];
+    if n >= 2 {
+        tasks.push(any_paths(rng, n));
+    }
+    tasks.push(any_up_to(rng, n));
+    tasks
+}
+
+/// A task of any kind that `n` atoms can have.
+pub fn any_task(rng: &mut Rng, n: u64) -> Task {
+    match rng.below(3) {
+        0 if n >= 2 => any_paths(rng, n),
+        1 => any_up_to(rng, n),
+        _ => Task::Rings,
+    }
+}
+
+/// A size that bounds no ring search, as it is not 3 to 128; some agree with a
+/// right one in their low bits.
+pub fn wrong_size(rng: &mut Rng) -> u64 {
+    let right = rng.between(*SIZES.start(), *SIZES.end());
+    match rng.below(4) {
+        0 => rng.pick(&[0, 1, 2, 129, 130, 131, 255, 256, 9_999, u64::MAX]),
+        1 => rng.pick(&[(1 << 32) + 3, (1 << 32) + 128, (1 << 63) + 12, u64::MAX - 2]),
+        2 => right + 256,
+        _ => right + (1 << rng.pick(&[16, 31, 32, 48, 63])),
+    }
 }
 
 /// A number of atoms for a ring or a chain.

@@ -5,7 +5,8 @@ use std::collections::BTreeMap;
 
 use crate::guard::Guarded;
 use crate::model::host::{self, Resumed};
-use crate::model::list::Lists;
+use crate::model::list::{Lists, Task};
+use crate::model::mark::LONGEST_MARK;
 use crate::rng::Rng;
 use crate::sample;
 
@@ -19,6 +20,15 @@ mod c {
             budget: u64,
             rings: *mut u8,
             rings_len: usize,
+            next_mark: *mut u8,
+            next_mark_len: usize,
+        ) -> u32;
+        pub fn ringlist_start(
+            sheet: *const u8,
+            sheet_len: usize,
+            kind: u64,
+            s: u64,
+            t: u64,
             next_mark: *mut u8,
             next_mark_len: usize,
         ) -> u32;
@@ -49,6 +59,29 @@ pub fn resume(
             next_mark.len(),
         )
     }
+}
+
+pub fn start(sheet: &[u8], [kind, s, t]: [u64; 3], next_mark: &mut [u8]) -> u32 {
+    // SAFETY: the pointers come with the lengths of live slices, and only
+    // the one borrowed mutably is written.
+    unsafe {
+        c::ringlist_start(
+            sheet.as_ptr(),
+            sheet.len(),
+            kind,
+            s,
+            t,
+            next_mark.as_mut_ptr(),
+            next_mark.len(),
+        )
+    }
+}
+
+/// The fresh mark of a task that the sheet allows.
+pub fn fresh_mark(sheet: &[u8], task: Task) -> Vec<u8> {
+    let mut mark = [b'x'; LONGEST_MARK];
+    assert_eq!(start(sheet, task.numbers(), &mut mark), 0, "{task:?}");
+    mark[..mark_length(&mark)].to_vec()
 }
 
 pub fn mark_length(mark: &[u8]) -> usize {
@@ -142,6 +175,39 @@ impl Entry {
         if let Ok(resumed) = &expected {
             assert_eq!(mark_length(next.buffer()), resumed.mark.len());
             assert_eq!(listed(next.buffer()), resumed.search.listed);
+        }
+        *self.answers.entry(answer).or_default() += 1;
+        expected
+    }
+
+    /// A start, compared in the same way. It counts as a call, and its mark
+    /// written as the answer 0.
+    pub fn start(
+        &mut self,
+        (sheet, read): (&[u8], Result<&dyn Lists, u32>),
+        numbers: [u64; 3],
+        mark_room: usize,
+    ) -> Result<Vec<u8>, u32> {
+        let given: Box<[u8]> = sheet.into();
+        let mut next = Guarded::new(mark_room, self.seeds.next());
+        let answer = start(&given, numbers, next.buffer());
+        let expected = host::start(read, numbers, mark_room);
+        let (code, written) = match &expected {
+            Ok(mark) => (0, next.begins(mark)),
+            Err(rule) => (*rule, next.is_untouched()),
+        };
+        let call = || {
+            let sheet = sheet.escape_ascii();
+            format!(
+                "kind, s, t {numbers:?}, {mark_room} bytes\nsheet {sheet}\nexpected {expected:?}"
+            )
+        };
+        assert_eq!(answer, code, "answer; {}", call());
+        assert!(written, "next mark ({answer}); {}", call());
+        assert!(*given == *sheet, "the sheet was written; {}", call());
+        if let Ok(mark) = &expected {
+            assert_eq!(mark_length(next.buffer()), mark.len());
+            assert_eq!(listed(next.buffer()), 0);
         }
         *self.answers.entry(answer).or_default() += 1;
         expected

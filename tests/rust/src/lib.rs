@@ -1,6 +1,6 @@
 //! Tests of the libraries behind `include/flat.h` and `include/ringlist.h`, and
 //! of the program `ringlist`, against a model written from the scope document
-//! alone.
+//! and the change requests alone.
 
 pub mod compare;
 pub mod examples;

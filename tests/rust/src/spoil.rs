@@ -63,10 +63,11 @@ pub fn search(rng: &mut Rng, n: u64, search: &mut Search) {
         1 => search.kind = alias(rng, search.kind),
         2 => search.s = number(rng, n, search.s),
         3 => search.t = number(rng, n, search.t),
+        // Another kind, with ends or a size at random.
         4 => {
-            search.kind ^= 1;
-            search.s = rng.between(0, n + 1);
-            search.t = rng.between(0, n + 1);
+            search.kind = rng.pick(&[0, 1, 2, 3]);
+            search.s = rng.between(0, n + 3);
+            search.t = rng.below(2) * rng.between(0, n + 1);
         }
         // An atom 0 more, or an atom past the length.
         5 => search.length += 1,
@@ -272,10 +273,17 @@ pub fn mark(rng: &mut Rng, n: u64, kind: u64, mark: &mut Vec<u8>) {
             put(mark, 24, 4, &value.to_string());
         }
         17 => {
-            let kind = rng.pick(&[0, 1, 1, 1, 2, 256]);
-            put(mark, 0, 4, &kind.to_string());
-            for at in [4, 8] {
-                let value = rng.between(0, n + 1);
+            let kind = rng.pick(&[0, 1, 1, 1, 2, 2, 2, 3, 256, 258]);
+            let s = match rng.below(4) {
+                0 => rng.pick(&[2, 3, 128, 129, 259]),
+                _ => rng.between(0, n + 1),
+            };
+            // Rings up to a size have no t.
+            let t = match kind {
+                2 if !rng.one_in(4) => 0,
+                _ => rng.between(0, n + 1),
+            };
+            for (at, value) in [(0, kind), (4, s), (8, t)] {
                 put(mark, at, 4, &value.to_string());
             }
         }

@@ -53,17 +53,13 @@ impl Subject<'_> {
     }
 }
 
-/// The empty beginning and up to 40 others, of rings and of paths.
+/// The empty beginning and up to 40 others, of rings, of paths and of rings up to
+/// a size.
 fn places(rng: &mut Rng, listed: &Listed) -> Vec<(Task, Vec<u8>)> {
     let record = listed.record();
     let n = record.atoms;
-    let mut tasks = vec![Task::Rings];
-    if n >= 2 {
-        let (s, t) = generate::any_ends(rng, n);
-        tasks.push(Task::of(n, 1, s, t).expect("two atoms"));
-    }
     let mut places = Vec::new();
-    for task in tasks {
+    for task in generate::any_tasks(rng, n) {
         // A large molecule may have too many members to list.
         let members = if n <= BRUTE {
             listed.members(task).to_vec()
@@ -135,6 +131,90 @@ fn no_mark(rng: &mut Rng, subject: &Subject) -> Vec<u8> {
         bytes.truncate(rng.index(bytes.len() + 1));
     }
     bytes
+}
+
+/// Kind, s and t of a start: right, near to right, or far from it.
+fn any_numbers(rng: &mut Rng, n: u64) -> [u64; 3] {
+    let mut numbers = generate::any_task(rng, n).numbers();
+    match rng.below(8) {
+        0 => numbers[0] = rng.pick(&[0, 1, 2, 3, 4, 256, 1 << 32, u64::MAX]),
+        1 => numbers[1] = rng.pick(&[0, 1, 2, 3, n, n + 1, 128, 129]),
+        2 => numbers[2] = rng.pick(&[0, 1, 2, n, n + 1, 128, u64::MAX]),
+        3 => numbers[2] = numbers[1],
+        4 => numbers = [2, generate::wrong_size(rng), 0],
+        5 => {
+            let which = rng.index(3);
+            numbers[which] = generate::wild(rng, numbers[which]);
+        }
+        _ => {}
+    }
+    numbers
+}
+
+/// A start on the sheet as it is or changed; now and then a first call follows
+/// from its mark.
+fn start_on(entry: &mut Entry, subject: &Subject, rng: &mut Rng) {
+    let n = subject.atoms();
+    let (numbers, room) = (any_numbers(rng, n), any_mark_room(rng));
+    if rng.one_in(3) {
+        let kind = rng.between(2, generate::SHEET_KINDS - 1);
+        let sheet = generate::changed_sheet(rng, kind, subject.sheet.clone());
+        let read = model::sheet::read(&sheet);
+        let reached = read.as_ref().map(Reached::new).map_err(|rule| *rule);
+        let lists = reached.as_ref().map(|reached| reached as &dyn Lists);
+        let _ = entry.start((&sheet, lists.map_err(|rule| *rule)), numbers, room);
+        return;
+    }
+    let call = (subject.sheet.as_slice(), Ok(subject.lists));
+    if let Ok(mark) = entry.start(call, numbers, room) {
+        let (budget, room) = (any_budget(rng, n), any_room(rng, n));
+        let resumed = entry.resume(call, &mark, budget, (room, LONGEST_MARK));
+        assert!(resumed.is_ok(), "a fresh mark is not refused");
+    }
+}
+
+/// Four parts side by side: starts of each kind on sheets right and damaged.
+#[test]
+fn random_starts() {
+    let parts = [
+        ("random_starts 1", 0x5354_4152_5431),
+        ("random_starts 2", 0x5354_4152_5432),
+        ("random_starts 3", 0x5354_4152_5433),
+        ("random_starts 4", 0x5354_4152_5434),
+    ];
+    let calls = sum_of_parts(&parts, random_starts_of);
+    println!("{calls} calls in all");
+    assert!(sample() > 1 || calls >= 50_000, "only {calls} calls");
+}
+
+/// The starts of one seed, and the calls made.
+fn random_starts_of(name: &'static str, seed: u64) -> u64 {
+    let mut entry = Entry::new(seed);
+    for case in 0..sampled(2_000) {
+        let _case = Case(name, case);
+        let mut rng = Rng::of_case(seed, case);
+        let molecule = generate::any_searched(&mut rng);
+        let record = molecule.record();
+        let (listed, reached) = (Listed::new(&record), Reached::new(&record));
+        let subject = Subject {
+            lists: if record.atoms <= BRUTE {
+                &listed
+            } else {
+                &reached
+            },
+            sheet: generate::mixed(&mut rng, &molecule.sheet()),
+            places: Vec::new(),
+        };
+        for _ in 0..6 {
+            start_on(&mut entry, &subject, &mut rng);
+        }
+    }
+    entry.print();
+    entry.at_least(1_500, &[0]);
+    entry.at_least(500, &[13, 16, 21, 101, 103]);
+    entry.at_least(200, &[10, 11, 104]);
+    entry.at_least(50, &[1, 2, 3, 4, 5, 6, 7, 8]);
+    entry.calls()
 }
 
 /// Calls on one molecule, each with the parts of the call drawn anew: the sheet
@@ -275,6 +355,8 @@ fn order_of_rules() {
         (None, Vec::new()),
         (None, mark("   0   0   0   4   5   2   3", "   1   2")),
         (None, mark("   1   2   4   4   5   1   1", "   2")),
+        (None, mark("   2   3   0   4   5   2   3", "   1   2")),
+        (None, mark("   2 128   0   4   5   2   3", "   1   2")),
         (Some(14), line("x")),
         (Some(14), line("\n")),
         (Some(14), mark("   2   0   0   5   5   1   0", "   0   9")),
@@ -285,6 +367,11 @@ fn order_of_rules() {
         (Some(15), mark("   2   0   0   5   5   2   0", "   9   9")),
         (Some(15), mark("   0   0   0   4   4   2   3", "   1   2")),
         (Some(16), mark("   2   0   0   4   5   2   0", "   9   9")),
+        (Some(16), mark("   2   2   0   4   5   2   0", "   9   9")),
+        (Some(16), mark("   2 129   0   4   5   2   3", "   1   2")),
+        (Some(16), mark("   2   3   1   4   5   2   3", "   1   2")),
+        (Some(16), mark("   3   0   0   4   5   2   3", "   1   2")),
+        (Some(16), mark("   3   3   0   4   5   2   3", "   1   2")),
         (Some(16), mark("   0   0   1   4   5   2   3", "   1   2")),
         (Some(16), mark("   1   0   0   4   5   2   3", "   1   2")),
         (Some(16), mark("   1   3   3   4   5   1   1", "   3")),
@@ -294,6 +381,8 @@ fn order_of_rules() {
         (Some(17), mark("   0   0   0   4   5   2   0", "   1   2")),
         (Some(17), mark("   0   0   0   4   5   2   5", "   1   2")),
         (Some(17), mark("   0   0   0   4   5   0   6", "")),
+        (Some(17), mark("   2   3   0   4   5   2   3", "   1   4")),
+        (Some(17), mark("   2   3   0   4   5   2   5", "   1   2")),
         (None, mark("   0   0   0   4   5   0   5", "")),
     ];
     for (of_mark, mark) in &marks {
@@ -312,6 +401,68 @@ fn order_of_rules() {
     }
 }
 
+/// The rules of a start, each before the next: the sheet's, 16, 10, 11 and 21 of
+/// the kind, then the room for the mark. A start that breaks none writes the mark.
+#[test]
+fn order_of_rules_of_a_start() {
+    let mut entry = Entry::new(86);
+    let molecule = generate::document();
+    let (record, right) = (molecule.record(), molecule.sheet());
+    let lists = Listed::new(&record);
+    let twice = b"   4   3\n   1   2\n   3   4\n   2   1\n";
+    let starts = [
+        (None, [0, 0, 0]),
+        (None, [1, 1, 4]),
+        (None, [1, 4, 1]),
+        (None, [2, 3, 0]),
+        (None, [2, 4, 0]),
+        (None, [2, 5, 0]),
+        (None, [2, 128, 0]),
+        (Some(16), [0, 1, 0]),
+        (Some(16), [0, 0, 1]),
+        (Some(16), [0, 1 << 32, 0]),
+        (Some(16), [2, 3, 1]),
+        (Some(16), [2, 2, 1]),
+        (Some(16), [2, 0, u64::MAX]),
+        (Some(16), [3, 0, 0]),
+        (Some(16), [3, 1, 4]),
+        (Some(16), [256, 0, 0]),
+        (Some(16), [(1 << 32) + 1, 1, 4]),
+        (Some(16), [(1 << 32) + 2, 3, 0]),
+        (Some(16), [u64::MAX, 3, 0]),
+        (Some(10), [1, 0, 0]),
+        (Some(10), [1, 0, 4]),
+        (Some(10), [1, 5, 5]),
+        (Some(10), [1, 1, 5]),
+        (Some(10), [1, (1 << 32) + 1, 4]),
+        (Some(11), [1, 4, 4]),
+        (Some(21), [2, 0, 0]),
+        (Some(21), [2, 2, 0]),
+        (Some(21), [2, 129, 0]),
+        (Some(21), [2, 256 + 3, 0]),
+        (Some(21), [2, (1 << 32) + 3, 0]),
+        (Some(21), [2, u64::MAX, 0]),
+    ];
+    for (of_kind, numbers) in starts {
+        for room in [0, 91, 598, 599, 600, 4_096] {
+            for (rule, sheet) in [(1, &b"   4   5"[..]), (8, &twice[..])] {
+                let answer = entry.start((sheet, Err(rule)), numbers, room);
+                assert_eq!(answer.err(), Some(rule));
+            }
+            let call = (right.as_slice(), Ok(&lists as &dyn Lists));
+            let answer = entry.start(call, numbers, room).err();
+            let of_room = (room < 599).then_some(13);
+            assert_eq!(answer, of_kind.or(of_room), "{numbers:?}, {room} bytes");
+        }
+    }
+    // No atoms: a size may be above n, and no ends are atoms.
+    let (record, sheet) = (Record::new(0), b"   0   0\n");
+    let lists = Listed::new(&record);
+    let call = (&sheet[..], Ok(&lists as &dyn Lists));
+    assert!(entry.start(call, [2, 12, 0], 599).is_ok());
+    assert_eq!(entry.start(call, [1, 0, 0], 599), Err(10));
+}
+
 /// Every single byte of a mark changed to every other byte, and every length.
 #[test]
 fn every_byte_of_a_mark() {
@@ -320,18 +471,20 @@ fn every_byte_of_a_mark() {
     let (record, sheet) = (molecule.record(), molecule.sheet());
     let lists = Listed::new(&record);
     let call = (sheet.as_slice(), Ok(&lists as &dyn Lists));
-    let mut search = Search::at(Task::Rings, &[1, 2], 3);
-    [search.trials, search.extensions, search.listed] = [5, 2, 0];
-    let mark = mark::write(&record, &search);
-    for at in 0..mark.len() {
-        let step = flat_tests::sample().min(17) as usize;
-        for byte in (at % step..256).step_by(step) {
-            let mut changed = mark.clone();
-            changed[at] = byte as u8;
-            let _ = entry.resume(call, &changed, 4, (9, 599));
+    for task in [Task::Rings, Task::RingsUpTo { k: 12 }] {
+        let mut search = Search::at(task, &[1, 2], 3);
+        [search.trials, search.extensions, search.listed] = [5, 2, 0];
+        let mark = mark::write(&record, &search);
+        for at in 0..mark.len() {
+            let step = flat_tests::sample().min(17) as usize;
+            for byte in (at % step..256).step_by(step) {
+                let mut changed = mark.clone();
+                changed[at] = byte as u8;
+                let _ = entry.resume(call, &changed, 4, (9, 599));
+            }
+            let _ = entry.resume(call, &mark[..at], 4, (9, 599));
+            let _ = entry.resume(call, &mark[at..], 4, (9, 599));
         }
-        let _ = entry.resume(call, &mark[..at], 4, (9, 599));
-        let _ = entry.resume(call, &mark[at..], 4, (9, 599));
     }
     entry.print();
 }
@@ -353,21 +506,33 @@ fn every_budget_and_room() {
         let (record, sheet) = (molecule.record(), molecule.sheet());
         let lists = Listed::new(&record);
         let call = (sheet.as_slice(), Ok(&lists as &dyn Lists));
-        let whole = lister::list(&record, Task::Rings).sheet.len();
         let steps = flat_tests::sample().min(7) as usize;
-        for budget in (0..=record.atoms * 7 + 1).step_by(steps) {
-            for room in (0..=whole + 1).step_by(steps) {
-                let first = entry.resume(call, &[], budget, (room, 599));
-                let first = first.expect("accepted");
-                let rest = entry.resume(call, &first.mark, u64::MAX, (whole, 599));
-                let rest = rest.expect("accepted");
-                assert_eq!(rest.stop as u32, 101);
-                let joined = [first.records, rest.records].concat();
-                assert_eq!(joined, lister::list(&record, Task::Rings).sheet);
+        for task in [
+            None,
+            Some(Task::RingsUpTo { k: 3 }),
+            Some(Task::RingsUpTo { k: 4 }),
+        ] {
+            // No mark, or the mark of a start.
+            let start = match task {
+                None => Vec::new(),
+                Some(task) => entry.start(call, task.numbers(), 599).expect("a size"),
+            };
+            let list = lister::list(&record, task.unwrap_or(Task::Rings)).sheet;
+            for budget in (0..=record.atoms * 7 + 1).step_by(steps) {
+                for room in (0..=list.len() + 1).step_by(steps) {
+                    let first = entry.resume(call, &start, budget, (room, 599));
+                    let first = first.expect("accepted");
+                    let rest = entry.resume(call, &first.mark, u64::MAX, (list.len(), 599));
+                    let rest = rest.expect("accepted");
+                    assert_eq!(rest.stop as u32, 101);
+                    assert_eq!([first.records, rest.records].concat(), list);
+                }
             }
         }
         for mark_room in (0..599).step_by(steps) {
-            let answer = entry.resume(call, &[], 1, (whole, mark_room));
+            let answer = entry.resume(call, &[], 1, (20, mark_room));
+            assert_eq!(answer.err(), Some(13));
+            let answer = entry.start(call, [2, 12, 0], mark_room);
             assert_eq!(answer.err(), Some(13));
         }
     }
@@ -383,12 +548,35 @@ fn longest() {
     let lists = Reached::new(&record);
     let call = (sheet.as_slice(), Ok(&lists as &dyn Lists));
     let ring: Vec<u8> = (1..=128).collect();
-    let search = Search::at(Task::Rings, &ring[..127], 128);
-    let mark = mark::write(&record, &search);
+    let bounded = Search::at(Task::RingsUpTo { k: 127 }, &ring[..127], 128);
+    let refused = entry.resume(call, &mark::write(&record, &bounded), 1, (300, 599));
+    assert_eq!(refused, Err(17));
+    for task in [Task::Rings, Task::RingsUpTo { k: 128 }] {
+        longest_of(
+            &mut entry,
+            call,
+            &mark::write(&record, &Search::at(task, &ring[..127], 128)),
+        );
+    }
+    // A full sheet, the longest accepted: 9 × 1,025 bytes.
+    let molecule = generate::random_molecule(&mut Rng::new(5), 128, 1024);
+    let (record, sheet) = (molecule.record(), molecule.sheet());
+    let lists = Reached::new(&record);
+    assert_eq!(sheet.len(), 9_225);
+    let call = (sheet.as_slice(), Ok(&lists as &dyn Lists));
+    entry.resume(call, &[], 10, (500, 599)).expect("accepted");
+    let start = entry.start(call, [2, 12, 0], 599).expect("a size");
+    entry
+        .resume(call, &start, 300, (500, 599))
+        .expect("accepted");
+}
+
+/// The longest mark with outputs about the length of the longest record.
+fn longest_of(entry: &mut Entry, call: (&[u8], Result<&dyn Lists, u32>), mark: &[u8]) {
     assert_eq!(mark.len(), LONGEST_MARK);
     for (room, stop) in [(0, 104), (128, 104), (129, 103), (130, 103), (300, 103)] {
         for mark_room in [598, 599, 600] {
-            match entry.resume(call, &mark, 1, (room, mark_room)) {
+            match entry.resume(call, mark, 1, (room, mark_room)) {
                 Ok(resumed) => {
                     assert_eq!((resumed.stop as u32, mark_room >= 599), (stop, true));
                     if stop == 104 {
@@ -400,15 +588,8 @@ fn longest() {
         }
     }
     // No mark is longer: 128 atoms break the layout.
-    let longer = spoil::lengthened(&mark, 128, 128);
+    let longer = spoil::lengthened(mark, 128, 128);
     assert_eq!(entry.resume(call, &longer, 1, (300, 700)), Err(14));
-    // A full sheet, the longest accepted: 9 × 1,025 bytes.
-    let molecule = generate::random_molecule(&mut Rng::new(5), 128, 1024);
-    let (record, sheet) = (molecule.record(), molecule.sheet());
-    let lists = Reached::new(&record);
-    assert_eq!(sheet.len(), 9_225);
-    let call = (sheet.as_slice(), Ok(&lists as &dyn Lists));
-    entry.resume(call, &[], 10, (500, 599)).expect("accepted");
 }
 
 /// Sheets filled by zeros, and by blanks or zeros from field to field: the same
@@ -433,7 +614,16 @@ fn both_fillings() {
         } else {
             &reached
         };
-        let mut mark = Vec::new();
+        // No mark, or that of a start, which is the same on each sheet.
+        let numbers = generate::any_task(&mut rng, record.atoms).numbers();
+        let [mut mark, second, third] = [&blanks, &zeros, &mixed].map(|sheet| {
+            let call = (sheet.as_slice(), Ok(lists));
+            entry.start(call, numbers, 599).expect("accepted")
+        });
+        assert!(mark == second && mark == third);
+        if rng.one_in(2) {
+            mark.clear();
+        }
         for _ in 0..3 {
             let (budget, room) = (
                 any_budget(&mut rng, record.atoms),

@@ -12,9 +12,12 @@ use flat_tests::model::{lister, mark, sheet, Record};
 use flat_tests::rng::Rng;
 use flat_tests::{examples, sample, sampled};
 
-/// The mark of a fresh search; of a fresh ring search that or no bytes.
-fn fresh_mark(record: &Record, task: Task) -> Vec<u8> {
-    mark::write(record, &Search::fresh(task))
+/// The mark of a fresh search, as the entry writes it and as the model does; of
+/// a fresh ring search that or no bytes will do.
+fn fresh_mark(molecule: &Molecule, task: Task) -> Vec<u8> {
+    let fresh = host::fresh_mark(&molecule.sheet(), task);
+    assert_eq!(fresh, mark::write(&molecule.record(), &Search::fresh(task)));
+    fresh
 }
 
 /// A whole listing is the lister's, with its counts.
@@ -25,6 +28,8 @@ fn assert_whole(record: &Record, task: Task, whole: &Whole) {
     let trials = record.atoms * (expected.extensions + 1);
     let counts = [trials, expected.extensions, expected.listed];
     assert_eq!(whole.counts(), counts, "{task:?} of {record:?}");
+    let longest = record.atoms.min(task.longest() as u64);
+    assert!(counts[1] <= longest.saturating_sub(1) * counts[2]);
 }
 
 /// In one call from no mark, with just the room that is needed.
@@ -70,10 +75,15 @@ fn sizes_of_the_arrays() {
             let whole = host::list(&ring.sheet(), &[], || (budget, n as usize + 1));
             assert_whole(&ring.record(), Task::Rings, &whole);
         }
-        let ends = Task::of(n, 1, 2, n).expect("two atoms");
-        let fresh = fresh_mark(&ring.record(), ends);
-        let whole = host::list(&ring.sheet(), &fresh, || (u64::MAX, 2 * n as usize));
-        assert_whole(&ring.record(), ends, &whole);
+        // The ring is a member with k at least n, and none with less.
+        let k = n as u8;
+        let mut tasks = vec![Task::Paths { s: 2, t: k }];
+        tasks.extend([k - 1, k, (k + 1).min(128)].map(|k| Task::RingsUpTo { k }));
+        for task in tasks {
+            let fresh = fresh_mark(&ring, task);
+            let whole = host::list(&ring.sheet(), &fresh, || (u64::MAX, 2 * n as usize));
+            assert_whole(&ring.record(), task, &whole);
+        }
     }
     for m in 120..=136 {
         let mut rng = Rng::of_case(0x41_5252_4159, m);
@@ -107,16 +117,11 @@ fn random_listings(name: &'static str, seed: u64) {
         };
         let (record, sheet) = (molecule.record(), molecule.sheet());
         let n = record.atoms;
-        let mut tasks = vec![Task::Rings];
-        if n >= 2 {
-            let (s, t) = generate::any_ends(&mut rng, n);
-            tasks.push(Task::of(n, 1, s, t).expect("two atoms"));
-        }
-        for task in tasks {
+        for task in generate::any_tasks(&mut rng, n) {
             let trials = n * (lister::list(&record, task).extensions + 1);
             let start = match task {
                 Task::Rings if rng.one_in(2) => Vec::new(),
-                _ => fresh_mark(&record, task),
+                _ => fresh_mark(&molecule, task),
             };
             let whole = host::list(&sheet, &start, any_pace(&mut rng, n, trials));
             assert_whole(&record, task, &whole);
@@ -137,13 +142,7 @@ fn listings_from_any_place() {
         let molecule = generate::any_searched(&mut rng);
         let (record, sheet) = (molecule.record(), molecule.sheet());
         let n = record.atoms;
-        let task = match rng.below(2) {
-            1 if n >= 2 => {
-                let (s, t) = generate::any_ends(&mut rng, n);
-                Task::of(n, 1, s, t).expect("two atoms")
-            }
-            _ => Task::Rings,
-        };
+        let task = generate::any_task(&mut rng, n);
         let listing = lister::list(&record, task);
         let members = listing.members();
         let mut open = list::open_beginnings(&members);
@@ -195,12 +194,97 @@ fn references() {
         (1, 3, vec![vec![1, 3]], [8, 1, 1]),
     ] {
         let task = Task::Paths { s, t };
-        let start = fresh_mark(&record, task);
+        let start = fresh_mark(&document, task);
         let whole = host::list(&document.sheet(), &start, || (u64::MAX, 20));
         assert_whole(&record, task, &whole);
         assert_eq!(list_of(&whole.sheet), members);
         assert_eq!(whole.counts(), counts);
     }
+}
+
+/// In one call, the rings of at most `k` atoms.
+fn up_to(molecule: &Molecule, k: u8) -> Whole {
+    let task = Task::RingsUpTo { k };
+    let start = fresh_mark(molecule, task);
+    let whole = host::list(&molecule.sheet(), &start, || (u64::MAX, 1 << 22));
+    assert_eq!(whole.calls, 1);
+    assert_whole(&molecule.record(), task, &whole);
+    whole
+}
+
+/// Reference molecules with a bound: the cube's squares and hexagons, the 12
+/// pentagons and 20 hexagons of buckminsterfullerene, and all with 128.
+#[test]
+fn references_up_to_a_size() {
+    for (k, rings) in [(3, 0), (4, 6), (5, 6), (6, 10), (7, 10), (128, 10)] {
+        let members = list_of(&up_to(&generate::cube(), k).sheet);
+        assert_eq!(members.len(), rings);
+        assert!(members.iter().all(|ring| ring.len() <= k.into()));
+    }
+    let mut molecules = vec![generate::cube(), from_example("cubane")];
+    molecules.extend(["prismane", "adamantane", "gonane", "dodecahedrane"].map(from_example));
+    molecules.extend(
+        generate::references()
+            .into_iter()
+            .map(|(molecule, ..)| molecule),
+    );
+    for molecule in molecules {
+        let all = in_one_call(&molecule);
+        for k in [molecule.atoms.clamp(3, 128) as u8, 128] {
+            let whole = up_to(&molecule, k);
+            assert!(whole.sheet == all.sheet && whole.counts() == all.counts());
+        }
+    }
+    if sample() > 1 {
+        return;
+    }
+    let cage = generate::buckminsterfullerene();
+    for (k, rings) in [(4, 0), (5, 12), (6, 32), (8, 32)] {
+        assert_eq!(up_to(&cage, k).counts()[2], rings);
+        assert_eq!(
+            up_to(&from_example("buckminsterfullerene"), k).counts()[2],
+            rings
+        );
+    }
+    let all = host::list(&cage.sheet(), &[], || (u64::MAX, 1 << 23));
+    let start = fresh_mark(&cage, Task::RingsUpTo { k: 128 });
+    let whole = host::list(&cage.sheet(), &start, || (u64::MAX, 1 << 23));
+    assert_eq!(whole.counts()[2], 255_242);
+    assert!(whole.sheet == all.sheet && whole.counts() == all.counts());
+}
+
+/// Larger molecules with several bounds, each against the short ones of all
+/// rings that a listing without a bound gives.
+#[test]
+fn larger_up_to_a_size() {
+    let mut fewer = 0;
+    for case in 0..sampled(300) {
+        let _case = Case("larger_up_to_a_size", case);
+        let mut rng = Rng::of_case(0x4C_4953_5444, case);
+        let n = rng.between(13, 128);
+        let m = n + rng.below(9);
+        let molecule = generate::random_molecule(&mut rng, n, m);
+        let sheet = molecule.sheet();
+        let all = host::list(&sheet, &[], || (u64::MAX, 1 << 16));
+        let members = list_of(&all.sheet);
+        let longest = members.iter().map(Vec::len).max().unwrap_or(3) as u64;
+        for k in [rng.between(3, 12), rng.between(3, longest), longest, 128] {
+            let start = fresh_mark(&molecule, Task::RingsUpTo { k: k as u8 });
+            let whole = host::list(&sheet, &start, || (2 * n * n, n as usize + 1));
+            let short = list::up_to(&members, k as u8);
+            let open = list::open_beginnings(&short).len() as u64;
+            assert_eq!(whole.stop, 101);
+            assert!(list_of(&whole.sheet) == short, "k = {k} of {molecule:?}");
+            assert_eq!(whole.counts(), [n * (open + 1), open, short.len() as u64]);
+            assert!(open <= (k - 1) * short.len() as u64);
+            fewer += u64::from(!short.is_empty() && short.len() < members.len());
+            if k >= longest {
+                assert!(whole.sheet == all.sheet && whole.counts() == all.counts());
+            }
+        }
+    }
+    println!("{fewer} listings with some of the rings");
+    assert!(sample() > 1 || fewer >= 150);
 }
 
 /// The members of joined records.
@@ -293,10 +377,13 @@ fn limit() {
         ];
         *counts.into_iter().nth(which).expect("three counts") = LIMIT - left;
     };
-    let all = list_of(&in_one_call(&molecule).sheet);
-    for which in 0..3 {
+    for (task, which) in [Task::Rings, Task::RingsUpTo { k: 6 }]
+        .into_iter()
+        .flat_map(|task| (0..3).map(move |which| (task, which)))
+    {
+        let all = lister::list(&record, task).members();
         for more in 0..=6 {
-            let mut search = Search::fresh(Task::Rings);
+            let mut search = Search::fresh(task);
             left(&mut search, which, more);
             let start = mark::write(&record, &search);
             let whole = host::list(&sheet, &start, || (3, 20));

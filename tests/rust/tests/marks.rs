@@ -40,12 +40,16 @@ fn marks_of(molecule: &Molecule, tasks: &[Task]) -> (Record, Vec<Vec<u8>>) {
     (record, marks)
 }
 
+/// Marks of each kind; the size is the smallest that leaves all rings.
 fn small_marks() -> Vec<(Record, Vec<Vec<u8>>)> {
-    let paths = Task::Paths { s: 2, t: 4 };
+    let tasks = |k| {
+        let paths = Task::Paths { s: 2, t: 4 };
+        [Task::Rings, paths, Task::RingsUpTo { k }]
+    };
     vec![
-        marks_of(&generate::document(), &[Task::Rings, paths]),
-        marks_of(&generate::two_to_three(), &[Task::Rings, paths]),
-        marks_of(&generate::ring(12), &[Task::Rings, paths]),
+        marks_of(&generate::document(), &tasks(3)),
+        marks_of(&generate::two_to_three(), &tasks(4)),
+        marks_of(&generate::ring(12), &tasks(12)),
     ]
 }
 
@@ -186,12 +190,13 @@ fn filled_by_zeros() {
             assert_eq!(compare(&mut calls, &lists, &every), Err(14));
         }
     }
-    // 4 and 4, 6 and 2, 12 and 12 marks of ten fields, with 145 atoms in their
-    // beginnings. Kind, s and t are 0 in 22 ring marks, the length in one mark of
-    // each task; in the first of each extensions and listed.
+    // 4, 4 and 4, 6, 2 and 6, 12, 12 and 12 marks of ten fields, with 227 atoms
+    // in their beginnings. Kind, s and t are 0 in 22 ring marks, t in 22 of rings
+    // up to a size, the length in one mark of each task; in the first of each
+    // extensions and listed.
     if sample() == 1 {
-        assert_eq!(fields, 400 + 145);
-        assert_eq!(of_zero, [3 * 22 + 6, 2 * 6]);
+        assert_eq!(fields, 620 + 227);
+        assert_eq!(of_zero, [3 * 22 + 22 + 9, 2 * 9]);
     }
 }
 
@@ -202,7 +207,11 @@ fn full_columns() {
     let mut calls = Calls::new(71);
     let record = generate::random_molecule(&mut Rng::new(72), 128, 1024).record();
     let reached = Reached::new(&record);
-    for task in [Task::Rings, Task::Paths { s: 100, t: 127 }] {
+    for task in [
+        Task::Rings,
+        Task::Paths { s: 100, t: 127 },
+        Task::RingsUpTo { k: 128 },
+    ] {
         let mut search = Search::at(task, &[], 128);
         [search.trials, search.extensions, search.listed] = [LIMIT, 0, LIMIT / 10];
         let mark = mark::write(&record, &search);
@@ -250,6 +259,7 @@ fn lengths() {
     let all: Vec<u8> = (1..=128).collect();
     for (molecule, task) in [
         (generate::ring(128), Task::Rings),
+        (generate::ring(128), Task::RingsUpTo { k: 128 }),
         (generate::chain(128), Task::Paths { s: 1, t: 128 }),
     ] {
         let record = molecule.record();
@@ -301,7 +311,7 @@ fn other_molecules() {
             _ => (n, m),
         };
         let other = generate::random_molecule(&mut rng, other_n, other_m).record();
-        let task = any_task(&mut rng, n);
+        let task = generate::any_task(&mut rng, n);
         let (own_lists, other_lists) = (Listed::new(&own), Listed::new(&other));
         let search = any_place(&mut rng, n, task, &own_lists.members(task));
         let mark = mark::write(&own, &search);
@@ -312,15 +322,6 @@ fn other_molecules() {
     }
     calls.print();
     calls.at_least(500, "restore", &[0, 15, 17]);
-}
-
-fn any_task(rng: &mut Rng, n: u64) -> Task {
-    if n >= 2 && rng.one_in(2) {
-        let (s, t) = generate::any_ends(rng, n);
-        Task::of(n, 1, s, t).expect("two atoms")
-    } else {
-        Task::Rings
-    }
 }
 
 /// An open beginning, a next atom and counts at random.
@@ -364,7 +365,7 @@ fn random_marks(name: &'static str, seed: u64) {
         let n = record.atoms;
         let (listed, reached) = (Listed::new(&record), Reached::new(&record));
         let lists: &dyn Lists = if n <= 12 { &listed } else { &reached };
-        let task = any_task(&mut rng, n);
+        let task = generate::any_task(&mut rng, n);
         let members = lister::list(&record, task).members();
         for kind in 0..MARKS {
             let search = any_place(&mut rng, n, task, &members);
@@ -421,6 +422,8 @@ fn not_open() {
         let lists = Listed::new(&record);
         for task in [
             Task::Rings,
+            Task::RingsUpTo { k: 3 },
+            Task::RingsUpTo { k: 4 },
             Task::Paths { s: 2, t: 4 },
             Task::Paths { s: 3, t: 1 },
         ] {
@@ -461,6 +464,10 @@ fn not_open() {
     for p in [&[2][..], &[3], &[1, 4], &[1, 2, 3], &[1, 2, 3, 4], &[0]] {
         assert_eq!(answer(Task::Rings, p), Err(17));
     }
+    for k in [3, 4, 128] {
+        assert_eq!(answer(Task::RingsUpTo { k }, &[1, 3]), Ok(()));
+        assert_eq!(answer(Task::RingsUpTo { k }, &[1, 4]), Err(17));
+    }
     let paths = Task::Paths { s: 2, t: 4 };
     for p in [&[2][..], &[2, 1], &[2, 3]] {
         assert_eq!(answer(paths, p), Ok(()));
@@ -492,13 +499,15 @@ fn next_atoms() {
         let other = [255, 256, 257, 9999];
         let step = sample().min(9) as usize;
         for c in (0..=n + 2).rev().chain(other).step_by(step) {
-            let mark = mark::write(&record, &Search::at(Task::Rings, &[], c));
-            let right = (1..=n + 1).contains(&c);
-            assert_eq!(compare(&mut calls, &reached, &mark).is_ok(), right);
-            if n >= 3 {
-                let mark = mark::write(&record, &Search::at(Task::Rings, &[1, 2], c));
-                let right = (1..=n).contains(&c);
+            for task in [Task::Rings, Task::RingsUpTo { k: 128 }] {
+                let mark = mark::write(&record, &Search::at(task, &[], c));
+                let right = (1..=n + 1).contains(&c);
                 assert_eq!(compare(&mut calls, &reached, &mark).is_ok(), right);
+                if n >= 3 {
+                    let mark = mark::write(&record, &Search::at(task, &[1, 2], c));
+                    let right = (1..=n).contains(&c);
+                    assert_eq!(compare(&mut calls, &reached, &mark).is_ok(), right);
+                }
             }
         }
     }
@@ -508,7 +517,20 @@ fn next_atoms() {
 #[test]
 fn order_of_rules() {
     let mut calls = Calls::new(68);
-    for task in [Task::Rings, Task::Paths { s: 2, t: 4 }] {
+    for (task, of_16) in [
+        (
+            Task::Rings,
+            [(0, 4, "2"), (4, 4, "5"), (8, 4, "2"), (0, 4, "9999")],
+        ),
+        (
+            Task::Paths { s: 2, t: 4 },
+            [(0, 4, "3"), (4, 4, "5"), (8, 4, "2"), (0, 4, "9999")],
+        ),
+        (
+            Task::RingsUpTo { k: 4 },
+            [(0, 4, "3"), (4, 4, "2"), (8, 4, "2"), (4, 4, "129")],
+        ),
+    ] {
         let record = generate::document().record();
         let lists = Listed::new(&record);
         let right = mark::write(&record, &Search::at(task, &[], 1));
@@ -520,7 +542,7 @@ fn order_of_rules() {
                 (69, 20, "10000000000000000000"),
             ],
             vec![(12, 4, "5"), (16, 4, "4"), (12, 4, "9999"), (16, 4, "0")],
-            vec![(0, 4, "2"), (4, 4, "5"), (8, 4, "2"), (0, 4, "9999")],
+            of_16.to_vec(),
             vec![(24, 4, "0"), (24, 4, "6"), (24, 4, "9999")],
         ];
         for set in 0..16u32 {
@@ -549,6 +571,74 @@ fn order_of_rules() {
     }
 }
 
+/// Rule 16 on a mark of rings up to a size: k from 3 to 128 with t = 0, whatever
+/// n is, and no other s and t.
+#[test]
+fn sizes() {
+    let mut calls = Calls::new(74);
+    for molecule in [
+        Molecule::new(0, &[]),
+        Molecule::new(2, &[(1, 2)]),
+        generate::document(),
+        generate::ring(128),
+    ] {
+        let record = molecule.record();
+        let reached = Reached::new(&record);
+        let fresh = Search::fresh(Task::RingsUpTo { k: 3 });
+        let right = mark::write(&record, &fresh);
+        let others = [255, 256, 259, 999, 1_024, 9_999];
+        for s in (0..=131).chain(others).step_by(sample().min(5) as usize) {
+            for t in [0, 1, 2, 3, 128, 256, 9_999] {
+                let mut mark = right.clone();
+                put(&mut mark, 4, 4, &s.to_string());
+                put(&mut mark, 8, 4, &t.to_string());
+                let answer = compare(&mut calls, &reached, &mark);
+                if (3..=128).contains(&s) && t == 0 {
+                    let task = Task::RingsUpTo { k: s as u8 };
+                    assert_eq!(answer, Ok(Search::fresh(task)));
+                } else {
+                    assert_eq!(answer, Err(16), "{s} and {t}");
+                }
+            }
+        }
+    }
+}
+
+/// A beginning is open exactly when a ring of at most k atoms begins so: one
+/// ring, of which each beginning is open with k at least its size.
+#[test]
+fn open_up_to_a_size() {
+    let mut calls = Calls::new(75);
+    for n in [3, 4, 7, 64, 128] {
+        let record = generate::ring(n).record();
+        let reached = Reached::new(&record);
+        let ring: Vec<u8> = (1..=n as u8).collect();
+        for k in [3, 4, 6, 7, 8, 63, 64, 65, 127, 128] {
+            let task = Task::RingsUpTo { k };
+            for len in (1..n.min(128) as usize).step_by(1 + n as usize / 9) {
+                let mark = mark::write(&record, &Search::at(task, &ring[..len], 1));
+                let answer = compare(&mut calls, &reached, &mark);
+                assert_eq!(answer.is_ok(), n <= k.into(), "{n} {k} {len}");
+                assert!(answer.is_ok() || answer == Err(17));
+            }
+        }
+    }
+    // The cube's hexagon 1 2 4 8 7 5, and its square 1 2 4 3.
+    let record = generate::cube().record();
+    let lists = Listed::new(&record);
+    for (p, least) in [
+        (&[1, 2, 4][..], 4),
+        (&[1, 2, 4, 8], 6),
+        (&[1, 2, 4, 8, 7], 6),
+    ] {
+        for k in 3..=9 {
+            let mark = mark::write(&record, &Search::at(Task::RingsUpTo { k }, p, 8));
+            let answer = compare(&mut calls, &lists, &mark);
+            assert_eq!(answer.is_ok(), k >= least, "{p:?} {k}");
+        }
+    }
+}
+
 /// Counts at the limit, one below and a few below, at every place of a search
 /// and with every small budget and output.
 #[test]
@@ -559,7 +649,11 @@ fn limits() {
         let n = record.atoms;
         let lists = Listed::new(&record);
         let on = On::lawful(&lists);
-        for task in [Task::Rings, Task::Paths { s: 2, t: 4 }] {
+        for task in [
+            Task::Rings,
+            Task::Paths { s: 2, t: 4 },
+            Task::RingsUpTo { k: 5 },
+        ] {
             let mut place = Search::fresh(task);
             loop {
                 for which in 0..3 {

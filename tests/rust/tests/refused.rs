@@ -56,6 +56,11 @@ fn rule_12() {
         (generate::two_to_three(), Task::Rings),
         (generate::two_to_three(), paths),
         (generate::ring(9), Task::Rings),
+        (generate::document(), Task::RingsUpTo { k: 3 }),
+        (generate::two_to_three(), Task::RingsUpTo { k: 128 }),
+        (generate::ring(9), Task::RingsUpTo { k: 9 }),
+        (generate::cube(), Task::RingsUpTo { k: 4 }),
+        (Molecule::new(0, &[]), Task::RingsUpTo { k: 12 }),
         (generate::cube(), paths),
         (Molecule::new(4, &[(1, 2)]), paths),
         (Molecule::new(0, &[]), Task::Rings),
@@ -77,7 +82,7 @@ fn rule_12() {
                 change(&mut search);
                 refuse(&mut calls, on, &search);
             };
-            for kind in [2, 3, 255, 9999, 10_000, u64::MAX] {
+            for kind in [3, 4, 255, 9999, 10_000, u64::MAX] {
                 refused(&|search| search.kind = kind);
             }
             for high in high {
@@ -88,20 +93,47 @@ fn rule_12() {
                 refused(&|search| search.next += high);
                 refused(&|search| search.next = search.next.wrapping_sub(high));
             }
-            // The other kind with the same ends.
-            refused(&|search| search.kind ^= 1);
             for end in [n + 1, n + 2, 128, 129, 10_000, u64::MAX] {
-                refused(&|search| search.s = end);
                 refused(&|search| search.t = end);
+            }
+            for end in [129, 255, 256, 259, 10_000, (1 << 32) + 3, u64::MAX] {
+                refused(&|search| search.s = end);
             }
             match task {
                 Task::Rings => {
-                    refused(&|search| search.s = 1);
+                    // Another kind with the same s and t.
+                    refused(&|search| search.kind = 1);
+                    refused(&|search| search.kind = 2);
+                    for s in [1, n + 1, n + 2, 128] {
+                        refused(&|search| search.s = s);
+                    }
                     refused(&|search| search.t = 1);
                     refused(&|search| (search.s, search.t) = (1, 2));
+                    for s in [1, 2, 129, 9999, (1 << 32) + 3, u64::MAX] {
+                        refused(&|search| (search.kind, search.s) = (2, s));
+                    }
+                    // All rings up to a size have no t.
+                    for t in [1, n, 128] {
+                        refused(&|search| (search.kind, search.s, search.t) = (2, 128, t.max(1)));
+                    }
+                }
+                Task::RingsUpTo { .. } => {
+                    refused(&|search| search.kind = 0);
+                    refused(&|search| search.kind = 1);
+                    for s in [0, 1, 2] {
+                        refused(&|search| search.s = s);
+                    }
+                    for t in [1, 2, 3] {
+                        refused(&|search| search.t = t);
+                    }
+                    refused(&|search| (search.kind, search.s, search.t) = (1, 0, 0));
                 }
                 Task::Paths { s, t } => {
-                    refused(&|search| search.s = 0);
+                    refused(&|search| search.kind = 0);
+                    refused(&|search| search.kind = 2);
+                    for s in [0, n + 1, n + 2, 128] {
+                        refused(&|search| search.s = s);
+                    }
                     refused(&|search| search.t = 0);
                     refused(&|search| search.s = t.into());
                     refused(&|search| search.t = s.into());
@@ -187,7 +219,12 @@ fn every_beginning() {
         let lists = Listed::new(&record);
         let on = On::lawful(&lists);
         let base = record.atoms + 2;
-        for task in [Task::Rings, Task::Paths { s: 3, t: 1 }] {
+        for task in [
+            Task::Rings,
+            Task::Paths { s: 3, t: 1 },
+            Task::RingsUpTo { k: 3 },
+            Task::RingsUpTo { k: 4 },
+        ] {
             for len in 0..=4u32 {
                 for number in (0..base.pow(len)).step_by(sample().min(60) as usize) {
                     let p: Vec<u8> = (0..len)
@@ -213,6 +250,7 @@ fn longest_beginnings() {
     let all: Vec<u8> = (1..=128).collect();
     for (molecule, task) in [
         (generate::ring(128), Task::Rings),
+        (generate::ring(128), Task::RingsUpTo { k: 128 }),
         (generate::chain(128), Task::Paths { s: 1, t: 128 }),
     ] {
         let record = molecule.record();
@@ -260,6 +298,10 @@ fn every_start() {
                 .chain([127, 128, 129, 255, 256, 257, 1 << 32, (1 << 32) + 1])
                 .chain([u64::MAX - 1, u64::MAX])
         };
+        for k in ends() {
+            let answer = calls.start_rings_up_to(on, k).err();
+            assert_eq!(answer, (!(3..=128).contains(&k)).then_some(21), "k = {k}");
+        }
         for s in ends().step_by(sample().min(7) as usize) {
             for t in ends() {
                 let answer = calls.start_paths(on, s, t).err();
@@ -275,6 +317,7 @@ fn every_start() {
     calls.print();
     calls.at_least(200, "start_paths", &[0, 10]);
     calls.at_least(100, "start_paths", &[11]);
+    calls.at_least(50, "start_rings_up_to", &[0, 21]);
 }
 
 /// Damaged records: 9 before everything but lengths, in every function.
@@ -282,8 +325,9 @@ fn every_start() {
 fn rule_9() {
     let mut calls = Calls::new(75);
     let fresh = Search::fresh(Task::Rings);
+    let bounded = Search::fresh(Task::RingsUpTo { k: 12 });
     let mut wrong = fresh.clone();
-    wrong.kind = 2;
+    wrong.kind = 3;
     for case in 0..sampled(6_000) {
         let mut rng = Rng::of_case(0x5255_4C45_3953, case);
         let record = generate::any_record(&mut rng, case % generate::RECORD_KINDS);
@@ -296,19 +340,23 @@ fn rule_9() {
         let (s, t) = (rng.below(9), rng.below(9));
         let _ = calls.start_rings(on);
         let _ = calls.start_paths(on, s, t);
-        for search in [&fresh, &wrong] {
+        let _ = calls.start_rings_up_to(on, s);
+        for search in [&fresh, &wrong, &bounded] {
             let _ = calls.run(on, search, rng.below(3), 20);
             let _ = calls.save(on, search, 80 + rng.index(20));
         }
         if record.atoms <= 9999 && record.bonds <= 9999 {
-            let mark = mark::write(&record, &fresh);
-            let _ = calls.restore(on, &mark);
-            let _ = calls.restore(on, &mark[1..]);
+            for search in [&fresh, &bounded] {
+                let mark = mark::write(&record, search);
+                let _ = calls.restore(on, &mark);
+                let _ = calls.restore(on, &mark[1..]);
+            }
         }
     }
     calls.print();
     calls.at_least(1_500, "start_rings", &[0, 9]);
     calls.at_least(1_500, "start_paths", &[9]);
+    calls.at_least(500, "start_rings_up_to", &[0, 9, 21]);
     calls.at_least(1_500, "run", &[9, 12]);
     calls.at_least(500, "save", &[0, 9, 12, 13]);
     calls.at_least(1_000, "restore", &[0, 9, 14]);
@@ -343,11 +391,11 @@ fn wrong_lengths() {
         let mut before = fresh.numbers(0, 0).to_vec();
         before.resize(numbers_len, 0);
         let (n, m) = (record.atoms, record.bonds);
-        for function in 0..5 {
+        for function in 0..6 {
             let mut numbers = Guarded::numbers(numbers_len, case);
             let mut prefix = Guarded::new(prefix_len, case);
             let mut out = Guarded::new(rng.pick(&[0, 99, 599]), case);
-            if function >= 2 {
+            if function >= 3 {
                 numbers = numbers.holding(&before);
                 prefix = prefix.holding(&vec![0; prefix_len]);
             }
@@ -355,8 +403,9 @@ fn wrong_lengths() {
             let answer = match function {
                 0 => ffi::start_rings(n, m, &rows, given, places),
                 1 => ffi::start_paths(n, m, &rows, (rng.below(6), 4), given, places),
-                2 => ffi::run(n, m, &rows, given, places, rng.below(9), out.buffer()),
-                3 => ffi::save(n, m, &rows, given, places, out.buffer()),
+                2 => ffi::start_rings_up_to(n, m, &rows, rng.below(6), given, places),
+                3 => ffi::run(n, m, &rows, given, places, rng.below(9), out.buffer()),
+                4 => ffi::save(n, m, &rows, given, places, out.buffer()),
                 _ => {
                     let mark = &mark[rng.index(2)..];
                     ffi::restore(n, m, &rows, mark, given, places)
@@ -367,5 +416,5 @@ fn wrong_lengths() {
             tried += 1;
         }
     }
-    assert_eq!(tried, 5 * sampled(4_000));
+    assert_eq!(tried, 6 * sampled(4_000));
 }

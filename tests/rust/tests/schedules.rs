@@ -131,12 +131,13 @@ fn renumbered(rng: &mut Rng, name: &str) -> Molecule {
     generate::renamed(rng, &whole)
 }
 
+/// Rings, rings up to a size, that often some ring has, or paths.
 fn any_task(rng: &mut Rng, n: u64) -> Task {
-    if n < 2 || rng.below(5) < 3 {
-        return Task::Rings;
+    match rng.below(10) {
+        0..=3 => Task::Rings,
+        4..=6 if n >= 2 => generate::any_paths(rng, n),
+        _ => generate::any_up_to(rng, n),
     }
-    let (s, t) = generate::any_ends(rng, n);
-    Task::of(n, 1, s, t).expect("two atoms")
 }
 
 /// A budget of one of eight kinds.
@@ -418,7 +419,8 @@ impl Course {
         self.search = restored;
     }
 
-    /// A call of the host entry, from no mark where the search is fresh.
+    /// A call of the host entry: from no mark where the search is a fresh ring
+    /// search, and from the entry's own mark where it is any other fresh one.
     fn resume(
         &mut self,
         tools: &mut Tools,
@@ -426,13 +428,16 @@ impl Course {
         budget: u64,
         room: usize,
     ) -> Result<Ran, u32> {
+        let sheet = (subject.sheet, Ok(subject.lists));
+        let rooms = (room, LONGEST_MARK);
         let mark = if self.search == Search::fresh(Task::Rings) {
             Vec::new()
+        } else if self.search == Search::fresh(subject.task) {
+            let numbers = subject.task.numbers();
+            tools.entry.start(sheet, numbers, LONGEST_MARK)?
         } else {
             mark::write(subject.lists.record(), &self.search)
         };
-        let sheet = (subject.sheet, Ok(subject.lists));
-        let rooms = (room, LONGEST_MARK);
         let resumed = tools.entry.resume(sheet, &mark, budget, rooms)?;
         Ok(Ran {
             stop: resumed.stop,
@@ -513,10 +518,7 @@ fn put_counts(subject: &Subject, rng: &mut Rng, search: &mut Search) {
 fn any_begin(tools: &mut Tools, subject: &Subject, rng: &mut Rng) -> Search {
     let (n, task) = (subject.atoms(), subject.task);
     if rng.one_in(2) {
-        let started = match task {
-            Task::Rings => tools.calls.start_rings(subject.on()),
-            Task::Paths { s, t } => tools.calls.start_paths(subject.on(), s.into(), t.into()),
-        };
+        let started = tools.calls.start_task(subject.on(), task);
         return started.expect("a lawful start");
     }
     let mut search = Search::fresh(task);
@@ -595,6 +597,7 @@ fn finish(tools: &mut Tools, subject: &Subject, begin: &Search, course: &Course,
     let kind = match subject.task {
         Task::Rings => "rings",
         Task::Paths { .. } => "paths",
+        Task::RingsUpTo { .. } => "rings up to a size",
     };
     tools.seen.add(format!("schedules of {kind} to {stop:?}"));
     if stop == Stop::Limit {
@@ -720,7 +723,7 @@ fn check(seen: &Seen) {
     for records in ["no", "some"] {
         some(500, format!("Full after {records} records"));
     }
-    for kind in ["rings", "paths"] {
+    for kind in ["rings", "paths", "rings up to a size"] {
         some(1_000, format!("schedules of {kind} to Done"));
         some(100, format!("schedules of {kind} to Limit"));
     }

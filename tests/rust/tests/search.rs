@@ -132,7 +132,7 @@ impl Course {
         let (budget, room) = (any_budget(rng, n, BUDGETS), any_room(rng, n, ROOMS));
         let mut search = self.search.clone();
         let mut mark = mark::write(subject.record(), &search);
-        match rng.below(8) {
+        match rng.below(9) {
             0 => {
                 let mut record = subject.record().clone();
                 spoil::record(rng, &mut record);
@@ -142,12 +142,13 @@ impl Course {
                 } else {
                     On::unlawful(&record)
                 };
-                match rng.below(5) {
+                match rng.below(6) {
                     0 => drop(calls.run(on, &search, budget, room)),
                     1 => drop(calls.save(on, &search, LONGEST_MARK)),
                     2 => drop(calls.restore(on, &mark)),
                     3 => drop(calls.start_rings(on)),
-                    _ => drop(calls.start_paths(on, search.s, search.t)),
+                    4 => drop(calls.start_paths(on, search.s, search.t)),
+                    _ => drop(calls.start_rings_up_to(on, search.s)),
                 }
             }
             1 | 2 => {
@@ -158,6 +159,14 @@ impl Course {
                 spoil::search(rng, n, &mut search);
                 let room = rng.index(LONGEST_MARK + 10);
                 let _ = calls.save(on, &search, room);
+            }
+            5 => {
+                let k = match rng.below(3) {
+                    0 => rng.between(0, n + 3),
+                    1 => rng.pick(&[2, 3, 128, 129]),
+                    _ => generate::wrong_size(rng),
+                };
+                let _ = calls.start_rings_up_to(on, k);
             }
             4 => {
                 let (s, t) = (rng.between(0, n + 1), rng.between(0, n + 1));
@@ -230,14 +239,13 @@ fn assert_whole(course: &Course, subject: &Subject) {
     assert_eq!(extensions, open.len() as u64);
     assert_eq!(trials, n * (extensions + 1));
     assert_eq!(trials, course.made);
+    // A member has at most so many atoms, and one more than its beginnings.
+    let longest = n.min(subject.task.longest() as u64);
+    assert!(extensions <= longest.saturating_sub(1) * listed);
 }
 
 fn start(calls: &mut Calls, lists: &dyn Lists, task: Task) -> Search {
-    let on = On::lawful(lists);
-    let started = match task {
-        Task::Rings => calls.start_rings(on),
-        Task::Paths { s, t } => calls.start_paths(on, s.into(), t.into()),
-    };
+    let started = calls.start_task(On::lawful(lists), task);
     started.expect("a lawful start")
 }
 
@@ -315,12 +323,7 @@ fn random_schedules_of(name: &'static str, seed: u64) -> u64 {
         let kept = record.clone();
         let n = record.atoms;
         let (listed, reached) = (Listed::new(&record), Reached::new(&record));
-        let mut tasks = vec![Task::Rings];
-        if n >= 2 {
-            let (s, t) = generate::any_ends(&mut rng, n);
-            tasks.push(Task::of(n, 1, s, t).expect("two atoms"));
-        }
-        for task in tasks {
+        for task in generate::any_tasks(&mut rng, n) {
             let subject = if n <= BRUTE {
                 Subject {
                     lists: &listed,
@@ -359,7 +362,9 @@ fn random_schedules_of(name: &'static str, seed: u64) -> u64 {
     calls.at_least(500, "restore", &[14, 15, 16, 17]);
     calls.at_least(5_000, "start_rings", &[0]);
     calls.at_least(5_000, "start_paths", &[0]);
+    calls.at_least(5_000, "start_rings_up_to", &[0]);
     calls.at_least(150, "start_paths", &[9, 10, 11]);
+    calls.at_least(150, "start_rings_up_to", &[9, 21]);
     assert!(members >= sampled(20_000));
     assert!(sample() > 1 || longest >= 15);
     molecules
@@ -381,6 +386,7 @@ fn every_budget_and_room() {
         let record = molecule.record();
         let lists = Listed::new(&record);
         let mut tasks = vec![Task::Rings];
+        tasks.extend([3, 4, 5].map(|k| Task::RingsUpTo { k }));
         if record.atoms >= 3 {
             tasks.push(Task::Paths { s: 2, t: 3 });
             tasks.push(Task::Paths { s: 3, t: 1 });
@@ -419,7 +425,13 @@ fn every_place() {
     ] {
         let record = molecule.record();
         let lists = Listed::new(&record);
-        for task in [Task::Rings, Task::Paths { s: 2, t: 4 }] {
+        for task in [
+            Task::Rings,
+            Task::Paths { s: 2, t: 4 },
+            Task::RingsUpTo { k: 3 },
+            Task::RingsUpTo { k: 4 },
+            Task::RingsUpTo { k: 12 },
+        ] {
             let subject = Subject {
                 lists: &lists,
                 task,
@@ -471,6 +483,18 @@ fn references() {
     let (counts, paths) = whole(&generate::document(), Task::Paths { s: 1, t: 3 });
     assert_eq!(paths, [[1, 3]]);
     assert_eq!(counts, [8, 1, 1]);
+    for (k, squares, hexagons) in [(3, 0, 0), (4, 6, 0), (5, 6, 0), (6, 6, 4), (128, 6, 4)] {
+        let (counts, rings) = whole(&generate::cube(), Task::RingsUpTo { k });
+        let long = |len| rings.iter().filter(|ring| ring.len() == len).count();
+        assert_eq!((long(4), long(6)), (squares, hexagons));
+        assert_eq!(counts[2] as usize, squares + hexagons);
+    }
+    for (k, rings) in [(4, 0), (5, 12), (6, 32)] {
+        if sample() == 1 {
+            let (counts, _) = whole(&generate::buckminsterfullerene(), Task::RingsUpTo { k });
+            assert_eq!(counts[2], rings);
+        }
+    }
     let (_, rings) = whole(&generate::cube(), Task::Rings);
     let long = |len| rings.iter().filter(|ring| ring.len() == len).count();
     assert_eq!((rings.len(), long(4), long(6)), (10, 6, 4));
@@ -523,6 +547,9 @@ fn longest() {
         (generate::chain(128), Task::Paths { s: 128, t: 1 }),
         (generate::ring(128), Task::Paths { s: 1, t: 64 }),
         (generate::chain(128), Task::Rings),
+        (generate::ring(128), Task::RingsUpTo { k: 128 }),
+        (generate::ring(128), Task::RingsUpTo { k: 127 }),
+        (generate::ring(127), Task::RingsUpTo { k: 127 }),
     ] {
         let record = molecule.record();
         let reached = Reached::new(&record);
@@ -552,6 +579,7 @@ fn longest_places() {
     let down: Vec<u8> = (1..=128).rev().collect();
     for (molecule, task, member) in [
         (generate::ring(128), Task::Rings, &up),
+        (generate::ring(128), Task::RingsUpTo { k: 128 }, &up),
         (generate::chain(128), Task::Paths { s: 1, t: 128 }, &up),
         (generate::chain(128), Task::Paths { s: 128, t: 1 }, &down),
     ] {
@@ -572,6 +600,99 @@ fn longest_places() {
             let listed = listed.expect("accepted");
             assert_eq!(listed.stop, Stop::Spent);
             assert_eq!(listed.records, list::record_of(member));
+        }
+    }
+}
+
+/// Every size from 3 to two above the atoms, and 128, on molecules of up to 12
+/// atoms, by brute force: the whole list in one run, the same as that of a ring
+/// search where the size is at least n, and the counts.
+#[test]
+fn every_size() {
+    let mut calls = Calls::new(57);
+    let (mut fewer, mut rings) = (0, 0);
+    for case in 0..sampled(1_500) {
+        let _case = Case("every_size", case);
+        let mut rng = Rng::of_case(0x4556_4552_5953, case);
+        let n = case % 13;
+        let pairs = n * n.saturating_sub(1) / 2;
+        let m = match rng.below(3) {
+            0 => rng.between(0, pairs),
+            _ => rng.between(0, pairs.min(n + 5)),
+        };
+        let record = generate::random_molecule(&mut rng, n, m).record();
+        let lists = Listed::new(&record);
+        let all = lists.members(Task::Rings);
+        let mut whole = |task| {
+            let members = lists.members(task).to_vec();
+            let subject = Subject {
+                lists: &lists,
+                task,
+                members,
+            };
+            let mut course = Course::new(start(&mut calls, &lists, task));
+            course.finish(&mut calls, &subject, 5_000);
+            assert_whole(&course, &subject);
+            course
+        };
+        let unbounded = whole(Task::Rings);
+        for k in (3..=n as u8 + 2).chain([128]) {
+            let bounded = whole(Task::RingsUpTo { k });
+            let listed = bounded.search.listed as usize;
+            assert_eq!(
+                listed,
+                all.iter().filter(|ring| ring.len() <= k.into()).count()
+            );
+            if u64::from(k) >= n {
+                assert_eq!(bounded.sheet, unbounded.sheet);
+                assert_eq!(bounded.search.counts(), unbounded.search.counts());
+            }
+            fewer += u64::from(0 < listed && listed < all.len());
+            rings += listed;
+        }
+    }
+    println!("{rings} rings, {fewer} searches with some of the rings");
+    assert!(sample() > 1 || (fewer >= 500 && rings >= 10_000));
+}
+
+/// Sizes outside 3 to 128 are refused, 9 comes first, and a size above n is as
+/// good as n.
+#[test]
+fn sizes_at_the_edges() {
+    let mut calls = Calls::new(58);
+    for molecule in [
+        Molecule::new(0, &[]),
+        generate::document(),
+        generate::ring(128),
+    ] {
+        let record = molecule.record();
+        let lists = Reached::new(&record);
+        let on = On::lawful(&lists);
+        let mut unlawful = record.clone();
+        unlawful.bonds += 1;
+        for k in [
+            0,
+            1,
+            2,
+            129,
+            130,
+            255,
+            256,
+            259,
+            (1 << 32) + 3,
+            (1 << 63) + 12,
+            u64::MAX,
+        ] {
+            assert_eq!(calls.start_rings_up_to(on, k), Err(21), "{k}");
+            assert_eq!(calls.start_rings_up_to(On::unlawful(&unlawful), k), Err(9));
+        }
+        for k in 3..=128 {
+            let fresh = Search::fresh(Task::RingsUpTo { k });
+            assert_eq!(calls.start_rings_up_to(on, k.into()), Ok(fresh.clone()));
+            let mark = calls.save(on, &fresh, 91).expect("a mark");
+            assert_eq!(calls.restore(on, &mark), Ok(fresh));
+            let refused = calls.start_rings_up_to(On::unlawful(&unlawful), k.into());
+            assert_eq!(refused, Err(9));
         }
     }
 }

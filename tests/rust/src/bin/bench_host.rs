@@ -8,6 +8,9 @@
 //! beginning), which takes only the atoms that list or open; `best` is the same
 //! with fewer and shorter sweeps; `stepper` goes trial by trial as document 01
 //! counts them. They take turns, and of each the best time counts.
+//!
+//! A second table has the rings up to a size, of a few larger molecules: the
+//! entry beside `best` with the same bound, and beside itself without one.
 
 use std::path::PathBuf;
 use std::time::Instant;
@@ -30,8 +33,15 @@ const SAMPLE: f64 = 0.002;
 const LENGTHS: [u64; 5] = [100, 1_000, 10_000, 100_000, 1_000_000];
 /// Listings of more calls than this are not timed.
 const MOST_CALLS: u64 = 20_000;
+/// The sizes of the second table, of which the last leaves out no ring, and the
+/// fewest atoms of a random molecule there.
+const SIZES: [u8; 4] = [6, 8, 12, 128];
+const ALL: u8 = 128;
+const LARGER: u64 = 30;
 /// The ratio to the first lister that no molecule is to exceed.
 const AIM: f64 = 1.0;
+/// The place of `best` among the listers.
+const BEST: usize = 1;
 const DONE: u32 = 101;
 const MARK: usize = 599;
 
@@ -116,6 +126,21 @@ impl Row {
                 .collect(),
         }
     }
+}
+
+/// What was measured of one molecule with a bound, in seconds.
+struct Bounded {
+    k: u8,
+    rings: u64,
+    trials: u64,
+    entry: f64,
+    best: f64,
+}
+
+/// A molecule's rings up to each size, and its row of the first table.
+struct Group<'a> {
+    row: &'a Row,
+    sizes: Vec<Bounded>,
 }
 
 fn molecules() -> Vec<Molecule> {
@@ -266,20 +291,74 @@ fn round(case: &mut Case, row: &mut Row, times: u32) {
     }
 }
 
+/// Several rounds of a call that takes about so many seconds, each told how
+/// often to make it for one sample.
+fn rounds(once: f64, mut round: impl FnMut(u32)) {
+    let times = (SAMPLE / once).clamp(1.0, 1_000.0) as u32;
+    let begin = Instant::now();
+    for number in 0..ROUNDS {
+        if number == 0 || begin.elapsed().as_secs_f64() <= SECONDS {
+            round(times);
+        }
+    }
+}
+
 /// The timed calls of one molecule.
 fn measure(molecule: &Molecule) -> Row {
     let (mut case, mut row) = checked(molecule);
     let once = time(1, || {
         list(case.sheet, u64::MAX, &mut case.out);
     });
-    let times = (SAMPLE / once).clamp(1.0, 1_000.0) as u32;
-    let begin = Instant::now();
-    for number in 0..ROUNDS {
-        if number == 0 || begin.elapsed().as_secs_f64() <= SECONDS {
-            round(&mut case, &mut row, times);
-        }
-    }
+    rounds(once, |times| round(&mut case, &mut row, times));
     row
+}
+
+/// The mark of a fresh search of a molecule's rings of at most k atoms, room for
+/// its records, and what was counted. `best` gives the same records and counts.
+fn checked_up_to(sheet: &[u8], k: u8) -> (Vec<u8>, Vec<u8>, Bounded) {
+    let task = Task::RingsUpTo { k };
+    let record = sheet::read(sheet).expect("a sheet");
+    let listing = best::list(&record, task);
+    let mark = host::fresh_mark(sheet, task);
+    let whole = host::list(sheet, &mark, || (u64::MAX, listing.sheet.len()));
+    let trials = record.atoms * (listing.extensions + 1);
+    assert!(whole.sheet == listing.sheet, "the records of best");
+    assert_eq!(whole.counts(), [trials, listing.extensions, listing.listed]);
+    let bounded = Bounded {
+        k,
+        rings: listing.listed,
+        trials,
+        entry: f64::MAX,
+        best: f64::MAX,
+    };
+    (mark, listing.sheet, bounded)
+}
+
+/// The timed calls of one molecule with a bound: the entry from the mark of a
+/// start, and `best`.
+fn measure_up_to(sheet: &[u8], k: u8) -> Bounded {
+    let (mark, mut out, mut bounded) = checked_up_to(sheet, k);
+    let mut next = [0; MARK];
+    let mut entry = |times| {
+        time(times, || {
+            let stop = host::resume(black_box(sheet), &mark, u64::MAX, &mut out, &mut next);
+            assert_eq!(stop, DONE);
+        })
+    };
+    rounds(entry(1), |times| {
+        bounded.entry = bounded.entry.min(entry(times));
+        bounded.best = bounded.best.min(time(times, || {
+            let record = sheet::read(black_box(sheet)).expect("a sheet");
+            black_box(best::list(&record, Task::RingsUpTo { k }));
+        }));
+    });
+    bounded
+}
+
+/// The second table has buckminsterfullerene and the larger random molecules.
+fn has_sizes(row: &Row) -> bool {
+    let random = row.name.starts_with("random") && row.atoms >= LARGER;
+    random || row.name == "buckminsterfullerene"
 }
 
 /// A time in a unit that suits it.
@@ -425,6 +504,68 @@ fn length_table(rows: &[Row]) -> String {
     text
 }
 
+/// Rings up to a size: the entry over `best`, and over itself without a bound.
+fn size_table(groups: &[Group]) -> String {
+    let mut text = String::from(
+        "\n## Rings up to a size\n\n\
+         A whole listing of the rings of at most k atoms, by one call of the entry from the mark of `ringlist_start`, and by \
+         `best` with the same bound; 128 leaves out no ring. The last two columns are the entry's trials and time over those \
+         of all rings.\n\n",
+    );
+    let heads = [
+        "molecule",
+        "k",
+        "rings",
+        "trials",
+        "entry",
+        "best",
+        "entry / best",
+        "trials / all",
+        "time / all",
+    ]
+    .map(String::from);
+    text += &(table_line(&heads) + &table_rule(heads.len()));
+    for (row, size) in groups
+        .iter()
+        .flat_map(|group| group.sizes.iter().map(move |size| (group.row, size)))
+    {
+        text += &table_line(&[
+            row.name.clone(),
+            size.k.to_string(),
+            size.rings.to_string(),
+            size.trials.to_string(),
+            shown(size.entry),
+            shown(size.best),
+            format!("{:.2}", size.entry / size.best),
+            format!("{:.4}", size.trials as f64 / row.trials as f64),
+            format!("{:.4}", size.entry / row.entry),
+        ]);
+    }
+    text + &size_summary(groups)
+}
+
+/// The ratios of the second table: of its lines with a bound, of those with none
+/// that is felt, and of the same molecules in the first table.
+fn size_summary(groups: &[Group]) -> String {
+    let over = |all: bool| {
+        let sizes = move || {
+            let sizes = groups.iter().flat_map(|group| &group.sizes);
+            sizes.filter(move |size| (size.k == ALL) == all)
+        };
+        let entry: f64 = sizes().map(|size| size.entry).sum();
+        let best: f64 = sizes().map(|size| size.best).sum();
+        let mean = geometric_mean(sizes().map(|size| size.entry / size.best));
+        format!("{mean:.2} and {:.2}", entry / best)
+    };
+    let first = geometric_mean(groups.iter().map(|group| group.row.ratio(BEST)));
+    format!(
+        "\nAs the geometric mean of the ratios and with all times added, entry / best: {} with a bound, {} with {ALL}. \
+         The mean for the same molecules in the first table, where `best` has no bound: {first:.2}.\n",
+        over(false),
+        over(true),
+    )
+}
+
 /// The line of equal times and those of the aims, from the lowest.
 fn marks() -> Vec<(f64, String)> {
     let first = LISTERS[0].name;
@@ -480,9 +621,9 @@ fn picture(rows: &[Row]) -> Picture {
 }
 
 fn main() {
-    let mut rows = Vec::new();
-    for molecule in molecules() {
-        let row = measure(&molecule);
+    let (set, mut rows) = (molecules(), Vec::new());
+    for molecule in &set {
+        let row = measure(molecule);
         eprint!("{:21}", row.name);
         for (number, lister) in LISTERS.iter().enumerate() {
             eprint!(" entry / {} {:6.2}", lister.name, row.ratio(number));
@@ -490,10 +631,16 @@ fn main() {
         eprintln!();
         rows.push(row);
     }
+    let mut groups = Vec::new();
+    for (molecule, row) in set.iter().zip(&rows).filter(|(_, row)| has_sizes(row)) {
+        let sizes = SIZES.map(|k| measure_up_to(&molecule.sheet, k)).into();
+        eprintln!("{:21} with the sizes {SIZES:?}", row.name);
+        groups.push(Group { row, sizes });
+    }
     let folder = PathBuf::from(concat!(env!("CARGO_MANIFEST_DIR"), "/../../target/bench"));
     std::fs::create_dir_all(&folder).expect("a folder for the results");
-    let table =
-        head() + &ratio_table(&rows) + &summary(&rows) + &above_aim(&rows) + &length_table(&rows);
+    let mut table = head() + &ratio_table(&rows) + &summary(&rows) + &above_aim(&rows);
+    table += &(length_table(&rows) + &size_table(&groups));
     std::fs::write(folder.join("table.md"), &table).expect("a table");
     std::fs::write(folder.join("plot.svg"), picture(&rows).draw().svg()).expect("a plot");
     print!("{table}");

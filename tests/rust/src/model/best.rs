@@ -2,6 +2,11 @@
 //! recursion, an open beginning with one candidate and no member has no sweep,
 //! the second atoms of a ring are found once as a set, and a sweep ends once
 //! every candidate is decided.
+//!
+//! A bounded search is of the same method. The functions that differ have a
+//! parameter BOUNDED, so that each has code of its own without the bound. A round
+//! of a sweep is one atom more in the ring, so a sweep has as many rounds as the
+//! ring may still have atoms after the next one.
 
 use super::list::Task;
 use super::lister::Listing;
@@ -33,6 +38,8 @@ struct Lister {
     /// A record: its length, then the beginning at hand.
     list: [u8; 129],
     listing: Listing,
+    /// The most atoms of a ring; of use with a bound alone.
+    longest: usize,
 }
 
 impl Lister {
@@ -55,11 +62,30 @@ impl Lister {
         near
     }
 
+    /// Rounds of a sweep for the atoms that open after `len` others: the next
+    /// atom and as many more make at most `longest`.
+    fn rounds(&self, len: usize) -> usize {
+        self.longest - 1 - len
+    }
+
     /// The atoms of `want` that are bonded to an atom of `goal`, or to one of
-    /// `free` from which an atom of `goal` is reached through such atoms.
-    fn reaching(&self, want: Set, goal: Set, mut free: Set) -> Set {
+    /// `free` from which an atom of `goal` is reached through such atoms; with a
+    /// bound, in so many rounds.
+    fn reaching<const BOUNDED: bool>(
+        &self,
+        want: Set,
+        goal: Set,
+        mut free: Set,
+        mut rounds: usize,
+    ) -> Set {
         let (mut found, mut new) = (0, goal);
         while new != 0 && found != want {
+            if BOUNDED {
+                if rounds == 0 {
+                    break;
+                }
+                rounds -= 1;
+            }
             let near = self.near_any(new);
             found |= near & want;
             new = near & free;
@@ -92,7 +118,13 @@ impl Lister {
     /// Lists all members that begin with the `len` atoms at hand, an open
     /// beginning whose last atom is x. An atom of `goal` may come last, and one
     /// of `free` between.
-    fn extend(&mut self, mut len: usize, mut x: usize, mut goal: Set, mut free: Set) {
+    fn extend<const BOUNDED: bool>(
+        &mut self,
+        mut len: usize,
+        mut x: usize,
+        mut goal: Set,
+        mut free: Set,
+    ) {
         let (members, want) = loop {
             let near = self.near(x);
             let (members, want) = (goal & near, free & near);
@@ -101,14 +133,15 @@ impl Lister {
             if members != 0 || want & (want - 1) != 0 {
                 break (members, want);
             }
-            // No member and one candidate: it opens.
+            // No member and one candidate: it opens, as the beginning is open.
             x = lowest(want);
             self.open(len, x);
             len += 1;
         };
         let mut rest = members;
         if want != 0 && goal != 0 {
-            rest |= self.reaching(want, goal, free);
+            let rounds = if BOUNDED { self.rounds(len) } else { 0 };
+            rest |= self.reaching::<BOUNDED>(want, goal, free, rounds);
         }
         while rest != 0 {
             let v = lowest(rest);
@@ -116,7 +149,7 @@ impl Lister {
                 self.member(len, v);
             } else {
                 self.open(len, v);
-                self.extend(len + 1, v, goal, free);
+                self.extend::<BOUNDED>(len + 1, v, goal, free);
             }
             rest &= rest - 1;
         }
@@ -142,18 +175,37 @@ impl Lister {
         }
     }
 
+    /// The same with a bound, where a way through `free` that is too long for one
+    /// of `ends` may do for another: a sweep for each that no sweep before found,
+    /// from all that are above it. What a sweep finds is below all of these.
+    fn seconds_within(&self, ends: Set, free: Set) -> Set {
+        let (mut opens, mut below, mut higher) = (0, ends, 0);
+        while below & !opens != 0 {
+            let highest = 1 << (127 - below.leading_zeros());
+            if opens & highest == 0 {
+                opens |= self.reaching::<true>(below & !opens, higher, free, self.rounds(1));
+            }
+            below ^= highest;
+            higher |= highest;
+        }
+        opens
+    }
+
     /// All rings, by their first and second atoms.
-    fn rings(&mut self, n: usize) {
+    fn rings<const BOUNDED: bool>(&mut self, n: usize) {
         for s in 1..=n {
             let (ends, free) = (self.near(s) & above(s), above(s) & !self.near(s));
-            let mut rest = self.seconds(ends, free);
+            let mut rest = match BOUNDED {
+                true => self.seconds_within(ends, free),
+                false => self.seconds(ends, free),
+            };
             if rest != 0 {
                 self.open(0, s);
             }
             while rest != 0 {
                 let a = lowest(rest);
                 self.open(1, a);
-                self.extend(2, a, ends & above(a), free);
+                self.extend::<BOUNDED>(2, a, ends & above(a), free);
                 rest &= rest - 1;
             }
         }
@@ -162,9 +214,9 @@ impl Lister {
     /// All paths from s to t.
     fn paths(&mut self, s: usize, t: usize) {
         let (goal, free) = (single(t), !(single(s) | single(t)));
-        if self.reaching(single(s), goal, free) != 0 {
+        if self.reaching::<false>(single(s), goal, free, 0) != 0 {
             self.open(0, s);
-            self.extend(1, s, goal, free);
+            self.extend::<false>(1, s, goal, free);
         }
     }
 }
@@ -176,12 +228,14 @@ pub fn list(record: &Record, task: Task) -> Listing {
         bonded: [0; 128],
         list: [0; 129],
         listing: Listing::default(),
+        longest: task.longest(),
     };
     for (row, set) in record.rows.chunks_exact(16).zip(&mut lister.bonded) {
         *set = Set::from_le_bytes(row.try_into().expect("16 bytes"));
     }
     match task {
-        Task::Rings => lister.rings(record.atoms as usize),
+        Task::Rings => lister.rings::<false>(record.atoms as usize),
+        Task::RingsUpTo { .. } => lister.rings::<true>(record.atoms as usize),
         Task::Paths { s, t } => lister.paths(s.into(), t.into()),
     }
     lister.listing
@@ -201,6 +255,69 @@ mod tests {
         assert_eq!(best.listed, plain.listed);
     }
 
+    /// With a bound: the short ones of all rings, for each size up to one that
+    /// all rings have, and for the largest; of many rings for one size in some.
+    fn agree_up_to(record: &Record, all: &lister::Listing) {
+        let most = all.members().iter().map(Vec::len).max().unwrap_or(0) as u8;
+        let step = 1 + all.listed as usize / 200;
+        for k in (3..=(most + 1).clamp(3, 128)).step_by(step).chain([128]) {
+            let (best, plain) = (list(record, Task::RingsUpTo { k }), all.up_to(k));
+            assert!(best.sheet == plain.sheet, "k = {k} of {record:?}");
+            let counts = (best.extensions, best.listed);
+            assert_eq!(counts, (plain.extensions, plain.listed), "k = {k}");
+        }
+    }
+
+    /// The same as the short ones of all rings that the lister has.
+    #[test]
+    fn agrees_under_a_bound() {
+        for name in examples::NAMES {
+            let record = examples::record(name);
+            if record.atoms != 60 {
+                agree_up_to(&record, &lister::list(&record, Task::Rings));
+            }
+        }
+        for case in 0..sampled(6_000) {
+            let mut rng = Rng::of_case(0x42_4553_5432, case);
+            let record = any_molecule(&mut rng, case).record();
+            agree_up_to(&record, &lister::list(&record, Task::Rings));
+        }
+    }
+
+    /// Buckminsterfullerene with a few bounds: 12 rings of 5 atoms and 20 of 6.
+    #[test]
+    fn bounded_cage() {
+        let record = examples::record("buckminsterfullerene");
+        let rings = |k| list(&record, Task::RingsUpTo { k }).listed;
+        assert_eq!([3, 4, 5, 6, 8].map(rings), [0, 0, 12, 32, 32]);
+        if sample() == 1 {
+            let all = lister::list(&record, Task::Rings);
+            for k in [6, 9, 12, 18, 30] {
+                let (best, plain) = (list(&record, Task::RingsUpTo { k }), all.up_to(k));
+                assert!(best.sheet == plain.sheet && best.extensions == plain.extensions);
+            }
+            let whole = list(&record, Task::RingsUpTo { k: 128 });
+            assert!(whole.sheet == all.sheet && whole.extensions == all.extensions);
+        }
+    }
+
+    /// A molecule of up to 128 atoms; most have few.
+    fn any_molecule(rng: &mut Rng, case: u64) -> generate::Molecule {
+        match case % 8 {
+            0 => {
+                let n = rng.between(20, 128);
+                let m = n + rng.below(12);
+                generate::random_molecule(rng, n, m)
+            }
+            1 => {
+                let n = rng.between(8, 14);
+                let m = rng.between(0, n * (n - 1) / 2);
+                generate::random_molecule(rng, n, m)
+            }
+            _ => generate::any_searched(rng),
+        }
+    }
+
     /// The same as the lister, on rings and on paths.
     #[test]
     fn agrees_with_the_lister() {
@@ -214,20 +331,7 @@ mod tests {
         }
         for case in 0..sampled(10_000) {
             let mut rng = Rng::of_case(0x42_4553_5431, case);
-            let molecule = match case % 8 {
-                0 => {
-                    let n = rng.between(20, 128);
-                    let m = n + rng.below(12);
-                    generate::random_molecule(&mut rng, n, m)
-                }
-                1 => {
-                    let n = rng.between(8, 14);
-                    let m = rng.between(0, n * (n - 1) / 2);
-                    generate::random_molecule(&mut rng, n, m)
-                }
-                _ => generate::any_searched(&mut rng),
-            };
-            let record = molecule.record();
+            let record = any_molecule(&mut rng, case).record();
             agree(&record, Task::Rings);
             if record.atoms >= 2 {
                 let (s, t) = generate::any_ends(&mut rng, record.atoms);

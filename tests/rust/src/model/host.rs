@@ -44,6 +44,21 @@ pub fn resume(
     })
 }
 
+/// The start of a search of any kind, on a sheet that reads as `read` says, with
+/// `mark_room` bytes for its mark: the fresh mark, or a refusal.
+pub fn start(
+    read: Result<&dyn Lists, u32>,
+    [kind, s, t]: [u64; 3],
+    mark_room: usize,
+) -> Result<Vec<u8>, u32> {
+    let record = read?.record();
+    let task = Task::start(record.atoms, kind, s, t)?;
+    if mark_room < LONGEST_MARK {
+        return Err(13);
+    }
+    Ok(mark::write(record, &Search::fresh(task)))
+}
+
 /// The bytes of the mark at the start of a buffer, or 0.
 pub fn mark_length(bytes: &[u8]) -> usize {
     if bytes.len() < SHORTEST_MARK {
@@ -118,6 +133,37 @@ mod tests {
         assert_eq!(refusal_line(17), b"refused  17\n");
         let line = b"                   2                   3                  16\n";
         assert_eq!(count_line(2, 3, 16), line);
+    }
+
+    /// The mark of each kind, and the order of the refusals.
+    #[test]
+    fn starts_by_hand() {
+        let record = generate::document().record();
+        let lists = Listed::new(&record);
+        let go = |numbers, room| start(Ok(&lists), numbers, room);
+        for (numbers, line_1) in [
+            ([0, 0, 0], "   0   0   0   4   5   0   1"),
+            ([1, 2, 4], "   1   2   4   4   5   0   1"),
+            ([2, 12, 0], "   2  12   0   4   5   0   1"),
+            ([2, 128, 0], "   2 128   0   4   5   0   1"),
+        ] {
+            let line_2 = "                   0                   0                   0";
+            let expected = format!("{line_1}\n{line_2}\n\n").into_bytes();
+            assert_eq!(go(numbers, 599), Ok(expected));
+            assert_eq!(go(numbers, 598), Err(13));
+            assert_eq!(start(Err(8), numbers, 599), Err(8));
+        }
+        for (numbers, rule) in [
+            ([3, 0, 0], 16),
+            ([0, 3, 0], 16),
+            ([2, 2, 1], 16),
+            ([1, 0, 0], 10),
+            ([1, 4, 4], 11),
+            ([2, 2, 0], 21),
+        ] {
+            assert_eq!(go(numbers, 0), Err(rule));
+            assert_eq!(start(Err(1), numbers, 0), Err(1));
+        }
     }
 
     /// A field that zeros fill is no number in a mark.

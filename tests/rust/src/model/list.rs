@@ -3,6 +3,7 @@
 
 use std::cell::RefCell;
 use std::collections::HashMap;
+use std::ops::RangeInclusive;
 use std::rc::Rc;
 
 use super::judge::{is_path, is_ring};
@@ -12,21 +13,43 @@ use super::Record;
 #[derive(Clone, Copy, Debug, PartialEq, Eq, Hash)]
 pub enum Task {
     Rings,
-    Paths { s: u8, t: u8 },
+    Paths {
+        s: u8,
+        t: u8,
+    },
+    /// The rings of at most `k` atoms.
+    RingsUpTo {
+        k: u8,
+    },
 }
 
+/// The sizes that bound a ring search.
+pub const SIZES: RangeInclusive<u64> = 3..=128;
+
 impl Task {
-    /// The task of a kind and its ends on `n` atoms, if rule 16 allows them.
-    pub fn of(n: u64, kind: u64, s: u64, t: u64) -> Option<Task> {
+    /// The task that a search of a kind starts with on `n` atoms, or the number
+    /// of the first rule that its s or t breaks. 16: the kind is unknown, or has
+    /// no s or no t, and a number other than 0 stands there.
+    pub fn start(n: u64, kind: u64, s: u64, t: u64) -> Result<Task, u32> {
         let named = |v| (1..=n).contains(&v);
         match kind {
-            0 if s == 0 && t == 0 => Some(Task::Rings),
-            1 if named(s) && named(t) && s != t => Some(Task::Paths {
+            0 if s == 0 && t == 0 => Ok(Task::Rings),
+            1 if !named(s) || !named(t) => Err(10),
+            1 if s == t => Err(11),
+            1 => Ok(Task::Paths {
                 s: s as u8,
                 t: t as u8,
             }),
-            _ => None,
+            2 if t == 0 && !SIZES.contains(&s) => Err(21),
+            2 if t == 0 => Ok(Task::RingsUpTo { k: s as u8 }),
+            _ => Err(16),
         }
+    }
+
+    /// The task of a kind, s and t in a mark on `n` atoms, if rule 16 allows
+    /// them: exactly what a search may start with.
+    pub fn of(n: u64, kind: u64, s: u64, t: u64) -> Option<Task> {
+        Task::start(n, kind, s, t).ok()
     }
 
     /// Kind, s and t.
@@ -34,6 +57,16 @@ impl Task {
         match self {
             Task::Rings => [0, 0, 0],
             Task::Paths { s, t } => [1, s.into(), t.into()],
+            Task::RingsUpTo { k } => [2, k.into(), 0],
+        }
+    }
+
+    /// The most atoms that the task allows a member; every member of a record
+    /// has at most 128.
+    pub fn longest(self) -> usize {
+        match self {
+            Task::RingsUpTo { k } => k.into(),
+            _ => 128,
         }
     }
 
@@ -42,6 +75,7 @@ impl Task {
         match self {
             Task::Rings => is_ring(record, list),
             Task::Paths { s, t } => is_path(record, s.into(), t.into(), list),
+            Task::RingsUpTo { k } => list.len() <= k.into() && is_ring(record, list),
         }
     }
 }
@@ -82,6 +116,12 @@ pub fn members(record: &Record, task: Task) -> Vec<Vec<u8>> {
     grow(record, task, &mut Vec::new(), &mut members);
     members.sort();
     members
+}
+
+/// The members of at most `k` atoms.
+pub fn up_to(members: &[Vec<u8>], k: u8) -> Vec<Vec<u8>> {
+    let short = members.iter().filter(|member| member.len() <= k.into());
+    short.cloned().collect()
 }
 
 /// The nonempty open beginnings of a list: all proper beginnings of members.
@@ -132,12 +172,17 @@ impl<'a> Listed<'a> {
         }
     }
 
+    /// All members. The rings of a bounded search are the short ones of all.
     pub fn members(&self, task: Task) -> Rc<Vec<Vec<u8>>> {
-        let mut lists = self.lists.borrow_mut();
-        let list = lists
-            .entry(task)
-            .or_insert_with(|| Rc::new(members(self.record, task)));
-        Rc::clone(list)
+        if let Some(list) = self.lists.borrow().get(&task) {
+            return Rc::clone(list);
+        }
+        let list = Rc::new(match task {
+            Task::RingsUpTo { k } => up_to(&self.members(Task::Rings), k),
+            _ => members(self.record, task),
+        });
+        self.lists.borrow_mut().insert(task, Rc::clone(&list));
+        list
     }
 }
 
@@ -183,31 +228,41 @@ impl<'a> Reached<'a> {
         }
     }
 
-    /// Whether `to` is reached from `from` through atoms that `allowed` names.
-    fn reaches(&self, from: u8, to: u8, allowed: impl Fn(u8) -> bool) -> bool {
+    /// The steps of a shortest way from `from` to `to` through atoms that
+    /// `allowed` names, if there is one.
+    fn steps(&self, from: u8, to: u8, allowed: impl Fn(u8) -> bool) -> Option<usize> {
         let bonded = |a: u8, b: u8| self.record.bonded(a.into(), b.into());
         let n = self.record.atoms as u8;
-        let mut reached = vec![from];
+        let mut reached = vec![(from, 0)];
+        let mut seen = [false; 256];
+        seen[usize::from(from)] = true;
         let mut at = 0;
-        while at < reached.len() {
-            let v = reached[at];
+        while let Some(&(v, steps)) = reached.get(at) {
             at += 1;
             if bonded(v, to) {
-                return true;
+                return Some(steps + 1);
             }
             for w in 1..=n {
-                if bonded(v, w) && allowed(w) && !reached.contains(&w) {
-                    reached.push(w);
+                if bonded(v, w) && allowed(w) && !seen[usize::from(w)] {
+                    seen[usize::from(w)] = true;
+                    reached.push((w, steps + 1));
                 }
             }
         }
-        false
+        None
     }
 
     /// Some path from `x`, the last atom of the list, to `end` completes the
-    /// list: no atom on it is in the list, below `lowest` or bonded to an atom
-    /// of the list before x; of those, `end` may be bonded to `but` alone.
-    fn completes(&self, list: &[u8], end: u8, lowest: u8, but: Option<u8>) -> bool {
+    /// list to at most `longest` atoms: no atom on it is in the list, below
+    /// `lowest` or bonded to an atom of the list before x; of those, `end` may be
+    /// bonded to `but` alone.
+    fn completes(
+        &self,
+        (list, longest): (&[u8], usize),
+        end: u8,
+        lowest: u8,
+        but: Option<u8>,
+    ) -> bool {
         let (&x, before) = list.split_last().expect("an atom");
         let bonded = |a: u8, b: u8| self.record.bonded(a.into(), b.into());
         let allowed =
@@ -215,7 +270,8 @@ impl<'a> Reached<'a> {
         let end_allowed = end >= lowest
             && !list.contains(&end)
             && before.iter().all(|&u| Some(u) == but || !bonded(u, end));
-        end_allowed && self.reaches(x, end, allowed)
+        let within = |steps| list.len() + steps <= longest;
+        end_allowed && self.steps(x, end, allowed).map_or(false, within)
     }
 }
 
@@ -242,18 +298,20 @@ impl Lists for Reached<'_> {
             return false;
         }
         match task {
-            Task::Paths { s, t } => first == s && self.completes(beginning, t, 1, None),
-            Task::Rings if beginning.len() == 1 => {
+            Task::Paths { s, t } => {
+                first == s && self.completes((beginning, task.longest()), t, 1, None)
+            }
+            Task::Rings | Task::RingsUpTo { .. } if beginning.len() == 1 => {
                 atoms.any(|second| self.is_open(task, &[first, second]))
             }
             // The last atom of the ring is bonded to the first and above the
             // second.
-            Task::Rings => {
+            Task::Rings | Task::RingsUpTo { .. } => {
                 beginning.iter().all(|&v| v >= first)
                     && atoms.any(|end| {
                         end > beginning[1]
                             && self.record.bonded(first.into(), end.into())
-                            && self.completes(beginning, end, first, Some(first))
+                            && self.completes((beginning, task.longest()), end, first, Some(first))
                     })
             }
         }
@@ -264,12 +322,12 @@ impl Lists for Reached<'_> {
 mod tests {
     use super::*;
     use crate::generate;
-    use crate::model::lister;
+    use crate::model::{best, lister};
     use crate::rng::Rng;
     use crate::sampled;
 
     /// Every list of different atoms, members and openness in both ways; the
-    /// members also by the fast lister.
+    /// members also by the two fast listers.
     fn agree(record: &Record, task: Task) {
         fn words(record: &Record, list: &mut Vec<u8>, visit: &mut impl FnMut(&[u8])) {
             visit(list);
@@ -283,6 +341,7 @@ mod tests {
         }
         let (listed, reached) = (Listed::new(record), Reached::new(record));
         let members = listed.members(task);
+        assert!(super::members(record, task) == *members, "{task:?}");
         let open = open_beginnings(&members);
         words(record, &mut Vec::new(), &mut |list| {
             let member = members.iter().any(|other| other == list);
@@ -292,10 +351,11 @@ mod tests {
             assert_eq!(listed.is_open(task, list), is_open, "{list:?}");
             assert_eq!(reached.is_open(task, list), is_open, "{list:?}");
         });
-        let fast = lister::list(record, task);
-        assert!(fast.members() == *members, "{task:?} of {record:?}");
-        assert_eq!(fast.extensions, open.len() as u64);
-        assert_eq!(fast.listed, members.len() as u64);
+        for fast in [lister::list(record, task), best::list(record, task)] {
+            assert!(fast.members() == *members, "{task:?} of {record:?}");
+            assert_eq!(fast.extensions, open.len() as u64);
+            assert_eq!(fast.listed, members.len() as u64);
+        }
     }
 
     #[test]
@@ -305,10 +365,11 @@ mod tests {
             let n = case % 7;
             let m = rng.between(0, n * n.saturating_sub(1) / 2);
             let record = generate::random_molecule(&mut rng, n, m).record();
-            agree(&record, Task::Rings);
-            if n >= 2 {
-                let (s, t) = generate::any_ends(&mut rng, n);
-                agree(&record, Task::of(n, 1, s, t).expect("two atoms"));
+            for task in generate::any_tasks(&mut rng, n) {
+                agree(&record, task);
+            }
+            for k in 3..=n as u8 + 2 {
+                agree(&record, Task::RingsUpTo { k });
             }
         }
     }
@@ -321,18 +382,14 @@ mod tests {
             let mut rng = Rng::of_case(0x4C49_5354_5332, case);
             let record = generate::any_searched(&mut rng).record();
             let n = record.atoms;
-            let mut tasks = vec![Task::Rings];
-            if n >= 2 {
-                let (s, t) = generate::any_ends(&mut rng, n);
-                tasks.push(Task::of(n, 1, s, t).expect("two atoms"));
-            }
-            for task in tasks {
+            for task in generate::any_tasks(&mut rng, n) {
                 let (listed, reached) = (Listed::new(&record), Reached::new(&record));
                 let members = listed.members(task);
-                let fast = lister::list(&record, task);
-                assert!(fast.members() == *members, "{task:?} of {record:?}");
                 let mut open = open_beginnings(&members);
-                assert_eq!(fast.extensions, open.len() as u64);
+                for fast in [lister::list(&record, task), best::list(&record, task)] {
+                    assert!(fast.members() == *members, "{task:?} of {record:?}");
+                    assert_eq!(fast.extensions, open.len() as u64);
+                }
                 open.push(Vec::new());
                 for mut list in open.into_iter().take(300) {
                     assert!(reached.is_open(task, &list));

@@ -1,7 +1,8 @@
 //! A fast lister: the method of document 003 over sets of atoms, with one
-//! reachability search for each open beginning.
+//! reachability search for each open beginning. Of a bounded search it lists all
+//! rings and keeps the short ones.
 
-use super::list::Task;
+use super::list::{open_beginnings, record_of, up_to, Task};
 use super::Record;
 
 /// A set of atoms; atom v is bit v - 1.
@@ -25,7 +26,7 @@ fn atoms(set: Set) -> impl Iterator<Item = u8> {
 }
 
 /// What was listed.
-#[derive(Default)]
+#[derive(Clone, Default)]
 pub struct Listing {
     /// The records joined.
     pub sheet: Vec<u8>,
@@ -43,6 +44,16 @@ impl Listing {
             rest = after;
         }
         members
+    }
+
+    /// The listing of the members of at most `k` atoms, from their list alone.
+    pub fn up_to(&self, k: u8) -> Listing {
+        let short = up_to(&self.members(), k);
+        Listing {
+            sheet: short.iter().flat_map(|member| record_of(member)).collect(),
+            extensions: open_beginnings(&short).len() as u64,
+            listed: short.len() as u64,
+        }
     }
 }
 
@@ -119,6 +130,9 @@ impl Lister {
 /// All members in dictionary order, and the number of open beginnings but the
 /// empty one, of a lawful record.
 pub fn list(record: &Record, task: Task) -> Listing {
+    if let Task::RingsUpTo { k } = task {
+        return list(record, Task::Rings).up_to(k);
+    }
     let mut bonded = vec![0];
     for row in record.rows.chunks_exact(16) {
         bonded.push(Set::from_le_bytes(row.try_into().expect("16 bytes")));
@@ -130,7 +144,7 @@ pub fn list(record: &Record, task: Task) -> Listing {
     };
     let all = (1..=record.atoms as u8).fold(0, |all, v| all | single(v));
     match task {
-        Task::Rings => lister.rings(all),
+        Task::Rings | Task::RingsUpTo { .. } => lister.rings(all),
         Task::Paths { s, t } => {
             let through = all & !single(s) & !single(t);
             lister.begin(&[s], through, single(t));
@@ -157,10 +171,15 @@ mod tests {
         let paths = |s, t| counts(&generate::document(), Task::Paths { s, t });
         assert_eq!(paths(2, 4), (2, 3));
         assert_eq!(paths(1, 3), (1, 1));
+        for (k, rings) in [(3, 0), (4, 6), (5, 6), (6, 10), (8, 10), (128, 10)] {
+            assert_eq!(counts(&generate::cube(), Task::RingsUpTo { k }).0, rings);
+        }
         let cage = generate::buckminsterfullerene();
         assert_eq!((cage.atoms, cage.bonds.len()), (60, 90));
         if sample() == 1 {
-            assert_eq!(counts(&cage, Task::Rings).0, 255_242);
+            let all = list(&cage.record(), Task::Rings);
+            assert_eq!(all.listed, 255_242);
+            assert_eq!([4, 5, 6].map(|k| all.up_to(k).listed), [0, 12, 32]);
         }
         for n in [10, 15, 20, 25] {
             let rings = counts(&generate::complete(n), Task::Rings).0;

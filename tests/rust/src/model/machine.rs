@@ -102,28 +102,12 @@ impl Search {
     }
 }
 
-/// The fresh ring search, or a refusal.
-pub fn start_rings(lawful: bool) -> Result<Search, u32> {
+/// The fresh search of a kind, or a refusal.
+pub fn start(record: &Record, lawful: bool, [kind, s, t]: [u64; 3]) -> Result<Search, u32> {
     if !lawful {
         return Err(9);
     }
-    Ok(Search::fresh(Task::Rings))
-}
-
-/// The fresh path search, or a refusal.
-pub fn start_paths(record: &Record, lawful: bool, s: u64, t: u64) -> Result<Search, u32> {
-    let n = record.atoms;
-    if !lawful {
-        return Err(9);
-    }
-    if s == 0 || s > n || t == 0 || t > n {
-        return Err(10);
-    }
-    if s == t {
-        return Err(11);
-    }
-    let task = Task::of(n, 1, s, t).expect("rules 10 and 11 hold");
-    Ok(Search::fresh(task))
+    Task::start(record.atoms, kind, s, t).map(Search::fresh)
 }
 
 #[derive(Clone, Copy, Debug, PartialEq, Eq)]
@@ -242,6 +226,54 @@ mod tests {
         }
     }
 
+    /// The cube with k = 4: of its rings the squares, and no beginning that only
+    /// a hexagon has.
+    #[test]
+    fn bounded_runs() {
+        let record = generate::cube().record();
+        let (listed, reached) = (Listed::new(&record), Reached::new(&record));
+        for lists in [&listed as &dyn Lists, &reached] {
+            for (k, rings) in [(3, 0), (4, 6), (5, 6), (6, 10), (128, 10)] {
+                let fresh = start(&record, true, [2, k, 0]).expect("a size");
+                let done = run(lists, &fresh, u64::MAX, 1_000).expect("accepted");
+                assert_eq!((done.stop, done.search.listed), (Stop::Done, rings));
+                assert_eq!(done.made, 8 * (done.search.extensions + 1));
+            }
+            // The hexagon 1 2 4 8 7 5 begins with 1 2 4 8, no square does.
+            let at = |k| Search::at(Task::RingsUpTo { k }, &[1, 2, 4, 8], 1);
+            assert!([6, 7, 128].iter().all(|&k| at(k).is_restorable(lists)));
+            assert!([3, 4, 5].iter().all(|&k| !at(k).is_restorable(lists)));
+        }
+    }
+
+    /// 9, then the rule of the kind.
+    #[test]
+    fn starts_by_hand() {
+        let record = generate::document().record();
+        let answer = |lawful, numbers| start(&record, lawful, numbers).err();
+        for (numbers, rule) in [
+            ([0, 0, 0], None),
+            ([0, 1, 0], Some(16)),
+            ([0, 0, 1], Some(16)),
+            ([1, 0, 4], Some(10)),
+            ([1, 5, 5], Some(10)),
+            ([1, 4, 4], Some(11)),
+            ([1, 2, 4], None),
+            ([2, 3, 0], None),
+            ([2, 128, 0], None),
+            ([2, 2, 0], Some(21)),
+            ([2, 129, 0], Some(21)),
+            ([2, (1 << 32) + 3, 0], Some(21)),
+            ([2, 2, 1], Some(16)),
+            ([2, 3, 1], Some(16)),
+            ([3, 0, 0], Some(16)),
+            ([u64::MAX, 3, 0], Some(16)),
+        ] {
+            assert_eq!(answer(true, numbers), rule, "{numbers:?}");
+            assert_eq!(answer(false, numbers), Some(9));
+        }
+    }
+
     #[test]
     fn rule_12_by_hand() {
         let record = generate::document().record();
@@ -257,6 +289,14 @@ mod tests {
         assert!(!accepted(&|search| search.trials = LIMIT + 1));
         assert!(!accepted(&|search| search.kind = 1));
         assert!(!accepted(&|search| search.kind = 10_000));
+        assert!(!accepted(&|search| search.kind = 2));
+        assert!(accepted(&|search| (search.kind, search.s) = (2, 3)));
+        assert!(!accepted(
+            &|search| (search.kind, search.s, search.t) = (2, 3, 1)
+        ));
+        for s in [2, 129, 9_999, (1 << 32) + 3] {
+            assert!(!accepted(&|search| (search.kind, search.s) = (2, s)));
+        }
         assert!(!accepted(&|search| search.s = 1));
         assert!(!accepted(&|search| search.length = 1));
         assert!(!accepted(&|search| search.length = 128));

@@ -118,6 +118,12 @@ mod tests {
         assert_eq!(answer("   4   5", "   4   4"), Err(15));
         assert_eq!(answer("   4   5", "   5   5"), Err(15));
         assert_eq!(answer("   0   0   0   4", "   2   0   0   4"), Err(16));
+        assert_eq!(answer("   0   0   0   4", "   2   2   0   4"), Err(16));
+        assert_eq!(answer("   0   0   0   4", "   2   3   0   4"), Ok(()));
+        assert_eq!(answer("   0   0   0   4", "   2   3   1   4"), Err(16));
+        assert_eq!(answer("   0   0   0   4", "   2 128   0   4"), Ok(()));
+        assert_eq!(answer("   0   0   0   4", "   2 129   0   4"), Err(16));
+        assert_eq!(answer("   0   0   0   4", "   3   3   0   4"), Err(16));
         assert_eq!(answer("   0   0   0   4", "   0   0   1   4"), Err(16));
         assert_eq!(answer("   0   0   0   4", "   1   4   4   4"), Err(16));
         assert_eq!(answer("   0   0   0   4", "   1   1   2   4"), Err(17));

@@ -1,5 +1,5 @@
-//! The model: the rules of the scope document in plain Rust. It shares
-//! nothing with the library.
+//! The model: the rules of the scope document and of the change requests that
+//! have landed, in plain Rust. It shares nothing with the library.
 
 pub mod best;
 pub mod field;
