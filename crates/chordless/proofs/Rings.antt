@@ -1,6 +1,6 @@
 -- An atom v opens a beginning p of a ring of at most k atoms exactly as `RingOpens` says: openness is reachability in
--- as many steps as k leaves (document 01, request F-4). With k at least n these are all rings. A ring that goes on p
--- and v is cut at v; a chordless list from v to a closing atom is joined to p.
+-- as many steps as k leaves (document 01; request F-4 of document 02). With k at least n these are all rings. A ring
+-- that goes on p and v is cut at v; a chordless list from v to a closing atom is joined to p.
 use Prim.Native.Nat.{ℕ, suc, _-_, _≤_, _<_}
 use mathlib.Core.Path.{_≡_, sym}
 use mathlib.Core.Bool.{true, false}

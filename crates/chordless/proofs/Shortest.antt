@@ -1,5 +1,6 @@
--- b is reached from v through allowed atoms exactly when a chordless list leads from v to b through them (document 003,
--- lemma 2). By induction on the walk: v goes before the last atom of the list from the next atom that it is bonded to.
+-- b is reached from v in at most d steps through allowed atoms exactly when a chordless list leads from v to b with
+-- fewer than d of them between (document 003, lemma 2). By induction on the walk: v goes before the last atom of the
+-- list from the next atom that it is bonded to.
 use Prim.Native.Nat.{ℕ, zero, suc, _≤_, _<_}
 use mathlib.Core.Path.{_≡_, sym}
 use mathlib.Core.Bool.{Bool, true, false}

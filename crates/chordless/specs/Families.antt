@@ -1,4 +1,4 @@
--- What a search lists: the rings, the paths from s to t, and of either the members of a largest size.
+-- What a search lists: the rings, the paths from s to t, and of either those up to a size.
 use Prim.Native.Nat.{ℕ}
 use mathlib.Core.Bool.{_&&_}
 use lib.ListN.{length}

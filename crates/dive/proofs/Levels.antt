@@ -20,7 +20,7 @@ use Rattle.enumeration.specs.Words.{Family}
 use Rattle.chordless.proofs.Steers.{steers-same}
 use Rattle.openness.specs.declared.Aim.{Aim}
 use Rattle.openness.specs.declared.Plan.{Plan}
-use Rattle.openness.specs.Plan.{HandedOn, Steered, Everywhere}
+use Rattle.openness.specs.Plan.{HandedOn, Steered, PlansBy}
 use Rattle.dive.specs.Levels.{LevelRoom, aimIn, restIn, keptAim, keptRest, LevelPlanned, Led, LevelAdded}
 
 -- ---- sets with the same two words hold the same atoms
@@ -165,9 +165,7 @@ module _ (levels : List ℕ) (i : ℕ) (aim : Aim) where
 -- what is found for a beginning with the last atom x: the sets handed on, the plan, the atoms to be tried
 pub record Found (adj : Adjacency) (x steps : ℕ) (aim next : Aim) (plan : Plan) (rest : List ℕ) : Type 0 where
   pub handing : HandedOn adj x aim next
-  pub telling :
-      (F : Family) (longest : ℕ) (p : List ℕ) → Steered F adj longest p x aim → steps ≡ longest - suc (length p) →
-      Everywhere F p plan
+  pub telling : PlansBy adj x aim steps plan
   pub either-set : (v : ℕ) → has rest v ≡ (has (plan .members) v || has (plan .opens) v)
 
 module _ {adj : Adjacency} {x steps : ℕ} {next : Aim} {plan : Plan} {rest : List ℕ} where

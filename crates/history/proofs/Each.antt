@@ -3,20 +3,19 @@
 -- keeps rule 21.
 use Prim.Native.Nat.{ℕ}
 use mathlib.Core.Path.{_≡_, refl, sym, ap, _∙_}
-use mathlib.Core.Bool.{Bool, true, _&&_, not}
+use mathlib.Core.Bool.{true}
 use mathlib.Core.List.{List}
-use mathlib.Core.Logic.{inr}
-use lib.Dec.{eqb}
-use borrow.Author.Tests.{not-true}
-use Rattle.graph.proofs.Below.{and-parts}
+use mathlib.Core.Logic.{inl, inr}
 use Rattle.enumeration.specs.Words.{members}
 use Rattle.chordless.specs.Families.{rings, paths, upTo}
 use Rattle.molecule.specs.declared.Molecule.{Molecule}
-use Rattle.molecule.specs.Record.{wellFormed, bonded, isAtom}
+use Rattle.molecule.specs.Record.{wellFormed, bonded}
 use Rattle.molecule.proofs.Bonds.{rule9}
 use Rattle.search.specs.Place.{familyIn, familyOf, endsKept, boundKept, kindKept}
-use Rattle.search.specs.Entries.{acceptedSearch, freshPaths, freshRingsUpTo, startRings, startPaths, startRingsUpTo}
-use Rattle.search.proofs.Readings.{all-sizes, kind-of}
+use Rattle.search.specs.Entries.{acceptedSearch, startRings, startPaths, startRingsUpTo}
+use Rattle.search.proofs.Readings.{all-sizes, kind-of, ends-facts}
+use Rattle.search.proofs.Starts.{is-rings, is-paths, is-size}
+use Rattle.search.proofs.Accepts.{kept-starts}
 use Rattle.history.specs.Calls.{Call, start, standing, History}
 use Rattle.history.specs.Demand.{Demand}
 use Rattle.history.proofs.Demand3.{demand3}
@@ -45,35 +44,33 @@ all-sizes-listed R good =
     let adj = bonded (R .atoms) (R .rows) in
     ap members (all-sizes (R .atoms) adj 2 128 0 refl (rule9 R good .atoms-high) ∙ sym (unfold familyIn in refl))
 
--- The start of a history is what the start entries return
-pub rings-start : (R : Molecule) → wellFormed R ≡ true → startRings R ≡ acceptedSearch (start 0 0 0 .search)
-unfolding startRings start
-rings-start R good = rw good
-
-pub paths-start :
-    (R : Molecule) (s t : ℕ) → wellFormed R ≡ true → endsKept (R .atoms) s t ≡ true →
-    startPaths R s t ≡ acceptedSearch (start 1 s t .search)
-unfolding startPaths freshPaths start endsKept
-paths-start R s t good ends =
-    let a : Bool = isAtom (R .atoms) s && isAtom (R .atoms) t in
-    let (atoms, not-same) = and-parts a (not (eqb s t)) ends in
-    rw (good, atoms, not-true (eqb s t) not-same)
-
-pub bounded-start :
-    (R : Molecule) (k : ℕ) → wellFormed R ≡ true → boundKept k ≡ true →
-    startRingsUpTo R k ≡ acceptedSearch (start 2 k 0 .search)
-unfolding startRingsUpTo freshRingsUpTo start
-bounded-start R k good bound = rw (good, bound)
-
--- ---- demand 3
+-- ---- rule 16 allows them
 
 pub rings-kept : (n : ℕ) → kindKept n 0 0 0 ≡ true
-unfolding kindKept
-rings-kept n = refl
+rings-kept n = kind-of n 0 0 0 (inl (refl, refl, refl))
 
 paths-kept : (n s t : ℕ) → endsKept n s t ≡ true → kindKept n 1 s t ≡ true
-unfolding kindKept
-paths-kept n s t ends = rw ends
+paths-kept n s t ends = kind-of n 1 s t (inr (inl (refl, ends-facts n s t ends)))
+
+bounded-kept : (n k : ℕ) → boundKept k ≡ true → kindKept n 2 k 0 ≡ true
+bounded-kept n k bound = kind-of n 2 k 0 (inr (inr (refl, bound, refl)))
+
+-- The start of a history is what the start entries return: a start that rule 16 allows is accepted
+module _ (R : Molecule) (good : wellFormed R ≡ true) where
+  pub rings-start : startRings R ≡ acceptedSearch (start 0 0 0 .search)
+  unfolding start
+  rings-start = sym (is-rings R) ∙ kept-starts R 0 0 0 good (rings-kept (R .atoms))
+
+  pub paths-start :
+      (s t : ℕ) → endsKept (R .atoms) s t ≡ true → startPaths R s t ≡ acceptedSearch (start 1 s t .search)
+  unfolding start
+  paths-start s t ends = sym (is-paths R s t) ∙ kept-starts R 1 s t good (paths-kept (R .atoms) s t ends)
+
+  pub bounded-start : (k : ℕ) → boundKept k ≡ true → startRingsUpTo R k ≡ acceptedSearch (start 2 k 0 .search)
+  unfolding start
+  bounded-start k bound = sym (is-size R k) ∙ kept-starts R 2 k 0 good (bounded-kept (R .atoms) k bound)
+
+-- ---- demand 3
 
 pub rings-demand3 :
     (R : Molecule) → wellFormed R ≡ true →
@@ -91,4 +88,4 @@ pub bounded-demand3 :
     (R : Molecule) (k : ℕ) → wellFormed R ≡ true → boundKept k ≡ true →
     (calls : List Call) → History R (start 2 k 0) calls →
     Demand R 2 k 0 calls (standing (start 2 k 0) calls)
-bounded-demand3 R k good bound = demand3 R 2 k 0 good (kind-of (R .atoms) 2 k 0 (inr (inr (refl, bound, refl))))
+bounded-demand3 R k good bound = demand3 R 2 k 0 good (bounded-kept (R .atoms) k bound)

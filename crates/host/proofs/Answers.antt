@@ -1,8 +1,8 @@
--- What the entry returns and leaves, by each way through it.
+-- What the entries return and leave, and what a host reads off a mark.
 -- From the definitions, at the tests that were made on the way.
 use Prim.Native.Nat.{ℕ, _+_, _*_, _^_, _≤_, _<_}
 use native.Mathlib.Omega.{arith}
-use mathlib.Core.Path.{_≡_, ap, sym, _∙_}
+use mathlib.Core.Path.{_≡_, refl, ap, sym, _∙_}
 use mathlib.Core.Bool.{Bool, true, false, _&&_, cond}
 use mathlib.Core.List.{List}
 use lib.ListN.{length, take, drop, length-drop}
@@ -11,21 +11,18 @@ use lib.Dec.{leb}
 use borrow.Author.Tests.{eq-eqb, ne-eqb, le-leb, lt-leb}
 use Rattle.fields.specs.declared.Number.the-variants.{Value}
 use Rattle.fields.proofs.Laws.{read-fits}
-use Rattle.refusal.specs.declared.Refusal.{Refusal}
-use Rattle.refusal.specs.declared.Refusal.the-variants as refusal
-use Rattle.refusal.specs.declared.Answer.the-variants.{Accepted, Refused}
 use Rattle.molecule.specs.declared.Molecule.{Molecule}
 use Rattle.molecule.specs.Record.{wellFormed}
-use Rattle.sheet.specs.declared.SheetAnswer.{SheetAnswer}
-use Rattle.sheet.specs.Read.{readSheet}
 use Rattle.search.specs.declared.Search.{Search}
-use Rattle.search.specs.declared.Made.{Made}
 use Rattle.search.specs.declared.Ran.{Ran}
 use Rattle.search.specs.Place.{freshSearch}
 use Rattle.search.specs.Entries.{acceptedSearch, runSearch, runOutput, endedNumber}
-use Rattle.search.specs.Mark.{fieldAt, fieldKept, valueAt, markLength, saveOutput, restoreMark}
-use Rattle.start.proofs.Starts.{rings-started}
-use Rattle.host.specs.Resume.{Resumed, refusedCall, searchFor, runAndSave, resume, markSize, listedIn}
+use Rattle.search.specs.Mark.{fieldAt, fieldKept, valueAt, markLength, markText, saveOutput, restoreMark}
+use Rattle.search.proofs.Starts.{rings-started}
+use Rattle.mark_writer.specs.Parts.{spliced}
+use Rattle.mark_writer.proofs.Splices.{splice-start}
+use Rattle.host.specs.Resume.{Resumed, searchFor, runAndSave, markSize, listedIn}
+use Rattle.host.specs.Start.{Started, wroteMark}
 
 module _ (mol : Molecule) (mark : List ℕ) where
   pub search-fresh : wellFormed mol ≡ true → length mark ≡ 0 → acceptedSearch (freshSearch 0 0 0) ≡ searchFor mol mark
@@ -56,49 +53,19 @@ unfolding runAndSave
 ran-and-saved mol q budget rings next ran number out saved (is-ran, is-out) is-saved is-number =
     (is-number ∙ rw is-ran, is-out, is-saved ∙ rw is-ran)
 
--- ---- the ways through the entry
+-- the same of the entry that starts a search
+abbrev pub LeavesMark : ℕ → List ℕ → Started → Type 0
+LeavesMark number next x = (number ≡ x .number) × (next ≡ x .nextMark)
 
--- What is known where the sheet was accepted
-pub record SheetTaken (sheet : List ℕ) (read : SheetAnswer) : Type 0 where
-  pub is-read : read ≡ readSheet sheet
-  pub accepted : read .answer ≡ Accepted
+pub leaves-mark :
+    {x y : Started} → x ≡ y → (number : ℕ) (next : List ℕ) → LeavesMark number next x → LeavesMark number next y
+leaves-mark e number next h = rw (← e) h
 
--- and where the search to run was made
-pub record MarkTaken (sheet mark : List ℕ) (read : SheetAnswer) (made : Made) : Type 0 where
-  pub of-sheet : SheetTaken sheet read
-  pub is-made : made ≡ searchFor (read .molecule) mark
-  pub accepted : made .answer ≡ Accepted
-
-module _ (sheet mark : List ℕ) (budget : ℕ) (rings next : List ℕ) where
-  abbrev Refuses : Refusal → Type 0
-  Refuses r = refusedCall r rings next ≡ resume sheet mark budget rings next
-
-  module _ {read : SheetAnswer} where
-    pub sheet-refused : {r : Refusal} → read ≡ readSheet sheet → read .answer ≡ Refused r → Refuses r
-    unfolding resume
-    sheet-refused is-read e = rw (← is-read, e)
-
-    module _ {made : Made} where
-      pub mark-refused :
-          {r : Refusal} → SheetTaken sheet read → made ≡ searchFor (read .molecule) mark → made .answer ≡ Refused r →
-          Refuses r
-      unfolding resume
-      mark-refused s is-made e = rw (← s .is-read, s .accepted, ← is-made, e)
-
-      module _ (m : MarkTaken sheet mark read made) where
-        pub room-refused : leb 599 (length next) ≡ false → Refuses refusal.MarkRoom
-        unfolding resume
-        room-refused h =
-            let s = m .of-sheet in
-            rw (← s .is-read, s .accepted, ← m .is-made, m .accepted, h)
-
-        pub resumed :
-            leb 599 (length next) ≡ true →
-            runAndSave (read .molecule) (made .search) budget rings next ≡ resume sheet mark budget rings next
-        unfolding resume
-        resumed h =
-            let s = m .of-sheet in
-            rw (← s .is-read, s .accepted, ← m .is-made, m .accepted, h)
+-- the mark over the first bytes of the output
+pub mark-put :
+    (mol : Molecule) (q : Search) (next last : List ℕ) → last ≡ spliced 0 (markText mol q) next →
+    LeavesMark 0 last (wroteMark mol q next)
+mark-put mol q next last put = (refl, put ∙ splice-start next (markText mol q))
 
 -- ---- what a host reads off a mark
 

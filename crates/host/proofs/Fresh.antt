@@ -1,18 +1,32 @@
--- The fresh mark, from which a host starts a search of any kind (include/ringlist.h): its bytes, and what it restores.
+-- The fresh mark, from which a host starts a search of any kind (include/ringlist.h): its bytes, what it restores, and
+-- that 599 bytes have room for it.
 -- The bytes by computing; a fresh search keeps rule 12 where its kind, s and t keep rule 16, so its mark restores it.
-use Prim.Native.Nat.{ℕ}
+use Prim.Native.Nat.{ℕ, _≤_}
 use native.Mathlib.Omega.{arith}
 use mathlib.Core.Path.{_≡_, refl, ap, _∙_}
 use mathlib.Core.Bool.{true}
 use mathlib.Core.List.{List, [], _∷_, _++_, append-nil}
+use lib.ListN.{length}
+use lib.Dec.{leb}
+use borrow.Author.Tests.{leb-true}
 use Rattle.enumeration.specs.Machine.{fresh}
 use Rattle.molecule.specs.declared.Molecule.{Molecule}
 use Rattle.molecule.specs.Record.{wellFormed}
+use Rattle.sheet.specs.declared.SheetAnswer.{SheetAnswer}
+use Rattle.search.specs.declared.Made.{Made}
 use Rattle.search.specs.Place.{beginning, searchAt, freshSearch, kindKept}
-use Rattle.search.specs.Entries.{acceptedSearch}
+use Rattle.search.specs.Entries.{acceptedSearch, startSearch}
 use Rattle.search.specs.Mark.{fieldsText, lineFeed, markText, restoreMark}
 use Rattle.search.proofs.MarkLaws.{fresh-restorable, saved-restores}
 use Rattle.search.proofs.Views.{search-length}
+use Rattle.search.proofs.Accepts.{started-fresh}
+use Rattle.mark_writer.specs.Parts.{MarkFits}
+use Rattle.host.proofs.Gate.{SearchTaken}
+
+-- the array of a fresh search has 128 places
+pub fresh-full : (kind s t : ℕ) → length (freshSearch kind s t .prefix) ≡ 128
+unfolding freshSearch fresh
+fresh-full kind s t = search-length kind s t fresh (omega arith)
 
 module _ (R : Molecule) (kind s t : ℕ) where
   -- the beginning is empty
@@ -37,5 +51,21 @@ module _ (R : Molecule) (kind s t : ℕ) where
       wellFormed R ≡ true → kindKept (R .atoms) kind s t ≡ true →
       restoreMark R (markText R (freshSearch kind s t)) ≡ acceptedSearch (freshSearch kind s t)
   fresh-restores good kept =
-      saved-restores R (freshSearch kind s t) good (fresh-restorable R kind s t good kept)
-      (unfold freshSearch fresh in (search-length kind s t fresh (omega arith)))
+      saved-restores R (freshSearch kind s t) good (fresh-restorable R kind s t good kept) (fresh-full kind s t)
+
+-- ---- its room
+
+fresh-fits : (kind s t : ℕ) (next : List ℕ) → 599 ≤ length next → MarkFits (freshSearch kind s t) next
+unfolding freshSearch searchAt fresh
+fresh-fits kind s t next room = record { short = omega arith; full = fresh-full kind s t; room = omega arith }
+
+-- the search of an accepted start is the fresh one
+pub start-fits :
+    {sheet : List ℕ} (kind s t : ℕ) {read : SheetAnswer} {made : Made} (next : List ℕ) →
+    SearchTaken sheet (λ mol. startSearch mol kind s t) read made → leb 599 (length next) ≡ true →
+    MarkFits (made .search) next
+start-fits kind s t {read} {made} next m room =
+    rw (ap (λ (x : Made). x .search) fresh-made) (fresh-fits kind s t next (leb-true 599 (length next) room))
+  where
+    fresh-made : made ≡ acceptedSearch (freshSearch kind s t)
+    fresh-made = m .is-made ∙ started-fresh (read .molecule) kind s t (rw (m .is-made) at (m .accepted))

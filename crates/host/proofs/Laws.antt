@@ -2,15 +2,14 @@
 -- outputs as they were, and that neither its run nor its save is refused.
 -- An accepted sheet keeps rule 9 and an accepted mark rule 12, a run keeps both, and a mark is at most 599 bytes.
 use Prim.Native.Nat.{ℕ, _+_, _≤_, _<_}
-use native.Mathlib.Decide.{ℕ-discrete, decLt}
+use native.Mathlib.Decide.{ℕ-discrete}
 use native.Mathlib.Omega.{arith}
 use mathlib.Core.Path.{_≡_, refl, ap, sym, _∙_}
-use mathlib.Core.Bool.{Bool, true, false, cond}
+use mathlib.Core.Bool.{true}
 use mathlib.Core.List.{List, _++_}
 use mathlib.Core.Logic.{_⊎_, inl, inr}
 use lib.ListN.{length, drop}
-use lib.Dec.{leb, eqb}
-use borrow.Author.Tests.{le-leb, lt-leb}
+use lib.Dec.{eqb}
 use Rattle.enumeration.specs.declared.Stop.{Stop}
 use Rattle.enumeration.specs.declared.Stop.the-variants.{Done, Limit, Spent, Full}
 use Rattle.enumeration.specs.Machine.{fresh}
@@ -19,15 +18,13 @@ use Rattle.enumeration.specs.RunFacts.{RunFacts}
 use Rattle.enumeration.specs.Run.{stopNumber, Outcome}
 use Rattle.enumeration.proofs.Theorems.{run-outcome, run-keeps-valid}
 use Rattle.refusal.specs.declared.Refusal.{Refusal}
-use Rattle.refusal.specs.declared.Refusal.the-variants as refusal
 use Rattle.refusal.specs.declared.Answer.{Answer}
 use Rattle.refusal.specs.declared.Answer.the-variants.{Accepted, Refused}
 use Rattle.refusal.specs.Number.{numberOf}
 use Rattle.molecule.specs.declared.Molecule.{Molecule}
 use Rattle.molecule.specs.Record.{wellFormed}
 use Rattle.sheet.specs.declared.SheetAnswer.{SheetAnswer}
-use Rattle.sheet.specs.Bonds.{atomsKept, noneToItself, noneTwice}
-use Rattle.sheet.specs.Read.{lengthKept, linesKept, atomsOf, bondsOf, bondOf, readBonds, readSheet}
+use Rattle.sheet.specs.Read.{readSheet}
 use Rattle.sheet.proofs.Accepted.{accepted-well-formed}
 use Rattle.search.specs.declared.Search.{Search}
 use Rattle.search.specs.declared.Made.{Made}
@@ -42,50 +39,22 @@ use Rattle.search.proofs.MarkLaws.{family-lawful, restorable-facts, restorable-
 use Rattle.search.proofs.MarkLaws.{run-restorable, mark-length, saved-restores, restored-restorable}
 use Rattle.history.proofs.Entered.{save-wrote}
 use Rattle.host.specs.Resume.{Resumed, refusedCall, searchFor, runAndSave, resume, markSize, listedIn}
-use Rattle.host.proofs.Answers.{search-fresh, search-restored, listed-short, SheetTaken, MarkTaken}
-use Rattle.host.proofs.Answers.{sheet-refused, mark-refused, room-refused, resumed}
+use Rattle.host.proofs.Gate.{by-test, Within, within-refused, GateNumber, SearchTaken, read-formed, went-on, ways}
+use Rattle.host.proofs.Answers.{search-fresh, search-restored, listed-short}
 use Rattle.host.proofs.Sizes.{listed-restored, mark-size, mark-listed}
 
 -- ---- the numbers of its refusals
 
--- a refusal with a number from a to b
-abbrev Within : ℕ → ℕ → Answer → Type 0
-Within a b Accepted = Unit {0}
-Within a b (Refused r) = (a ≤ numberOf r) × (numberOf r ≤ b)
-
--- what a test decides between, where both hold
-pub by-test : {A : Type 0} (P : A → Type 0) (t : Bool) (x y : A) → P y → P x → P (cond t x y)
-by-test P true x y failed passed = passed
-by-test P false x y failed passed = failed
-
-within-refused :
-    (a b : ℕ) (x : Answer) (r : Refusal) → x ≡ Refused r → Within a b x → (a ≤ numberOf r) × (numberOf r ≤ b)
-within-refused a b x r e h = rw e at h
-
--- a sheet is refused by rules 1 to 8
-abbrev SheetRule : SheetAnswer → Type 0
-SheetRule x = Within 1 8 (x .answer)
-
-pub sheet-numbers : (s : List ℕ) (r : Refusal) → readSheet s .answer ≡ Refused r → (1 ≤ numberOf r) × (numberOf r ≤ 8)
-unfolding readSheet readBonds
-sheet-numbers s r e =
-    within-refused 1 8 _ r e
-    (by-test SheetRule (lengthKept s) _ _ (omega arith, omega arith)
-    (by-test SheetRule (linesKept s) _ _ (omega arith, omega arith)
-    (by-test SheetRule (leb (atomsOf s) 128) _ _ (omega arith, omega arith)
-    (by-test SheetRule (leb (bondsOf s) 1024) _ _ (omega arith, omega arith)
-    (by-test SheetRule (eqb (length s) _) _ _ (omega arith, omega arith)
-    (by-test SheetRule (atomsKept (atomsOf s) (bondOf s) (bondsOf s)) _ _ (omega arith, omega arith)
-    (by-test SheetRule (noneToItself (bondOf s) (bondsOf s)) _ _ (omega arith, omega arith)
-    (by-test SheetRule (noneTwice (bondOf s) (bondsOf s)) _ _ (omega arith, omega arith) tt))))))))
-
 -- on a molecule that rule 9 allows, a mark is refused by rules 14 to 17
+abbrev pub MarkNumber : ℕ → Type 0
+MarkNumber k = (14 ≤ k) × (k ≤ 17)
+
 abbrev MarkRule : Made → Type 0
 MarkRule x = Within 14 17 (x .answer)
 
 pub mark-numbers :
     (mol : Molecule) (mark : List ℕ) (r : Refusal) → wellFormed mol ≡ true → searchFor mol mark .answer ≡ Refused r →
-    (14 ≤ numberOf r) × (numberOf r ≤ 17)
+    MarkNumber (numberOf r)
 unfolding searchFor startRings restoreMark
 mark-numbers mol mark r formed e =
     let kind = valueAt 4 mark 0 in
@@ -141,14 +110,11 @@ begun mol mark formed e = go (ℕ-discrete (length mark) 0)
     go (yes none) = begun-fresh mol mark formed none
     go (no some) = begun-restored mol mark some e
 
--- an accepted sheet keeps rule 9, and the search that is made on it keeps rule 12
-pub read-formed : {sheet : List ℕ} {read : SheetAnswer} → SheetTaken sheet read → wellFormed (read .molecule) ≡ true
-read-formed {sheet} s = rw (s .is-read) (accepted-well-formed sheet (rw (s .is-read) at (s .accepted)))
-
+-- the search that is made on an accepted sheet keeps rule 12
 pub made-kept :
-    {sheet mark : List ℕ} {read : SheetAnswer} {made : Made} → MarkTaken sheet mark read made →
-    restorable (read .molecule) (made .search) ≡ true
-made-kept {mark} {read} m =
+    {sheet : List ℕ} (mark : List ℕ) {read : SheetAnswer} {made : Made} →
+    SearchTaken sheet (λ mol. searchFor mol mark) read made → restorable (read .molecule) (made .search) ≡ true
+made-kept mark {read} m =
     rw (m .is-made) (begun (read .molecule) mark (read-formed (m .of-sheet)) (rw (m .is-made) at (m .accepted)) .kept)
 
 -- ---- its run and its save
@@ -240,10 +206,7 @@ stops Limit = (omega arith, omega arith)
 stops Spent = (omega arith, omega arith)
 stops Full = (omega arith, omega arith)
 
--- the numbers that it returns: of a refusal, or of a refusal or a stop
-abbrev pub OfRefusal : ℕ → Type 0
-OfRefusal k = ((1 ≤ k) × (k ≤ 8)) ⊎ ((13 ≤ k) × (k ≤ 17))
-
+-- the numbers that it returns, of a refusal or a stop
 abbrev pub Known : ℕ → Type 0
 Known k = ((1 ≤ k) × (k ≤ 8)) ⊎ (((13 ≤ k) × (k ≤ 17)) ⊎ ((101 ≤ k) × (k ≤ 104)))
 
@@ -269,7 +232,7 @@ module _ (sheet mark : List ℕ) (budget : ℕ) (rings next : List ℕ) where
   pub record Turned : Type 0 where
     pub rule : Refusal
     pub number-is : answer .number ≡ numberOf rule
-    pub ranged : OfRefusal (numberOf rule)
+    pub ranged : GateNumber MarkNumber (numberOf rule)
     pub rings-kept : answer .rings ≡ rings
     pub mark-kept : answer .nextMark ≡ next
 
@@ -286,7 +249,7 @@ module _ (sheet mark : List ℕ) (budget : ℕ) (rings next : List ℕ) where
     pub restores : searchFor mol (markText mol returned) ≡ acceptedSearch returned
     pub counted : listedIn (answer .nextMark) ≡ listedIn mark + length words
 
-  turned : (r : Refusal) → refusedCall r rings next ≡ answer → OfRefusal (numberOf r) → Turned
+  turned : (r : Refusal) → refusedCall r rings next ≡ answer → GateNumber MarkNumber (numberOf r) → Turned
   turned r e h =
       record {
         rule = r;
@@ -325,46 +288,20 @@ module _ (sheet mark : List ℕ) (budget : ℕ) (rings next : List ℕ) where
               ∙ ap (λ k. k + length words) (sym listed);
         }
 
-  module _ (read : readSheet sheet .answer ≡ Accepted) where
-    sheet-taken : SheetTaken sheet (readSheet sheet)
-    sheet-taken = record { is-read = refl; accepted = read }
+  -- Neither the run nor the save is refused
+  pub resume-accepted :
+      readSheet sheet .answer ≡ Accepted → searchFor mol mark .answer ≡ Accepted → 599 ≤ length next → Went
+  resume-accepted read made room =
+      let formed = accepted-well-formed sheet read in
+      let b = begun mol mark formed made in
+      went (record { formed = formed; kept = b .kept }) (went-on _ _ _ _ _ read made room) room (b .listed-is)
 
-    mark-taken :
-        searchFor mol mark .answer ≡ Accepted → MarkTaken sheet mark (readSheet sheet) (searchFor mol mark)
-    mark-taken made = record { of-sheet = sheet-taken; is-made = refl; accepted = made }
-
-    -- Neither the run nor the save is refused
-    pub resume-accepted : searchFor mol mark .answer ≡ Accepted → 599 ≤ length next → Went
-    resume-accepted made room =
-        let formed = accepted-well-formed sheet read in
-        let b = begun mol mark formed made in
-        went (record { formed = formed; kept = b .kept })
-        (resumed sheet mark budget rings next (mark-taken made) (le-leb 599 (length next) room)) room (b .listed-is)
-
-    room-way : searchFor mol mark .answer ≡ Accepted → Dec (length next < 599) → Turned ⊎ Went
-    room-way made (yes h) =
-        let refused = room-refused sheet mark budget rings next (mark-taken made) (lt-leb 599 (length next) h) in
-        inl (turned refusal.MarkRoom refused (inr (omega arith, omega arith)))
-    room-way made (no h) = inr (resume-accepted made (omega arith))
-
-    mark-way : (x : Answer) → searchFor mol mark .answer ≡ x → Turned ⊎ Went
-    mark-way Accepted made = room-way made (decLt (length next) 599)
-    mark-way (Refused r) e =
-        let refused = mark-refused sheet mark budget rings next sheet-taken refl e in
-        let h = mark-numbers mol mark r (accepted-well-formed sheet read) e in
-        inl (turned r refused (inr (omega arith, h .1)))
-
-  ways : Turned ⊎ Went
-  ways = sheet-way (readSheet sheet .answer) refl
-    where
-      sheet-way : (x : Answer) → readSheet sheet .answer ≡ x → Turned ⊎ Went
-      sheet-way Accepted read = mark-way read (searchFor mol mark .answer) refl
-      sheet-way (Refused r) e =
-          inl (turned r (sheet-refused sheet mark budget rings next refl e) (inl (sheet-numbers sheet r e)))
+  either : Turned ⊎ Went
+  either = ways _ _ _ _ _ MarkNumber (mark-numbers mol mark) turned resume-accepted
 
   -- A refusal, which has a number below 101, changes neither output
   pub resume-refused : answer .number < 101 → (answer .rings ≡ rings) × (answer .nextMark ≡ next)
-  resume-refused h = go ways
+  resume-refused h = go either
     where
       go : Turned ⊎ Went → (answer .rings ≡ rings) × (answer .nextMark ≡ next)
       go (inl t) = (t .rings-kept, t .mark-kept)
@@ -372,11 +309,12 @@ module _ (sheet mark : List ℕ) (budget : ℕ) (rings next : List ℕ) where
 
   -- It returns 1 to 8 and 13 to 17 for a refusal, and 101 to 104 for a stop
   pub resume-numbers : Known (answer .number)
-  resume-numbers = go ways
+  resume-numbers = go either
     where
-      ranged : (k : ℕ) (r : Refusal) → k ≡ numberOf r → OfRefusal (numberOf r) → Known k
+      ranged : (k : ℕ) (r : Refusal) → k ≡ numberOf r → GateNumber MarkNumber (numberOf r) → Known k
       ranged k r e (inl h) = inl (omega arith, omega arith)
-      ranged k r e (inr h) = inr (inl (omega arith, omega arith))
+      ranged k r e (inr (inl h)) = inr (inl (omega arith, omega arith))
+      ranged k r e (inr (inr h)) = inr (inl (omega arith, omega arith))
 
       go : Turned ⊎ Went → Known (answer .number)
       go (inl t) = ranged (answer .number) (t .rule) (t .number-is) (t .ranged)

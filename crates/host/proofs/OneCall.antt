@@ -37,6 +37,7 @@ use Rattle.history.proofs.Entered.{ranAt, movedBy}
 use Rattle.history.proofs.Reached as history
 use Rattle.history.proofs.Joined.{standing-joined, history-joined}
 use Rattle.history.proofs.Stands as stands
+use Rattle.host.specs.Gate.{gated}
 use Rattle.host.specs.Resume.{Resumed, searchFor, resume, markSize, listedIn}
 use Rattle.host.specs.Calls.{HostCall, returned, isRefused, Kept, firstRecords, markLeft, newRecords, keptAfter, callsIn}
 use Rattle.host.proofs.Answers.{search-restored}
@@ -222,7 +223,7 @@ module _
   ran-is = ap (λ (a : Ran). a .search) (ran-in L (v .reached) (c .budget) (c .rings))
 
   pub no-room : length (c .next) < 599 → isRefused c ≡ true
-  unfolding isRefused resume
+  unfolding isRefused gated
   no-room short = rw (h .same-sheet, h .same-mark, L .read, L .is-record, v .named, lt-leb 599 (length (c .next)) short)
 
   ran-reached : (n : ℕ) × ReachedIn L (said || isDoneStop (outcome .stop)) n ran-to

@@ -1,8 +1,7 @@
 -- The laws of the entry that starts a search: which numbers it returns, that a refusal leaves its output as it was,
 -- that otherwise the mark of the fresh search is written, and that demand 3 holds of calls from there on.
 -- By its ways; the mark is a first mark of `host-demand3`.
-use Prim.Native.Nat.{ℕ, _≤_, _<_}
-use native.Mathlib.Decide.{decLt}
+use Prim.Native.Nat.{ℕ, _≤_}
 use native.Mathlib.Omega.{arith}
 use mathlib.Core.Path.{_≡_, refl, sym, ap, _∙_}
 use mathlib.Core.Logic.{_⊎_, inl, inr}
@@ -11,10 +10,8 @@ use mathlib.Core.List.{List, _++_}
 use lib.ListN.{length, take, drop}
 use lib.Seq.{take-append-seam}
 use lib.Dec.{eqb}
-use borrow.Author.Tests.{le-leb, lt-leb}
 use Rattle.enumeration.specs.Machine.{fresh}
 use Rattle.refusal.specs.declared.Refusal.{Refusal}
-use Rattle.refusal.specs.declared.Refusal.the-variants as refusal
 use Rattle.refusal.specs.declared.Answer.{Answer}
 use Rattle.refusal.specs.declared.Answer.the-variants.{Accepted, Refused}
 use Rattle.refusal.specs.Number.{numberOf}
@@ -27,18 +24,16 @@ use Rattle.search.specs.Place.{beginning, searchAt, freshSearch, boundKept, kin
 use Rattle.search.specs.Entries.{freshPaths, freshRingsUpTo, freshOfKind, startSearch}
 use Rattle.search.specs.Mark.{markText}
 use Rattle.search.proofs.MarkLaws.{mark-length, fresh-restorable}
-use Rattle.search.proofs.Views.{search-length}
-use Rattle.start.proofs.Starts.{record-taken}
-use Rattle.start.proofs.Accepts.{started-fresh, started-kept, kept-starts}
+use Rattle.search.proofs.Starts.{record-taken}
+use Rattle.search.proofs.Accepts.{started-fresh, started-kept, kept-starts}
 use Rattle.history.specs.Calls.{start, standing}
 use Rattle.host.specs.Resume.{markSize}
 use Rattle.host.specs.Start.{Started, refusedStart, startMark}
 use Rattle.host.specs.Calls.{HostCall, keeping, keptBy, HostHistory, allCallsIn, HostDemand}
-use Rattle.host.proofs.Answers.{SheetTaken}
+use Rattle.host.proofs.Gate.{by-test, went-on, ways}
 use Rattle.host.proofs.Sizes.{mark-size}
-use Rattle.host.proofs.Laws.{by-test, sheet-numbers}
+use Rattle.host.proofs.Fresh.{fresh-full}
 use Rattle.host.proofs.History.{host-demand3}
-use Rattle.host.proofs.StartWays.{StartTaken, sheet-refused, start-refused, room-refused, mark-written}
 
 -- ---- the numbers of its refusals
 
@@ -122,52 +117,28 @@ module _ (sheet : List ℕ) (kind s t : ℕ) (next : List ℕ) where
     mark-kept = sym (ap (λ (x : Started). x .nextMark) e);
   }
 
-  module _ (read : readSheet sheet .answer ≡ Accepted) where
-    sheet-taken : SheetTaken sheet (readSheet sheet)
-    sheet-taken = record { is-read = refl; accepted = read }
+  began :
+      readSheet sheet .answer ≡ Accepted → startSearch mol kind s t .answer ≡ Accepted → 599 ≤ length next → Began
+  began read made room =
+      let written = went-on _ _ _ _ _ read made room in
+      record {
+        number-is = sym (ap (λ (x : Started). x .number) written);
+        read = read;
+        accepted = made;
+        room = room;
+        mark-is =
+            sym (ap (λ (x : Started). x .nextMark) written)
+            ∙ ap (λ (x : Made). markText mol (x .search) ++ drop (length (markText mol (x .search))) next)
+            (started-fresh mol kind s t made)
+            ∙ ap (λ (k : ℕ). mark ++ drop k next) (fresh-size mol kind s t);
+      }
 
-    module _ (made : startSearch mol kind s t .answer ≡ Accepted) where
-      start-taken : StartTaken sheet kind s t (readSheet sheet) (startSearch mol kind s t)
-      start-taken = record { of-sheet = sheet-taken; is-made = refl; accepted = made }
-
-      began : 599 ≤ length next → Began
-      began room =
-          let written = mark-written sheet kind s t next start-taken (le-leb 599 (length next) room) in
-          record {
-            number-is = sym (ap (λ (x : Started). x .number) written);
-            read = read;
-            accepted = made;
-            room = room;
-            mark-is =
-                sym (ap (λ (x : Started). x .nextMark) written)
-                ∙ ap (λ (x : Made). markText mol (x .search) ++ drop (length (markText mol (x .search))) next)
-                (started-fresh mol kind s t made)
-                ∙ ap (λ (k : ℕ). mark ++ drop k next) (fresh-size mol kind s t);
-          }
-
-    room-way : startSearch mol kind s t .answer ≡ Accepted → Dec (length next < 599) → Turned ⊎ Began
-    room-way made (yes h) =
-        let refused = room-refused sheet kind s t next (start-taken made) (lt-leb 599 (length next) h) in
-        inl (turned refusal.MarkRoom refused (inr (inl refl)))
-    room-way made (no h) = inr (began made (omega arith))
-
-    start-way : (x : Answer) → startSearch mol kind s t .answer ≡ x → Turned ⊎ Began
-    start-way Accepted made = room-way made (decLt (length next) 599)
-    start-way (Refused r) e =
-        let refused = start-refused sheet kind s t next sheet-taken refl e in
-        inl (turned r refused (inr (inr (kind-numbers mol kind s t r (accepted-well-formed sheet read) e))))
-
-  ways : Turned ⊎ Began
-  ways = sheet-way (readSheet sheet .answer) refl
-    where
-      sheet-way : (x : Answer) → readSheet sheet .answer ≡ x → Turned ⊎ Began
-      sheet-way Accepted read = start-way read (startSearch mol kind s t .answer) refl
-      sheet-way (Refused r) e =
-          inl (turned r (sheet-refused sheet kind s t next refl e) (inl (sheet-numbers sheet r e)))
+  either : Turned ⊎ Began
+  either = ways _ _ _ _ _ KindNumber (kind-numbers mol kind s t) turned began
 
   -- It returns 0, or for a refusal 1 to 8, 16, 10, 11, 21 or 13
   pub start-numbers : (answer .number ≡ 0) ⊎ StartNumber (answer .number)
-  start-numbers = go ways
+  start-numbers = go either
     where
       go : Turned ⊎ Began → (answer .number ≡ 0) ⊎ StartNumber (answer .number)
       go (inl turned) = inr (rw (turned .number-is) (turned .ranged))
@@ -184,7 +155,7 @@ module _ (sheet : List ℕ) (kind s t : ℕ) (next : List ℕ) where
 
   -- A refusal, which has another number than 0, leaves every byte
   pub start-refused-keeps : (answer .number ≡ 0 → ⊥) → answer .nextMark ≡ next
-  start-refused-keeps other = go ways
+  start-refused-keeps other = go either
     where
       go : Turned ⊎ Began → answer .nextMark ≡ next
       go (inl turned) = turned .mark-kept
@@ -192,7 +163,7 @@ module _ (sheet : List ℕ) (kind s t : ℕ) (next : List ℕ) where
 
   -- 0 means that the search is started
   pub start-began : answer .number ≡ 0 → Began
-  start-began zero = go ways
+  start-began zero = go either
     where
       go : Turned ⊎ Began → Began
       go (inl turned) = absurd (not-zero (numberOf (turned .rule)) (turned .ranged) (sym (turned .number-is) ∙ zero))
@@ -225,7 +196,7 @@ module _ (sheet : List ℕ) (kind s t : ℕ) (next : List ℕ) where
         let formed = accepted-well-formed sheet (start-began zero .read) in
         ap markSize (start-began zero .mark-is)
         ∙ mark-size mol (freshSearch kind s t) formed (fresh-restorable mol kind s t formed start-kind)
-        (unfold freshSearch in (search-length kind s t fresh (unfold fresh in (omega arith)))) (drop 91 next)
+        (fresh-full kind s t) (drop 91 next)
         ∙ fresh-size mol kind s t
 
     -- Demand 3 over every sheet, kind, s, t and buffer of a start that returned 0, and every list of calls that

@@ -1,3 +1,4 @@
+pub mod Gate
 pub mod Resume
 pub mod Start
 pub mod Calls

@@ -6,16 +6,13 @@ use mathlib.Core.List.{List}
 use lib.ListN.{length}
 use lib.Dec.{leb, eqb}
 use Rattle.refusal.specs.declared.Refusal.{Refusal}
-use Rattle.refusal.specs.declared.Refusal.the-variants as refusal
-use Rattle.refusal.specs.declared.Answer.{Answer}
-use Rattle.refusal.specs.declared.Answer.the-variants as answer
 use Rattle.refusal.specs.Number.{numberOf}
 use Rattle.molecule.specs.declared.Molecule.{Molecule}
-use Rattle.sheet.specs.Read.{readSheet}
 use Rattle.search.specs.declared.Search.{Search}
 use Rattle.search.specs.declared.Made.{Made}
 use Rattle.search.specs.Entries.{startRings, runSearch, runOutput, endedNumber}
 use Rattle.search.specs.Mark.{fieldKept, valueAt, markLength, saveOutput, restoreMark}
+use Rattle.host.specs.Gate.{gated}
 
 -- What the entry returns, and its two outputs after it
 pub record Resumed : Type 0 where
@@ -26,10 +23,6 @@ pub record Resumed : Type 0 where
 -- A refusal returns its number and changes neither output
 abbrev pub refusedCall : Refusal → List ℕ → List ℕ → Resumed
 refusedCall r rings next = record { number = numberOf r; rings = rings; nextMark = next }
-
-abbrev pub unlessRefused : Answer → List ℕ → List ℕ → Resumed → Resumed
-unlessRefused answer.Accepted rings next goes = goes
-unlessRefused (answer.Refused r) rings next goes = refusedCall r rings next
 
 -- The search to run: no mark bytes mean a fresh ring search
 unfoldable pub searchFor : Molecule → List ℕ → Made
@@ -47,14 +40,10 @@ runAndSave mol q budget rings next =
 
 -- The entry: it reads the sheet (rules 1 to 8), restores the mark
 -- (14 to 17), asks 599 bytes for the next mark (13), runs and saves
-unfoldable pub resume : List ℕ → List ℕ → ℕ → List ℕ → List ℕ → Resumed
+abbrev pub resume : List ℕ → List ℕ → ℕ → List ℕ → List ℕ → Resumed
 resume sheet mark budget rings next =
-    let mol = readSheet sheet .molecule in
-    let made = searchFor mol mark in
-    unlessRefused (readSheet sheet .answer) rings next
-    (unlessRefused (made .answer) rings next
-    (cond (leb 599 (length next)) (runAndSave mol (made .search) budget rings next)
-    (refusedCall refusal.MarkRoom rings next)))
+    gated (λ r. refusedCall r rings next) sheet (λ mol. searchFor mol mark) next
+    (λ mol q. runAndSave mol q budget rings next)
 
 -- The bytes of the mark at the start of a buffer, by the length of p in its sixth field; 0 where
 -- that is no field of a mark (one that zeros fill is none), or the buffer has fewer bytes

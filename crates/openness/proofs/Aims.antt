@@ -3,7 +3,6 @@
 use Prim.Native.Nat.{ℕ, suc, _+_, _-_, _≤_, _<_}
 use native.Mathlib.Omega.{arith}
 use native.Mathlib.Nat.{not-suc-le-zero}
-use native.Mathlib.Decide.{ℕ-discrete}
 use native.Mathlib.Numerals.{add-one}
 use mathlib.Core.Path.{_≡_, sym, _∙_}
 use mathlib.Core.Bool.{Bool, true, false, _&&_, not, cond}
@@ -14,12 +13,11 @@ use lib.Dec.{leb, ltb, eqb}
 use Rattle.graph.specs.Chordless.{Adjacency, atomAt}
 use Rattle.enumeration.specs.Words.{Family, isOpen}
 use Rattle.enumeration.specs.Lawful.{Lawful}
-use Rattle.chordless.specs.Families.{rings, paths, upTo}
+use Rattle.chordless.specs.Families.{paths, upTo}
 use Rattle.chordless.specs.Steers.{Steers}
 use Rattle.chordless.proofs.Steers.{steers-more, steers-same, rings-steer, paths-steer}
 use Rattle.chordless.proofs.UpTo.{upto-room}
 use Rattle.chordless.proofs.Bounds.{paths-open}
-use Rattle.chordless.proofs.Lawful.{rings-lawful, paths-lawful}
 use Rattle.chordless.proofs.Paths.{path-stem}
 use Rattle.atomset.specs.Set.{has, linkedBy}
 use Rattle.openness.specs.declared.Aim.{Aim}
@@ -28,7 +26,7 @@ use Rattle.openness.specs.Plan.{Beginning, Steered, HandedOn}
 use Rattle.openness.specs.Parts.{TwoAtoms, TwoEnds}
 use Rattle.openness.proofs.Steps.{Row}
 use Rattle.openness.proofs.Arrays.{taken-length, one-taken, two-taken, open-atoms}
-use Rattle.openness.proofs.Plans.{family-rings, family-paths, most-paths, family-by-lawful, family-by-atoms}
+use Rattle.openness.proofs.Plans.{family-rings, family-paths, family-bounded, most-paths, family-by-lawful, family-by-atoms}
 use Rattle.openness.proofs.Plans.{first-of-rings, first-of-paths}
 use Rattle.openness.proofs.Opens.{open-shorter, OpenTo, open-beside}
 
@@ -57,7 +55,7 @@ path-aimed {n} {table} {s} {t} b goal-is all-is free-is =
 
 -- ---- a beginning in its array
 
--- the first length of either kind
+-- the first length of each kind
 pub first-some : (kind : ℕ) → 1 ≤ firstLength kind
 first-some kind = go (eqb kind 1)
   where
@@ -95,33 +93,19 @@ module _ {n : ℕ} {table : List ℕ} {kind s t : ℕ} {prefix : List ℕ} {len 
 
   -- it has fewer atoms than a member may have
   pub begun-room : 1 ≤ len → len < mostAtoms kind s
-  begun-room some = go (ℕ-discrete kind 1)
+  begun-room some =
+      let (F, L, same) = family-bounded n table kind s t (b .words .few) in
+      omega (arith, size, below F L (take len prefix) (omega (arith, size)) (rw same at (b .isOpened)))
     where
-      few : n ≤ 128
-      few = b .words .few
-
-      -- some member of at most k atoms goes on it
-      below :
-          (k : ℕ) (F : Family) → Lawful F → (p : List ℕ) → 1 ≤ length p → isOpen (upTo k F) p ≡ true → length p < k
-      below k F L [] h e = absurd (not-suc-le-zero h)
-      below k F L (x ∷ p) h e = upto-room k F (λ w m. (L .short w m, L .inRange w m)) x p e
-
       size : length (take len prefix) ≡ len
       size = taken-length prefix len (b .size) (omega (arith, b .short))
 
-      go : Dec (kind ≡ 1) → len < mostAtoms kind s
-      go (yes path) =
-          let opened = rw (family-paths n table kind s t path few) at (b .isOpened) in
-          let adj = linkedBy table in
-          let short =
-          below 128 (paths n adj s t) (paths-lawful n adj s t) (take len prefix) (omega (arith, size)) opened in
-          omega (arith, size, most-paths n table kind s t path)
-      go (no ring) =
-          let opened = rw (family-rings n table kind s t ring few) at (b .isOpened) in
-          let adj = linkedBy table in
-          let short =
-          below (mostAtoms kind s) (rings n adj) (rings-lawful n adj) (take len prefix) (omega (arith, size)) opened in
-          omega (arith, size)
+      -- some member of at most so many atoms goes on it
+      below :
+          (F : Family) → Lawful F → (p : List ℕ) → 1 ≤ length p → isOpen (upTo (mostAtoms kind s) F) p ≡ true →
+          length p < mostAtoms kind s
+      below F L [] h e = absurd (not-suc-le-zero h)
+      below F L (x ∷ p) h e = upto-room (mostAtoms kind s) F (λ w m. (L .short w m, L .inRange w m)) x p e
 
   -- the steps left past it
   pub begun-steps :

@@ -9,7 +9,7 @@ use borrow.Author.Tests.{eq-eqb}
 use Rattle.graph.proofs.Below.{and-parts}
 use Rattle.atomset.specs.Set.{has, Lowest, LowestLeft}
 use Rattle.atomset.proofs.Members.{has-range}
-use Rattle.sweep.proofs.Size.{size, smaller}
+use Rattle.openness.proofs.Size.{size, smaller}
 
 -- the lowest atom v of a set is taken from it, and `rest` is left
 pub record TakesLowest (left rest : List ℕ) (v : ℕ) : Type 0 where

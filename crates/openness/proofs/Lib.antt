@@ -1,4 +1,5 @@
 pub mod Arrays
+pub mod Size
 pub mod Counts
 pub mod Rings
 pub mod Paths

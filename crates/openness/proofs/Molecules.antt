@@ -79,7 +79,7 @@ pub record PlanAnswers (mol : Molecule) (table : List ℕ) (kind s t : ℕ) (pre
       (v : ℕ) → AnswersAsDefined mol kind s t (take len prefix) plan v
 
 -- Request F-3: on every record that rule 9 allows, for every open beginning and every atom, the test by words answers
--- as openness is defined and as membership is, for rings and for paths
+-- as openness is defined and as membership is, for every kind of search
 pub words-answer-openness :
     {mol : Molecule} {table : List ℕ} {kind s t : ℕ} {prefix : List ℕ} {len c : ℕ} →
     Asked mol table kind s t prefix len c → PlanAnswers mol table kind s t prefix len c

@@ -58,6 +58,15 @@ module _ (n : ℕ) (table : List ℕ) (kind s t : ℕ) where
   pub most-paths : kind ≡ 1 → mostAtoms kind s ≡ 128
   most-paths e = rw e
 
+  -- of every kind, the members of a family that have at most so many atoms
+  pub family-bounded : n ≤ 128 → (F : Family) × Lawful F × (familyBy n table kind s t ≡ upTo (mostAtoms kind s) F)
+  family-bounded few =
+      let adj = linkedBy table in
+      elim (ℕ-discrete kind 1) [
+        | yes e ↦ (paths n adj s t, paths-lawful n adj s t, rw (most-paths e) (family-paths e few))
+        | no d ↦ (rings n adj, rings-lawful n adj, family-rings d few)
+      ]
+
   pub family-by-lawful : Lawful (familyBy n table kind s t)
   unfolding familyBy
   family-by-lawful = family-in-lawful n (linkedBy table) kind s t
@@ -74,11 +83,11 @@ module _ (n : ℕ) (table : List ℕ) (kind s t : ℕ) where
       go (inr (inl f)) = ends-of n s t (f .1)
       go (inr (inr f)) = absurd (omega arith)
 
-  -- every kind has room for the first two atoms of a ring
-  pub most-room : kindKept n kind s t ≡ true → 2 ≤ mostAtoms kind s
+  -- every kind has room for a ring
+  pub most-room : kindKept n kind s t ≡ true → 3 ≤ mostAtoms kind s
   most-room e = go (kind-facts n kind s t e)
     where
-      go : KindFacts n kind s t → 2 ≤ mostAtoms kind s
+      go : KindFacts n kind s t → 3 ≤ mostAtoms kind s
       go (inl f) = rw (f .0) (omega arith)
       go (inr (inl f)) = rw (f .0) (omega arith)
       go (inr (inr (two, bound, t-zero))) =

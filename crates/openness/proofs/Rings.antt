@@ -125,7 +125,7 @@ module _ {n : ℕ} {table : List ℕ} {most s : ℕ} (b : OneAtom n table most s
       clash (isOpen (ringsBy n table most) (s ∷ v ∷ [])) (ring-opens-one n (linkedBy table) irr most s v low .1 o)
       (shut v))
 
-pub first-of : {n : ℕ} {table : List ℕ} {most s v : ℕ} → TwoAtoms n table s v × (2 ≤ most) → OneAtom n table most s
+pub first-of : {n : ℕ} {table : List ℕ} {most s v : ℕ} → TwoAtoms n table s v × (3 ≤ most) → OneAtom n table most s
 first-of (b, room) = record { words = b .words; room = room; low = b .first-low; high = b .first-high }
 
 -- a sweep through the atoms above s that are not bonded to s
@@ -141,7 +141,7 @@ module _ (n : ℕ) (table : List ℕ) (s : ℕ) {between targets : ℕ → Bool}
 
 -- of which the second atom v is the sole candidate
 module _ {n : ℕ} {table : List ℕ} {most s v : ℕ} {targets between want swept : ℕ → Bool}
-    (b : TwoAtoms n table s v × (2 ≤ most))
+    (b : TwoAtoms n table s v × (3 ≤ most))
     (targets-is : (u : ℕ) → targets u ≡ (ltb v u && leb u n && linkedBy table s u))
     (between-is : (u : ℕ) → between u ≡ (ltb s u && leb u n && not (linkedBy table s u)))
     (want-is : (u : ℕ) → want u ≡ eqb u v)

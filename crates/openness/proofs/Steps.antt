@@ -15,7 +15,7 @@ use Rattle.atomset.specs.Set.{has, Emptiness, AtMostOne}
 use Rattle.sweep.specs.Swept.{Reached}
 use Rattle.openness.specs.declared.Aim.{Aim}
 use Rattle.openness.specs.declared.Beside.{Beside}
-use Rattle.openness.specs.Plan.{Everywhere, Steered, HandedOn}
+use Rattle.openness.specs.Plan.{HandedOn, PlansBy}
 use Rattle.openness.specs.Parts.{BesideLast, Stepping}
 
 -- the atoms bonded to atom x
@@ -114,8 +114,7 @@ module _ {adj : Adjacency} {x : ℕ} {aim next : Aim} {near : Beside} (handed : 
       ((F : Family) (most : ℕ) (p : List ℕ) (y : ℕ) (before : Aim) →
       Stepping F adj most p y before next steps (near .members) (near .want) →
       (v : ℕ) → has opens v ≡ isOpen F (p ++ v ∷ [])) →
-      (F : Family) (most : ℕ) (p : List ℕ) → Steered F adj most p x aim → steps ≡ most - suc (length p) →
-      Everywhere F p (record { members = near .members; opens = opens })
+      PlansBy adj x aim steps (record { members = near .members; opens = opens })
   plan-told opens-is F most p steered left v =
       record {
         members = k .members-is v ∙ sym (steers-member (steered .steers) (steered .isOpened) v);

@@ -17,7 +17,7 @@ use Rattle.openness.specs.Plan.{ringsBy, pathsBy, Words, Everywhere, Han
 -- an atom that may begin a ring of at most so many atoms
 pub record OneAtom (n : ℕ) (table : List ℕ) (most c : ℕ) : Type 0 where
   pub words : Words n table
-  pub room : 2 ≤ most
+  pub room : 3 ≤ most
   pub low : 1 ≤ c
   pub high : c ≤ n
 
@@ -48,12 +48,13 @@ pub record Stepping (F : Family) (adj : Adjacency) (most : ℕ) (p : List ℕ) (
   pub members-is : (v : ℕ) → has members v ≡ (has (aim .goal) v && adj x v)
   pub want-is : (v : ℕ) → has want v ≡ (has (aim .free) v && adj x v)
 
--- the plan of the ring beginning of one atom
+-- the plan of the beginning of one atom, of rings of at most so many atoms
 pub record FirstOf (n : ℕ) (table : List ℕ) (most atom : ℕ) (first : FirstPlan) : Type 0 where
   pub atom-is : first .atom ≡ atom
   pub tells : Everywhere (ringsBy n table most) (atom ∷ []) (first .plan)
 
--- of the atoms from c on, the first that begins a ring, and its plan; the atom is 0 where none does
+-- of the atoms from c on, the first that begins a ring of at most so many atoms, and its plan; the atom is 0 where none
+-- does
 pub record FirstAhead (n : ℕ) (table : List ℕ) (most c : ℕ) (first : FirstPlan) : Type 0 where
   pub tells : FirstTells (ringsBy n table most) first
   pub high : first .atom ≤ n
@@ -62,11 +63,11 @@ pub record FirstAhead (n : ℕ) (table : List ℕ) (most c : ℕ) (first : First
   pub before : (v : ℕ) → c ≤ v → v < first .atom → isOpen (ringsBy n table most) (v ∷ []) ≡ false
   pub none : first .atom ≡ 0 → (v : ℕ) → c ≤ v → isOpen (ringsBy n table most) (v ∷ []) ≡ false
 
--- an open ring beginning of one atom or none, and the first plan that is kept
+-- an open beginning of one atom or none, of rings of at most so many atoms, and the first plan that is kept
 pub record ShortRing (n : ℕ) (table : List ℕ) (most : ℕ) (prefix : List ℕ) (len c : ℕ) (first : FirstPlan) : Type 0
   where
     pub words : Words n table
-    pub room : 2 ≤ most
+    pub room : 3 ≤ most
     pub size : length prefix ≡ 128
     pub short : len ≤ 1
     pub isOpened : isOpen (ringsBy n table most) (take len prefix) ≡ true

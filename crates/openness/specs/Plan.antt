@@ -103,3 +103,10 @@ pub record Steered (F : Family) (adj : Adjacency) (most : ℕ) (p : List ℕ) (x
   pub some : 1 ≤ length p
   pub isOpened : isOpen F p ≡ true
   pub steers : Steers F adj most p x (has (aim .goal)) (has (aim .free))
+
+-- The plan tells of every atom, at each beginning that the sets steer, with the last atom x, where so many steps are
+-- left past an atom added
+abbrev pub PlansBy : Adjacency → ℕ → Aim → ℕ → Plan → Type 0
+PlansBy adj x aim steps plan =
+    (F : Family) (most : ℕ) (p : List ℕ) → Steered F adj most p x aim → steps ≡ most - suc (length p) →
+    Everywhere F p plan

@@ -1,7 +1,8 @@
 // Members and open beginnings by sets of atoms (lemma 2 of document 003). Two sets steer a search below a beginning,
-// and are handed on to each longer one; a kind of search supplies the first two.
+// and are handed on to each longer one; a kind of search supplies the first two, and the most atoms of a member, which
+// leaves so many steps past an atom added.
 use widen::u8_usize;
-ghost use Prim.Native.Nat.{ℕ, suc, _-_, _≤_, _<_};
+ghost use Prim.Native.Nat.{ℕ, _-_, _≤_, _<_};
 ghost use mathlib.Core.Path.{_≡_};
 ghost use mathlib.Core.Bool.{true, _&&_};
 ghost use mathlib.Core.List.{List, [], _∷_, _++_};
@@ -13,7 +14,7 @@ ghost use Rattle.atomset.specs.Set.{has, linkedBy};
 ghost use Rattle.sweep.specs.Swept.{Symmetric, Reached};
 ghost use Rattle.search.specs.Place.{kindKept};
 ghost use Rattle.openness.specs.Plan.{familyBy, ringsBy, pathsBy, mostAtoms, stepsLeft, firstLength};
-ghost use Rattle.openness.specs.Plan.{Words, Beginning, Planning, FoundAt, Everywhere, Steered, HandedOn};
+ghost use Rattle.openness.specs.Plan.{Words, Beginning, Planning, FoundAt, Everywhere, Steered, HandedOn, PlansBy};
 ghost use Rattle.openness.specs.Parts.{OneAtom, TwoAtoms, TwoEnds, BesideLast, Stepping, FirstOf, FirstAhead, ShortRing, PathFirsts};
 
 // The atoms that make a member of a beginning, and those that open it.
@@ -224,9 +225,7 @@ fn beside_last(table: &[u64; 256], aim: Aim, x: usize) -> Beside
 pub fn plan_by(table: &[u64; 256], aim: Aim, next: Aim, x: usize, steps: usize) -> Plan
     requires { ⌜
         Symmetric (linkedBy (now table)) × HandedOn (linkedBy (now table)) x aim next × (1 ≤ x) × (x ≤ 128) ⌝ }
-    ensures { λ r. ⌜
-        ((F : Family) (most : ℕ) (p : List ℕ) → Steered F (linkedBy (now (table .entry))) most p x aim →
-        steps ≡ most - suc (length p) → Everywhere F p r) ⌝ }
+    ensures { λ r. ⌜ PlansBy (linkedBy (now (table .entry))) x aim steps r ⌝ }
 {
     let near = beside_last(table, aim, x);
     let members = near.members;
@@ -243,9 +242,7 @@ pub fn plan_by(table: &[u64; 256], aim: Aim, next: Aim, x: usize, steps: usize) 
 fn swept_plan(table: &[u64; 256], aim: Aim, next: Aim, x: usize, steps: usize) -> Plan
     requires { ⌜
         Symmetric (linkedBy (now table)) × HandedOn (linkedBy (now table)) x aim next × (1 ≤ x) × (x ≤ 128) ⌝ }
-    ensures { λ r. ⌜
-        ((F : Family) (most : ℕ) (p : List ℕ) → Steered F (linkedBy (now (table .entry))) most p x aim →
-        steps ≡ most - suc (length p) → Everywhere F p r) ⌝ }
+    ensures { λ r. ⌜ PlansBy (linkedBy (now (table .entry))) x aim steps r ⌝ }
 {
     let near = beside_last(table, aim, x);
     let members = near.members;
@@ -281,7 +278,7 @@ fn steered_plan(
 
 // Whether the beginning s, v of a ring of at most `most` atoms is open.
 fn pair_opens(table: &[u64; 256], n: usize, most: usize, s: usize, v: usize) -> bool
-    requires { ⌜ TwoAtoms n (now table) s v × (2 ≤ most) ⌝ }
+    requires { ⌜ TwoAtoms n (now table) s v × (3 ≤ most) ⌝ }
     ensures { λ r. ⌜ r ≡ isOpen (ringsBy n (now (table .entry)) most) (s ∷ v ∷ []) ⌝ }
 {
     if v <= s {
@@ -354,7 +351,7 @@ fn ring_starts(table: &[u64; 256], n: usize, most: usize, c: usize) -> bool
     !atomset::is_empty(second_atoms(table, n, most, c))
 }
 
-// The plan of the ring beginning of one atom.
+// The plan of the beginning of one atom, of rings of at most `most` atoms.
 fn first_plan(table: &[u64; 256], n: usize, most: usize, atom: u8) -> FirstPlan
     requires { ⌜ OneAtom n (now table) most atom ⌝ }
     ensures { λ r. ⌜ FirstOf n (now (table .entry)) most atom r ⌝ }
@@ -370,7 +367,8 @@ fn first_plan(table: &[u64; 256], n: usize, most: usize, atom: u8) -> FirstPlan
     }
 }
 
-// The atom from c on that is the first to begin a ring, and its plan; the atom is 0 where there is none.
+// The atom from c on that is the first to begin a ring of at most `most` atoms, and its plan; the atom is 0 where there
+// is none.
 fn first_ahead(table: &[u64; 256], n: usize, most: usize, c: usize) -> FirstPlan
     requires { ⌜ OneAtom n (now table) most c ⌝ }
     ensures { λ r. ⌜ FirstAhead n (now (table .entry)) most c r ⌝ }
@@ -432,8 +430,8 @@ fn path_starts(table: &[u64; 256], n: usize, s: usize, t: usize, c: usize) -> bo
     atomset::contains(path_firsts(table, n, s, t), s)
 }
 
-// What a trial finds at an open ring beginning of one atom or none: the plan of one atom is made anew only where the
-// kept one is not of this atom.
+// What a trial finds at an open beginning of one atom or none, of rings of at most `most` atoms: the plan of one atom
+// is made anew only where the kept one is not of this atom.
 fn short_ring(
     table: &[u64; 256],
     n: usize,
@@ -524,7 +522,7 @@ fn opens_by(found: Plan, v: usize) -> bool
 
 // Whether some ring of at most `most` atoms begins with the first atom of the array.
 fn one_opens(table: &[u64; 256], n: usize, most: usize, prefix: &[u8; 128]) -> bool
-    requires { ⌜ Words n (now table) × (2 ≤ most) × (length (now prefix) ≡ 128) ⌝ }
+    requires { ⌜ Words n (now table) × (3 ≤ most) × (length (now prefix) ≡ 128) ⌝ }
     ensures { λ r. ⌜ r ≡ isOpen (ringsBy n (now (table .entry)) most) (take 1 (now (prefix .entry))) ⌝ }
 {
     let a = u8_usize(prefix[0]);

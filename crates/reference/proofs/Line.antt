@@ -23,7 +23,7 @@ use Rattle.search.specs.Mark.{markText, saveOutput, restoreMark}
 use Rattle.search.proofs.Readings.{family-lawful}
 use Rattle.search.proofs.Views.{restorable-valid, valid-full, fresh-restorable, run-restorable}
 use Rattle.search.proofs.MarkLaws.{saved-restores, save-writes}
-use Rattle.start.proofs.Accepts.{kept-starts}
+use Rattle.search.proofs.Accepts.{kept-starts}
 use Rattle.reference.specs.Table.{Line, moleculeOf, freshOf, Saves, Holds, AllHold}
 
 -- ---- what entries answer where rules 9 and 12 are kept

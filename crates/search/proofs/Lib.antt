@@ -4,3 +4,5 @@ pub mod Views
 pub mod Lines
 pub mod Restores
 pub mod MarkLaws
+pub mod Starts
+pub mod Accepts

@@ -132,10 +132,6 @@ bound-facts {k} e =
     let parts = and-parts _ _ e in
     (leb-true _ _ (parts .0), leb-true _ _ (parts .1))
 
-pub bound-of : {k : ℕ} → 3 ≤ k → k ≤ 128 → boundKept k ≡ true
-unfolding boundKept
-bound-of {k} low high = rw (le-leb 3 k low, le-leb k 128 high)
-
 abbrev pub KindFacts : ℕ → ℕ → ℕ → ℕ → Type 0
 KindFacts n kind s t =
     ((kind ≡ 0) × (s ≡ 0) × (t ≡ 0)) ⊎ ((kind ≡ 1) × Ends n s t) ⊎ ((kind ≡ 2) × (boundKept s ≡ true) × (t ≡ 0))

@@ -1,4 +1,3 @@
 pub mod Frontier
-pub mod Size
 pub mod Walks
 pub mod Words

@@ -4,9 +4,11 @@
 use mathlib.Core.Path.{refl, sym, _∙_}
 use borrow.Author.Tests.{not-true, not-false}
 use borrow.Author.Needs.{needs}
-use Rattle.host.proofs.Answers.{SheetTaken, MarkTaken}
-use Rattle.host.proofs.Answers.{leaves, sheet-refused, mark-refused, room-refused, resumed}
-use Rattle.host.proofs.Laws.{read-formed, made-kept}
+use Rattle.host.specs.Resume.{searchFor}
+use Rattle.host.proofs.Gate.{SheetTaken, SearchTaken, read-formed}
+use Rattle.host.proofs.Gate.{sheet-refused, search-refused, room-refused, goes-on}
+use Rattle.host.proofs.Answers.{leaves}
+use Rattle.host.proofs.Laws.{made-kept}
 use Rattle.host.proofs.ringlist_resume.Statement.{statement}
 use Rattle.host.proofs.ringlist_resume.Tie as tie
 
@@ -34,7 +36,8 @@ mark-taken :
     (c : tie.After-enum-told2) →
     let sheet = reads (makes c .before) in
     let args = start sheet .args in
-    MarkTaken (args .sheet .now) (args .mark .now) (sheet .read-sheet .result) (makes c .search-for .result)
+    SearchTaken (args .sheet .now) (λ mol. searchFor mol (args .mark .now)) (sheet .read-sheet .result)
+    (makes c .search-for .result)
 mark-taken c = record {
   of-sheet = sheet-taken (search);
   is-made = makes c .search-for .ensures;
@@ -56,7 +59,7 @@ returns c =
     leaves full _ _ _ (c .number3 .ensures, refl, refl)
 
 run-and-save-requires : tie.Need-run-and-save-requires
-run-and-save-requires c κs = (read-formed (sheet-taken (search)), made-kept (mark-taken (search)))
+run-and-save-requires c κs = (read-formed (sheet-taken (search)), made-kept _ (mark-taken (search)))
 
 returns-2 : tie.Need-returns-2
 returns-2 c =
@@ -68,7 +71,7 @@ returns-3 : tie.Need-returns-3
 returns-3 c =
     let made : tie.After-search-for = search in
     let answer = c .before .before .made-answer .given .1 in
-    let refused = mark-refused _ _ _ _ _ (sheet-taken (search)) (made .search-for .ensures) answer in
+    let refused = search-refused _ _ _ _ _ (sheet-taken (search)) (made .search-for .ensures) answer in
     leaves refused _ _ _ (c .number2 .ensures, refl, refl)
 
 returns-4 : tie.Need-returns-4
@@ -76,7 +79,7 @@ returns-4 c =
     let else1 : tie.Else1 = search in
     let room = sym (else1 .before .has-room .ensures) ∙ not-false _ (else1 .if1 .left) in
     let ran : tie.After-run-and-save = search in
-    leaves (resumed _ _ _ _ _ (mark-taken (search)) room) _ _ _ (ran .run-and-save .ensures)
+    leaves (goes-on _ _ _ _ _ (mark-taken (search)) room) _ _ _ (ran .run-and-save .ensures)
 
 pub ringlist-resume-spec : {M : Type 1} → statement M
 ringlist-resume-spec =

@@ -3,9 +3,11 @@
 use mathlib.Core.Path.{refl, sym, _∙_}
 use borrow.Author.Tests.{not-true, not-false}
 use borrow.Author.Needs.{needs}
-use Rattle.host.proofs.Answers.{SheetTaken}
-use Rattle.host.proofs.StartWays.{StartTaken, leaves-mark, mark-put, start-fits}
-use Rattle.host.proofs.StartWays.{sheet-refused, start-refused, room-refused, mark-written}
+use Rattle.search.specs.Entries.{startSearch}
+use Rattle.host.proofs.Gate.{SheetTaken, SearchTaken}
+use Rattle.host.proofs.Gate.{sheet-refused, search-refused, room-refused, goes-on}
+use Rattle.host.proofs.Answers.{leaves-mark, mark-put}
+use Rattle.host.proofs.Fresh.{start-fits}
 use Rattle.host.proofs.ringlist_start.Statement.{statement}
 use Rattle.host.proofs.ringlist_start.Tie as tie
 
@@ -33,8 +35,8 @@ start-taken :
     (c : tie.After-enum-told2) →
     let sheet = reads (makes c .before) in
     let args = start sheet .args in
-    StartTaken (args .sheet .now) (args .kind) (args .s) (args .t) (sheet .read-sheet .result)
-    (makes c .start-search .result)
+    SearchTaken (args .sheet .now) (λ mol. startSearch mol (args .kind) (args .s) (args .t))
+    (sheet .read-sheet .result) (makes c .start-search .result)
 start-taken c = record {
   of-sheet = sheet-taken (search);
   is-made = makes c .start-search .ensures;
@@ -56,7 +58,7 @@ put-mark-requires : tie.Need-put-mark-requires
 put-mark-requires c κs =
     let else1 : tie.Else1 = search in
     let room = sym (else1 .before .has-room .ensures) ∙ not-false _ (else1 .if1 .left) in
-    start-fits _ _ _ _ _ (start-taken (search)) room
+    start-fits _ _ _ _ (start-taken (search)) room
 
 returns-2 : tie.Need-returns-2
 returns-2 c =
@@ -68,7 +70,7 @@ returns-3 : tie.Need-returns-3
 returns-3 c =
     let made : tie.After-start-search = search in
     let answer = c .before .before .made-answer .given .1 in
-    let refused = start-refused _ _ _ _ _ (sheet-taken (search)) (made .start-search .ensures) answer in
+    let refused = search-refused _ _ _ _ _ (sheet-taken (search)) (made .start-search .ensures) answer in
     leaves-mark refused _ _ (c .number2 .ensures, refl)
 
 returns-4 : tie.Need-returns-4
@@ -76,7 +78,7 @@ returns-4 c =
     let else1 : tie.Else1 = search in
     let room = sym (else1 .before .has-room .ensures) ∙ not-false _ (else1 .if1 .left) in
     let put : tie.After-put-mark = search in
-    leaves-mark (mark-written _ _ _ _ _ (start-taken (search)) room) _ _
+    leaves-mark (goes-on _ _ _ _ _ (start-taken (search)) room) _ _
     (mark-put _ _ _ _ (put .put-mark .ensures))
 
 pub ringlist-start-spec : {M : Type 1} → statement M

@@ -1,5 +1,5 @@
 -- `openness::first_aim` meets its contract, by the kind: of a ring the first two atoms, of a path the first one.
--- The sets of either kind are carried to the array by `first-ring` and `first-path`.
+-- The sets of each kind are carried to the array by `first-ring` and `first-path`.
 use mathlib.Core.Path.{refl}
 use borrow.Author.Needs.{needs}
 use Rattle.openness.proofs.Plans.{path-ends}

@@ -1,6 +1,7 @@
 -- `openness::pair_opens` meets its contract: the tests of v, and then one sweep with v the sole candidate.
 -- By `pair-told`; where v is not above s, or not bonded to it, nothing opens.
 use Prim.Native.Nat.{ℕ}
+use native.Mathlib.Omega.{arith}
 use mathlib.Core.Path.{_≡_, sym, _∙_}
 use mathlib.Core.Bool.{_&&_, not}
 use lib.Dec.{leb, ltb}
@@ -56,7 +57,7 @@ returns-2 c =
     sym (pair-bonded (first-of (start .pre)) _ (bonded (search) ∙ not-true _ (c .if2 .taken)))
 
 sub-steps : tie.Need-sub-reached
-sub-steps c = let start : tie.Start = search in start .pre .1
+sub-steps c = let start : tie.Start = search in omega (arith, start .pre .1)
 
 returns-3 : tie.Need-returns-3
 returns-3 c =

@@ -8,7 +8,7 @@ use lib.Dec.{leb, ltb}
 use borrow.Author.Tests.{not-true, not-false}
 use borrow.Author.Needs.{needs}
 use Rattle.atomset.specs.Set.{has, holdsNone, linkedBy}
-use Rattle.sweep.proofs.Size.{size}
+use Rattle.openness.proofs.Size.{size}
 use Rattle.openness.proofs.Counts.{TakesLowest, taken-fewer}
 use Rattle.openness.proofs.Rings.{Sifted, sifted-start, SiftingTurn, sifted-turn, sifted-end}
 use Rattle.openness.proofs.second_atoms.Statement.{statement}
@@ -110,7 +110,7 @@ loop-holds c =
     (c .before .empty .ensures) (c .empty2 .ensures)
 
 sub-steps : tie.Need-sub-reached-from Inv-loop μ-loop
-sub-steps c = let start : Place tie.Start = search in start .pre .room
+sub-steps c = let start : Place tie.Start = search in omega (arith, start .pre .room)
 
 returns : tie.Need-returns Inv-loop μ-loop
 returns c =

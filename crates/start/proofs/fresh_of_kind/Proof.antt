@@ -4,7 +4,7 @@ use native.Mathlib.Omega.{arith}
 use mathlib.Core.Path.{_≡_, sym, ap, _∙_}
 use borrow.Author.Needs.{needs}
 use Rattle.search.specs.Entries.{acceptedSearch}
-use Rattle.start.proofs.Starts.{of-paths, no-t, of-size, no-kind, no-s, rings-fresh}
+use Rattle.search.proofs.Starts.{of-paths, no-t, of-size, no-kind, no-s, rings-fresh}
 use Rattle.start.proofs.fresh_of_kind.Statement.{statement}
 use Rattle.start.proofs.fresh_of_kind.Tie as tie
 

@@ -6,7 +6,7 @@ use borrow.Author.Tests.{not-true, not-false}
 use borrow.Author.Needs.{needs}
 use Rattle.molecule.specs.Record.{isAtom}
 use Rattle.search.specs.Entries.{acceptedSearch}
-use Rattle.start.proofs.Starts.{no-start, no-end, same-ends, paths-fresh}
+use Rattle.search.proofs.Starts.{no-start, no-end, same-ends, paths-fresh}
 use Rattle.start.proofs.fresh_paths.Statement.{statement}
 use Rattle.start.proofs.fresh_paths.Tie as tie
 

@@ -4,7 +4,7 @@ use mathlib.Core.Path.{sym, ap, _∙_}
 use borrow.Author.Tests.{not-true, not-false}
 use borrow.Author.Needs.{needs}
 use Rattle.search.specs.Entries.{acceptedSearch}
-use Rattle.start.proofs.Starts.{size-refused, size-fresh}
+use Rattle.search.proofs.Starts.{size-refused, size-fresh}
 use Rattle.start.proofs.fresh_rings_up_to.Statement.{statement}
 use Rattle.start.proofs.fresh_rings_up_to.Tie as tie
 

@@ -2,7 +2,7 @@
 -- A fresh path search is a start of any kind, of that kind.
 use mathlib.Core.Path.{_∙_}
 use borrow.Author.Needs.{needs}
-use Rattle.start.proofs.Starts.{is-paths}
+use Rattle.search.proofs.Starts.{is-paths}
 use Rattle.start.proofs.start_paths.Statement.{statement}
 use Rattle.start.proofs.start_paths.Tie as tie
 

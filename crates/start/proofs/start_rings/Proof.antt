@@ -2,7 +2,7 @@
 -- A fresh ring search is a start of any kind, of that kind.
 use mathlib.Core.Path.{_∙_}
 use borrow.Author.Needs.{needs}
-use Rattle.start.proofs.Starts.{is-rings}
+use Rattle.search.proofs.Starts.{is-rings}
 use Rattle.start.proofs.start_rings.Statement.{statement}
 use Rattle.start.proofs.start_rings.Tie as tie
 

@@ -2,7 +2,7 @@
 -- A fresh search for the rings up to a size is a start of any kind, of that kind.
 use mathlib.Core.Path.{_∙_}
 use borrow.Author.Needs.{needs}
-use Rattle.start.proofs.Starts.{is-size}
+use Rattle.search.proofs.Starts.{is-size}
 use Rattle.start.proofs.start_rings_up_to.Statement.{statement}
 use Rattle.start.proofs.start_rings_up_to.Tie as tie
 

@@ -3,7 +3,7 @@
 use mathlib.Core.Path.{sym, _∙_}
 use borrow.Author.Tests.{not-true, not-false}
 use borrow.Author.Needs.{needs}
-use Rattle.start.proofs.Starts.{record-refused, record-taken}
+use Rattle.search.proofs.Starts.{record-refused, record-taken}
 use Rattle.start.proofs.start_search.Statement.{statement}
 use Rattle.start.proofs.start_search.Tie as tie
 

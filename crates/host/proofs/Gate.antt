@@ -1,0 +1,157 @@
+-- The ways through what both entries for C do first: a refusal of the sheet, of the search or for the room, or none.
+-- From the definition, at the tests that were made on the way; a sheet is refused by rules 1 to 8.
+use Prim.Native.Nat.{ℕ, _≤_, _<_}
+use native.Mathlib.Decide.{decLt}
+use native.Mathlib.Omega.{arith}
+use mathlib.Core.Path.{_≡_, refl}
+use mathlib.Core.Bool.{Bool, true, false, cond}
+use mathlib.Core.List.{List}
+use mathlib.Core.Logic.{_⊎_, inl, inr}
+use lib.ListN.{length}
+use lib.Dec.{leb, eqb}
+use borrow.Author.Tests.{le-leb, lt-leb}
+use Rattle.refusal.specs.declared.Refusal.{Refusal}
+use Rattle.refusal.specs.declared.Refusal.the-variants as refusal
+use Rattle.refusal.specs.declared.Answer.{Answer}
+use Rattle.refusal.specs.declared.Answer.the-variants.{Accepted, Refused}
+use Rattle.refusal.specs.Number.{numberOf}
+use Rattle.molecule.specs.declared.Molecule.{Molecule}
+use Rattle.molecule.specs.Record.{wellFormed}
+use Rattle.sheet.specs.declared.SheetAnswer.{SheetAnswer}
+use Rattle.sheet.specs.Bonds.{atomsKept, noneToItself, noneTwice}
+use Rattle.sheet.specs.Read.{lengthKept, linesKept, atomsOf, bondsOf, bondOf, readBonds, readSheet}
+use Rattle.sheet.proofs.Accepted.{accepted-well-formed}
+use Rattle.search.specs.declared.Search.{Search}
+use Rattle.search.specs.declared.Made.{Made}
+use Rattle.host.specs.Gate.{gated}
+
+-- ---- the numbers of the refusals
+
+-- a refusal with a number from a to b
+abbrev pub Within : ℕ → ℕ → Answer → Type 0
+Within a b Accepted = Unit {0}
+Within a b (Refused r) = (a ≤ numberOf r) × (numberOf r ≤ b)
+
+-- what a test decides between, where both hold
+pub by-test : {A : Type 0} (P : A → Type 0) (t : Bool) (x y : A) → P y → P x → P (cond t x y)
+by-test P true x y failed passed = passed
+by-test P false x y failed passed = failed
+
+pub within-refused :
+    (a b : ℕ) (x : Answer) (r : Refusal) → x ≡ Refused r → Within a b x → (a ≤ numberOf r) × (numberOf r ≤ b)
+within-refused a b x r e h = rw e at h
+
+-- a sheet is refused by rules 1 to 8
+abbrev SheetRule : SheetAnswer → Type 0
+SheetRule x = Within 1 8 (x .answer)
+
+pub sheet-numbers : (s : List ℕ) (r : Refusal) → readSheet s .answer ≡ Refused r → (1 ≤ numberOf r) × (numberOf r ≤ 8)
+unfolding readSheet readBonds
+sheet-numbers s r e =
+    within-refused 1 8 _ r e
+    (by-test SheetRule (lengthKept s) _ _ (omega arith, omega arith)
+    (by-test SheetRule (linesKept s) _ _ (omega arith, omega arith)
+    (by-test SheetRule (leb (atomsOf s) 128) _ _ (omega arith, omega arith)
+    (by-test SheetRule (leb (bondsOf s) 1024) _ _ (omega arith, omega arith)
+    (by-test SheetRule (eqb (length s) _) _ _ (omega arith, omega arith)
+    (by-test SheetRule (atomsKept (atomsOf s) (bondOf s) (bondsOf s)) _ _ (omega arith, omega arith)
+    (by-test SheetRule (noneToItself (bondOf s) (bondsOf s)) _ _ (omega arith, omega arith)
+    (by-test SheetRule (noneTwice (bondOf s) (bondsOf s)) _ _ (omega arith, omega arith) tt))))))))
+
+-- rules 1 to 8, rule 13, or a rule of making the search
+abbrev pub GateNumber : (ℕ → Type 0) → ℕ → Type 0
+GateNumber Rule k = ((1 ≤ k) × (k ≤ 8)) ⊎ ((k ≡ 13) ⊎ Rule k)
+
+-- ---- what is known on the way
+
+-- Where the sheet was accepted
+pub record SheetTaken (sheet : List ℕ) (read : SheetAnswer) : Type 0 where
+  pub is-read : read ≡ readSheet sheet
+  pub accepted : read .answer ≡ Accepted
+
+-- and where the search was made
+pub record SearchTaken (sheet : List ℕ) (make : Molecule → Made) (read : SheetAnswer) (made : Made) : Type 0 where
+  pub of-sheet : SheetTaken sheet read
+  pub is-made : made ≡ make (read .molecule)
+  pub accepted : made .answer ≡ Accepted
+
+-- an accepted sheet keeps rule 9
+pub read-formed : {sheet : List ℕ} {read : SheetAnswer} → SheetTaken sheet read → wellFormed (read .molecule) ≡ true
+read-formed {sheet} s = rw (s .is-read) (accepted-well-formed sheet (rw (s .is-read) at (s .accepted)))
+
+-- ---- the ways
+
+module _ (sheet : List ℕ) (read : readSheet sheet .answer ≡ Accepted) where
+  sheet-taken : SheetTaken sheet (readSheet sheet)
+  sheet-taken = record { is-read = refl; accepted = read }
+
+  search-taken :
+      (make : Molecule → Made) → make (readSheet sheet .molecule) .answer ≡ Accepted →
+      SearchTaken sheet make (readSheet sheet) (make (readSheet sheet .molecule))
+  search-taken make made = record { of-sheet = sheet-taken; is-made = refl; accepted = made }
+
+module _
+    {A : Type 0} (refuse : Refusal → A) (sheet : List ℕ) (make : Molecule → Made) (next : List ℕ)
+    (goes : Molecule → Search → A) where
+  abbrev result : A
+  result = gated refuse sheet make next goes
+
+  module _ {read : SheetAnswer} where
+    pub sheet-refused : {r : Refusal} → read ≡ readSheet sheet → read .answer ≡ Refused r → refuse r ≡ result
+    unfolding gated
+    sheet-refused is-read e = rw (← is-read, e)
+
+    module _ {made : Made} where
+      pub search-refused :
+          {r : Refusal} → SheetTaken sheet read → made ≡ make (read .molecule) → made .answer ≡ Refused r →
+          refuse r ≡ result
+      unfolding gated
+      search-refused s is-made e = rw (← s .is-read, s .accepted, ← is-made, e)
+
+      module _ (m : SearchTaken sheet make read made) where
+        pub room-refused : leb 599 (length next) ≡ false → refuse refusal.MarkRoom ≡ result
+        unfolding gated
+        room-refused h =
+            let s = m .of-sheet in
+            rw (← s .is-read, s .accepted, ← m .is-made, m .accepted, h)
+
+        pub goes-on : leb 599 (length next) ≡ true → goes (read .molecule) (made .search) ≡ result
+        unfolding gated
+        goes-on h =
+            let s = m .of-sheet in
+            rw (← s .is-read, s .accepted, ← m .is-made, m .accepted, h)
+
+  abbrev mol : Molecule
+  mol = readSheet sheet .molecule
+
+  -- the last way, of the sheet's own record and the search made on it
+  pub went-on :
+      readSheet sheet .answer ≡ Accepted → make mol .answer ≡ Accepted → 599 ≤ length next →
+      goes mol (make mol .search) ≡ result
+  went-on read made room = goes-on (search-taken sheet read make made) (le-leb 599 (length next) room)
+
+  -- A call is turned back by a rule, or goes on
+  pub ways :
+      {Turned Went : Type 0} (Rule : ℕ → Type 0) →
+      ((r : Refusal) → wellFormed mol ≡ true → make mol .answer ≡ Refused r → Rule (numberOf r)) →
+      ((r : Refusal) → refuse r ≡ result → GateNumber Rule (numberOf r) → Turned) →
+      (readSheet sheet .answer ≡ Accepted → make mol .answer ≡ Accepted → 599 ≤ length next → Went) →
+      Turned ⊎ Went
+  ways {Turned} {Went} Rule numbers turned went = sheet-way (readSheet sheet .answer) refl
+    where
+      room-way :
+          readSheet sheet .answer ≡ Accepted → make mol .answer ≡ Accepted → Dec (length next < 599) → Turned ⊎ Went
+      room-way read made (yes h) =
+          let refused = room-refused (search-taken sheet read make made) (lt-leb 599 (length next) h) in
+          inl (turned refusal.MarkRoom refused (inr (inl refl)))
+      room-way read made (no h) = inr (went read made (omega arith))
+
+      search-way : readSheet sheet .answer ≡ Accepted → (x : Answer) → make mol .answer ≡ x → Turned ⊎ Went
+      search-way read Accepted made = room-way read made (decLt (length next) 599)
+      search-way read (Refused r) e =
+          let rule = numbers r (accepted-well-formed sheet read) e in
+          inl (turned r (search-refused (sheet-taken sheet read) refl e) (inr (inr rule)))
+
+      sheet-way : (x : Answer) → readSheet sheet .answer ≡ x → Turned ⊎ Went
+      sheet-way Accepted read = search-way read (make mol .answer) refl
+      sheet-way (Refused r) e = inl (turned r (sheet-refused refl e) (inl (sheet-numbers sheet r e)))
