@@ -64,10 +64,9 @@ extern "C" {
    (0 and 0 for kind 0, the two ends for kind 1, the largest size and 0 for
    kind 2), n, m, the number of atoms in the present beginning, and the next
    atom, 4 columns each. Line 2: trials, extensions and rings listed so far, 20
-   columns each.
-   Line 3: the atoms of the beginning, 4 columns each. Blanks fill the fields of
-   a mark, whatever fills those of the sheet; a mark with a field that zeros
-   fill, also "0000" for 0, is refused (14).
+   columns each. Line 3: the atoms of the beginning, 4 columns each. Blanks fill
+   the fields of a mark, whatever fills those of the sheet; a mark with a field
+   that zeros fill, also "0000" for 0, is refused (14).
 
    Returned when the call was accepted:
      101  done: all rings that follow the mark have been listed; from a fresh
@@ -113,7 +112,7 @@ extern "C" {
    several threads, where no output of one call overlaps a stretch of another.
    They take no memory from the heap and use less than 32 kilobytes of stack.
    This paragraph is not proved: no Rattle function has a heap, or variables
-   that outlive a call; the stack is measured on one call
+   that outlive a call; the stack is measured on a start and two resumes
    (tests/c/host_test.c). That the prototypes in this header are those of the
    code is tested (tests/prototypes.py). The proofs of these functions assume
    nothing of the C library; only those of the program ringlist do, of its read
@@ -148,14 +147,15 @@ uint32_t ringlist_resume(const uint8_t *sheet, size_t sheet_len,
    Returned when it was refused, by the first rule that is broken in the order
    1 to 8, 16, then 10 and 11 or 21, then 13. A refused call writes nothing.
        1 to 8  as for ringlist_resume
-      16  kind is not 0, 1 or 2, or s or t is not 0 for kind 0, or t is not 0 for
-          kind 2
+      16  kind is not 0, 1 or 2, or s or t is not 0 for kind 0, or t is not 0
+          for kind 2
       10  for kind 1, s or t is 0 or above n
       11  for kind 1, s equals t
       21  for kind 2, s is below 3 or above 128
       13  the mark output is shorter than 599 bytes
-   No other number comes back. Whatever it starts, rule 16 of ringlist_resume
-   allows, and whatever that rule allows, it starts. */
+   No other number comes back. Rule 16 of ringlist_resume allows whatever it
+   starts; and whatever that rule allows it starts, on a sheet that is accepted
+   and with an output of 599 bytes. */
 uint32_t ringlist_start(const uint8_t *sheet, size_t sheet_len,
                         uint64_t kind, uint64_t s, uint64_t t,
                         uint8_t *next_mark, size_t next_mark_len);

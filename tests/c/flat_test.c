@@ -708,10 +708,10 @@ static void two_rings_up_to(void) {
     CHECK(same(&now, &before));
 }
 
-/* A beginning that one ring leaves open and a longer one does not. The bonds 1-2,
-   2-3, 3-4, 4-1 and 2-5, 5-6, 6-4 make the rings 1 2 3 4, 1 2 5 6 4 and
-   2 3 4 6 5. With k = 4 the open beginnings are 1, 1 2, 1 2 3 and not 1 2 5:
-   6 * (3 + 1) = 24 trials. With k = 5 they are also 1 2 5, 1 2 5 6, 2, 2 3, 2 3 4
+/* 1 2 goes on to a short ring and to a long one; with k = 4 only the short one
+   counts, and 1 2 5 is not open. The bonds 1-2, 2-3, 3-4, 4-1 and 2-5, 5-6, 6-4
+   make the rings 1 2 3 4, 1 2 5 6 4 and 2 3 4 6 5. With k = 4 the open
+   beginnings are 1, 1 2 and 1 2 3: 6 * (3 + 1) = 24 trials. With k = 5 they are also 1 2 5, 1 2 5 6, 2, 2 3, 2 3 4
    and 2 3 4 6, 9 in all: 60 trials. */
 static void three_rings_up_to(void) {
     /* 1: 2, 4. 2: 1, 3, 5. 3: 2, 4. 4: 1, 3, 6. 5: 2, 6. 6: 4, 5. */

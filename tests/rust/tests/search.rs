@@ -604,8 +604,8 @@ fn longest_places() {
     }
 }
 
-/// Every size from 3 to two above the atoms, and 128, on molecules of up to 12
-/// atoms, by brute force: the whole list in one run, the same as that of a ring
+/// Every size from 3 to two above the atoms, and 128, in one case of ten every
+/// size from 3 to 128, on molecules of up to 12 atoms, by brute force: the whole list in one run, the same as that of a ring
 /// search where the size is at least n, and the counts.
 #[test]
 fn every_size() {
@@ -636,7 +636,8 @@ fn every_size() {
             course
         };
         let unbounded = whole(Task::Rings);
-        for k in (3..=n as u8 + 2).chain([128]) {
+        let most = if case % 10 == 9 { 127 } else { n as u8 + 2 };
+        for k in (3..=most).chain([128]) {
             let bounded = whole(Task::RingsUpTo { k });
             let listed = bounded.search.listed as usize;
             assert_eq!(

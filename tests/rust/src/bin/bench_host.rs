@@ -544,8 +544,8 @@ fn size_table(groups: &[Group]) -> String {
     text + &size_summary(groups)
 }
 
-/// The ratios of the second table: of its lines with a bound, of those with none
-/// that is felt, and of the same molecules in the first table.
+/// The ratios of the second table: of its lines with a bound, of those whose
+/// bound leaves out no ring, and of the same molecules in the first table.
 fn size_summary(groups: &[Group]) -> String {
     let over = |all: bool| {
         let sizes = move || {
