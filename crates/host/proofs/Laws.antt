@@ -1,4 +1,4 @@
--- The laws of the entry: which numbers it returns, that a refusal leaves both
+-- The laws of `ringlist_resume`: which numbers it returns, that a refusal leaves both
 -- outputs as they were, and that neither its run nor its save is refused.
 -- An accepted sheet keeps rule 9 and an accepted mark rule 12, a run keeps both, and a mark is at most 599 bytes.
 use Prim.Native.Nat.{ℕ, _+_, _≤_, _<_}

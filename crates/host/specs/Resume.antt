@@ -1,4 +1,4 @@
--- The entry for the C host (document 01, "Judge, host entry
+-- `ringlist_resume`, the entry by which the C host lists (document 01, "Judge, host entry
 -- and `ringlist`"): what it returns and leaves in its outputs.
 use Prim.Native.Nat.{ℕ, _+_, _*_}
 use mathlib.Core.Bool.{_&&_, cond}

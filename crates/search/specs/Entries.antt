@@ -1,5 +1,5 @@
--- What starting and running return and leave in the output (document
--- 01, "The search, trial by trial" and "Turned back by number").
+-- What starting and running return and leave in the output (document 01, "The search, trial by trial" and "Turned back
+-- by number"; rule 21: document 02, F-4).
 use Prim.Native.Nat.{ℕ}
 use mathlib.Core.Bool.{_&&_, cond}
 use mathlib.Core.List.{List, _++_}
