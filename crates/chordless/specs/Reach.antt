@@ -15,6 +15,10 @@ use Rattle.graph.specs.Chordless.{Adjacency, atomAt}
 abbrev pub Irreflexive : ℕ → Adjacency → Type 0
 Irreflexive n adj = (u : ℕ) → 1 ≤ u → u ≤ n → adj u u ≡ false
 
+-- every bond goes both ways
+abbrev pub Symmetric : Adjacency → Type 0
+Symmetric adj = (a b : ℕ) → adj a b ≡ adj b a
+
 -- From v, b is reached in at most d steps through atoms that `allowed` admits:
 -- every atom strictly between v and b is allowed, v and b need not be
 pub data Walk (adj : Adjacency) (allowed : ℕ → Bool) (b : ℕ) : ℕ → ℕ → Type 0 where

@@ -7,7 +7,7 @@ ghost use Prim.Native.Nat.{suc, _-_, _≤_};
 ghost use lib.ListN.{length};
 ghost use Rattle.enumeration.specs.Run.{limit};
 ghost use Rattle.atomset.specs.Set.{linkedBy};
-ghost use Rattle.sweep.specs.Swept.{Symmetric};
+ghost use Rattle.chordless.specs.Reach.{Symmetric};
 ghost use Rattle.openness.specs.Plan.{familyBy, mostAtoms, firstLength};
 ghost use Rattle.dive.specs.Levels.{LevelRoom, aimIn, restIn, keptAim, keptRest, LevelPlanned, LevelAdded};
 ghost use Rattle.dive.specs.Parts.{Rising, listedAt, extendedAt, droppedAt, Room, Bounds, Added, Starting};

@@ -9,10 +9,9 @@ use Rattle.graph.specs.Chordless.{Adjacency}
 use Rattle.enumeration.specs.Words.{Family, isOpen}
 use Rattle.enumeration.specs.Lawful.{Lawful}
 use Rattle.chordless.specs.Families.{rings, paths, upTo}
-use Rattle.chordless.specs.Reach.{Irreflexive}
+use Rattle.chordless.specs.Reach.{Irreflexive, Symmetric}
 use Rattle.chordless.specs.Steers.{without, Steers}
 use Rattle.atomset.specs.Set.{has, linkedBy}
-use Rattle.sweep.specs.Swept.{Symmetric}
 use Rattle.search.specs.Place.{familyIn, kindKept}
 use Rattle.openness.specs.declared.Plan.{Plan}
 use Rattle.openness.specs.declared.Aim.{Aim}

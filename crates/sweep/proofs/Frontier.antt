@@ -9,9 +9,9 @@ use mathlib.Core.Logic.{_≢_, _⊎_, inl, inr, _↔_}
 use Rattle.graph.specs.Chordless.{Adjacency}
 use Rattle.graph.proofs.Below.{clash, either, and-both, and-parts, not-of, false-of}
 use Rattle.enumeration.proofs.Basics.{or-either, or-left, or-right}
-use Rattle.chordless.specs.Reach.{Walk, there, through, Reaches}
+use Rattle.chordless.specs.Reach.{Symmetric, Walk, there, through, Reaches}
 use Rattle.chordless.proofs.Shortest.{walk-within}
-use Rattle.sweep.specs.Swept.{Symmetric, Reached}
+use Rattle.sweep.specs.Swept.{Reached}
 use Rattle.sweep.proofs.Walks.{reaches-longer}
 
 -- v is not left to decide, and it is no free atom that was in no round

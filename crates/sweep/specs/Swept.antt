@@ -10,9 +10,6 @@ use Rattle.molecule.specs.Record.{bit}
 use Rattle.chordless.specs.Reach.{Reaches}
 use Rattle.atomset.specs.Set.{has}
 
-abbrev pub Symmetric : Adjacency → Type 0
-Symmetric adj = (a b : ℕ) → adj a b ≡ adj b a
-
 -- S holds exactly for those atoms, in at most d steps
 abbrev pub Reached : Adjacency → (ℕ → Bool) → (ℕ → Bool) → ℕ → (ℕ → Bool) → (ℕ → Bool) → Type 0
 Reached adj free target d want S = (v : ℕ) → (S v ≡ true) ↔ ((want v ≡ true) × Reaches adj free target d v)

@@ -1,7 +1,8 @@
 // Reachability by one backward sweep: from the targets, over bonds, through free atoms, a round at a time.
 ghost use Prim.Native.Nat.{_<_};
 ghost use Rattle.atomset.specs.Set.{has, linkedBy};
-ghost use Rattle.sweep.specs.Swept.{Symmetric, Reached, NearWord};
+ghost use Rattle.chordless.specs.Reach.{Symmetric};
+ghost use Rattle.sweep.specs.Swept.{Reached, NearWord};
 
 // The atoms bonded to an atom of word k of a set.
 fn near_word(table: &[u64; 256], word: u64, k: usize) -> [u64; 2]
