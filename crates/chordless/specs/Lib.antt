@@ -1,3 +1,4 @@
 pub mod Families
 pub mod Reach
 pub mod Steers
+pub mod Distance
