@@ -9,3 +9,8 @@ pub mod Sweep
 pub mod Lawful
 pub mod Tests
 pub mod Steers
+pub mod Routes
+pub mod ShortestPaths
+pub mod Nearer
+pub mod Sums
+pub mod Number

@@ -1,0 +1,141 @@
+-- Laws of the sum over the atoms from 1 to n: of equal terms, of two terms, of one term that is not 0, of sums in
+-- either order; and the words that pass a test, by their first atom. By induction on n, and on the lists.
+use Prim.Native.Nat.{ℕ, zero, suc, _+_, _≤_}
+use mathlib.Core.Path.{_≡_, refl, sym, ap}
+use mathlib.Core.Bool.{Bool, true, false, cond}
+use mathlib.Core.List.{List, [], _∷_, map}
+use mathlib.Core.Logic.{_≢_}
+use native.Mathlib.Omega.{arith}
+use native.Mathlib.Decide.{ℕ-discrete}
+use lib.ListN.{length, length-append}
+use Rattle.enumeration.specs.Words.{numbersFrom, joined, words, keep}
+use Rattle.enumeration.proofs.Basics.{keep-append, starting}
+use Rattle.chordless.specs.Distance.{total}
+
+-- ---- sums
+
+-- equal terms
+pub total-same : (n : ℕ) (f g : ℕ → ℕ) → ((a : ℕ) → 1 ≤ a → a ≤ n → f a ≡ g a) → total n f ≡ total n g
+unfolding total
+total-same zero f g h = refl
+total-same (suc n) f g h =
+    let others = total-same n f g (λ a low high. h a low (omega arith)) in
+    let last = h (suc n) (omega arith) (omega arith) in
+    omega arith
+
+pub total-zero : (n : ℕ) (f : ℕ → ℕ) → ((a : ℕ) → 1 ≤ a → a ≤ n → f a ≡ 0) → total n f ≡ 0
+unfolding total
+total-zero zero f h = refl
+total-zero (suc n) f h =
+    let others = total-zero n f (λ a low high. h a low (omega arith)) in
+    let last = h (suc n) (omega arith) (omega arith) in
+    omega arith
+
+-- every term but that of c is 0
+pub total-one :
+    (n : ℕ) (f : ℕ → ℕ) (c : ℕ) → 1 ≤ c → c ≤ n →
+    ((a : ℕ) → 1 ≤ a → a ≤ n → a ≢ c → f a ≡ 0) → total n f ≡ f c
+unfolding total
+total-one zero f c low high h = absurd (omega arith)
+total-one (suc n) f c low high h = elim (ℕ-discrete c (suc n)) [
+  | yes e ↦
+      let others = total-zero n f (λ a low′ high′. h a low′ (omega arith) (omega arith)) in
+      let last = ap f e in
+      omega arith
+  | no e ↦
+      let others = total-one n f c low (omega arith) (λ a low′ high′. h a low′ (omega arith)) in
+      let last = h (suc n) (omega arith) (omega arith) (λ q. e (sym q)) in
+      omega arith
+]
+
+pub total-add : (n : ℕ) (f g : ℕ → ℕ) → total n (λ a. f a + g a) ≡ total n f + total n g
+unfolding total
+total-add zero f g = refl
+total-add (suc n) f g =
+    let others = total-add n f g in
+    omega arith
+
+-- two sums in either order
+pub total-swap :
+    (m n : ℕ) (f : ℕ → ℕ → ℕ) → total m (λ a. total n (λ b. f a b)) ≡ total n (λ b. total m (λ a. f a b))
+unfolding total
+total-swap zero n f = sym (total-zero n (λ b. 0) (λ b low high. refl))
+total-swap (suc m) n f =
+    let others = total-swap m n f in
+    let both = total-add n (λ b. total m (λ a. f a b)) (λ b. f (suc m) b) in
+    omega arith
+
+-- a test that is the same for every term
+pub total-if : (b : Bool) (n : ℕ) (f : ℕ → ℕ) → cond b (total n f) 0 ≡ total n (λ a. cond b (f a) 0)
+total-if true n f = refl
+total-if false n f = sym (total-zero n (λ a. 0) (λ a low high. refl))
+
+-- ---- words by their first atom
+
+-- the lists of the atoms from c + 1 on, joined, have as many words as they have together
+joined-total :
+    (f : ℕ → List (List ℕ)) (c k m : ℕ) → c + k ≡ m →
+    total c (λ a. length (f a)) + length (joined f (numbersFrom (suc c) k)) ≡ total m (λ a. length (f a))
+unfolding total joined numbersFrom
+joined-total f c zero m e =
+    let q : c ≡ m = omega arith in
+    let same = ap (λ x. total x (λ a. length (f a))) q in
+    omega arith
+joined-total f c (suc k) m e =
+    let others = joined-total f (suc c) k m (omega arith) in
+    let first = length-append (f (suc c)) (joined f (numbersFrom (suc (suc c)) k)) in
+    omega arith
+
+keep-joins :
+    (t : List ℕ → Bool) (f : ℕ → List (List ℕ)) (l : List ℕ) → keep t (joined f l) ≡ joined (λ a. keep t (f a)) l
+unfolding joined keep
+keep-joins t f [] = refl
+keep-joins t f (a ∷ l) = rw (keep-append t (f a) (joined f l), keep-joins t f l)
+
+-- those that start with a, by what follows a
+pub keep-starting :
+    (t : List ℕ → Bool) (a : ℕ) (ws : List (List ℕ)) →
+    length (keep t (map (λ (w : List ℕ). a ∷ w) ws)) ≡ length (keep (λ w. t (a ∷ w)) ws)
+unfolding keep
+keep-starting t a [] = refl
+keep-starting t a (w ∷ ws) = go (t (a ∷ w)) (keep-starting t a ws)
+  where
+    longer : List (List ℕ)
+    longer = keep t (map (λ (v : List ℕ). a ∷ v) ws)
+
+    rest : List (List ℕ)
+    rest = keep (λ v. t (a ∷ v)) ws
+
+    go :
+        (b : Bool) → length longer ≡ length rest →
+        length (cond b ((a ∷ w) ∷ longer) longer) ≡ length (cond b (w ∷ rest) rest)
+    go true ih = ap suc ih
+    go false ih = ih
+
+keep-later :
+    (n k : ℕ) (t : List ℕ → Bool) →
+    length (keep t (joined (starting n k) (numbersFrom 1 n))) ≡
+    total n (λ a. length (keep (λ w. t (a ∷ w)) (words n k)))
+unfolding total
+keep-later n k t =
+    let summed = joined-total (λ a. keep t (starting n k a)) 0 n n (omega arith) in
+    rw (keep-joins t (starting n k) (numbersFrom 1 n)) (omega (arith, summed, same))
+  where
+    same : total n (λ a. length (keep t (starting n k a))) ≡ total n (λ a. length (keep (λ w. t (a ∷ w)) (words n k)))
+    same = total-same n _ _ (λ a low high. keep-starting t a (words n k))
+
+-- of the words of at most k + 1 atoms: the empty one, and those that start with each atom
+pub keep-words :
+    (n k : ℕ) (t : List ℕ → Bool) →
+    length (keep t (words n (suc k))) ≡ cond (t []) 1 0 + total n (λ a. length (keep (λ w. t (a ∷ w)) (words n k)))
+unfolding words keep
+keep-words n k t = go (t []) (keep-later n k t)
+  where
+    later : List (List ℕ)
+    later = keep t (joined (starting n k) (numbersFrom 1 n))
+
+    go :
+        (b : Bool) → length later ≡ total n (λ a. length (keep (λ w. t (a ∷ w)) (words n k))) →
+        length (cond b ([] ∷ later) later) ≡ cond b 1 0 + total n (λ a. length (keep (λ w. t (a ∷ w)) (words n k)))
+    go true e = omega arith
+    go false e = omega arith
