@@ -7,17 +7,11 @@ use lib.ListN.{length}
 use lib.Dec.{leb}
 use Rattle.refusal.specs.declared.Refusal.{Refusal}
 use Rattle.refusal.specs.declared.Refusal.the-variants as refusal
-use Rattle.refusal.specs.declared.Answer.{Answer}
-use Rattle.refusal.specs.declared.Answer.the-variants as answer
+use Rattle.refusal.specs.Answers.{unlessRefused}
 use Rattle.molecule.specs.declared.Molecule.{Molecule}
 use Rattle.sheet.specs.Read.{readSheet}
 use Rattle.search.specs.declared.Search.{Search}
 use Rattle.search.specs.declared.Made.{Made}
-
--- What a refusal makes of a call, or what it goes on with
-abbrev pub unlessRefused : {A : Type 0} → Answer → (Refusal → A) → A → A
-unlessRefused answer.Accepted refuse goes = goes
-unlessRefused (answer.Refused r) refuse goes = refuse r
 
 -- The sheet is read (rules 1 to 8), a search is made on its record (by the rules of `make`), 599 bytes are asked for
 -- the mark output (13), and the call goes on

@@ -1,15 +1,19 @@
 -- The judge's answers, by the tests that lead to each.
 -- The definitions go by `cond` and `&&`, so each answer follows by rewriting the tests.
 use Prim.Native.Nat.{ℕ, _≤_, _<_}
-use mathlib.Core.Path.{_≡_}
+use mathlib.Core.Path.{_≡_, sym, ap, _∙_}
 use mathlib.Core.Bool.{Bool, true, false}
 use mathlib.Core.List.{List}
 use lib.ListN.{length}
-use borrow.Author.Tests.{eq-eqb, ne-eqb, lt-leb, le-leb, lt-ltb, le-ltb}
-use Rattle.refusal.specs.declared.Refusal.the-variants.{Record, PathEnd, SameEnds}
+use borrow.Author.Tests.{lt-leb, le-leb, lt-ltb, le-ltb}
+use Rattle.refusal.specs.declared.Refusal.{Refusal}
+use Rattle.refusal.specs.declared.Answer.the-variants as answer-of
+use Rattle.refusal.specs.declared.Refusal.the-variants.{Record}
 use Rattle.molecule.specs.declared.Molecule.{Molecule}
-use Rattle.molecule.specs.Record.{wellFormed, isAtom, bonded}
+use Rattle.molecule.specs.Record.{wellFormed, bonded}
+use Rattle.molecule.specs.Ends.{endsAnswer}
 use Rattle.molecule.proofs.Bonds.{rule9}
+use Rattle.molecule.proofs.Ends.{ends-refused, ends-accepted}
 use Rattle.graph.specs.Chordless.{atomAt, lastAtom, inRange, induces, alongRing, isRing, isPath}
 use Rattle.judge.specs.declared.Verdict.the-variants.{Yes, No, Refused}
 use Rattle.judge.specs.Verdict.{answer, judgeRing, judgePath}
@@ -70,29 +74,15 @@ module _ {mol : Molecule} {xs : List ℕ} (listed : Listed mol xs) where
           (rw (le-ltb (atomAt xs 1) (lastAtom xs) turn))
 
 module _ (mol : Molecule) (s t : ℕ) (xs : List ℕ) (formed : wellFormed mol ≡ true) where
-  pub path-no-start : isAtom (mol .atoms) s ≡ false → Refused PathEnd ≡ judgePath mol s t xs
+  -- rules 10 and 11 refuse, or the code found whether the list is a path
+  pub path-refused : {r : Refusal} → endsAnswer (mol .atoms) s t ≡ answer-of.Refused r → Refused r ≡ judgePath mol s t xs
   unfolding judgePath
-  path-no-start wrong = rw (formed, wrong)
+  path-refused e = rw formed (sym (ends-refused (mol .atoms) s t Refused _ e))
 
-  pub path-no-end :
-      isAtom (mol .atoms) s ≡ true → isAtom (mol .atoms) t ≡ false → Refused PathEnd ≡ judgePath mol s t xs
-  unfolding judgePath
-  path-no-end first wrong = rw (formed, first, wrong)
-
--- the molecule is well formed, and s and t are atoms of it
-pub record TwoEnds (mol : Molecule) (s t : ℕ) : Type 0 where
-  pub formed : wellFormed mol ≡ true
-  pub first : isAtom (mol .atoms) s ≡ true
-  pub last : isAtom (mol .atoms) t ≡ true
-
-module _ {mol : Molecule} {s t : ℕ} (ends : TwoEnds mol s t) (xs : List ℕ) where
-  pub path-same-ends : s ≡ t → Refused SameEnds ≡ judgePath mol s t xs
-  unfolding judgePath
-  path-same-ends same = rw (ends .formed, ends .first, ends .last, eq-eqb s t same)
-
-  -- the code found whether the list is a path
   pub path-judged :
-      (s ≡ t → ⊥) → {found : Bool} → found ≡ isPath (mol .atoms) (bonded (mol .atoms) (mol .rows)) s t xs →
+      endsAnswer (mol .atoms) s t ≡ answer-of.Accepted →
+      {found : Bool} → found ≡ isPath (mol .atoms) (bonded (mol .atoms) (mol .rows)) s t xs →
       (b : Bool) → found ≡ b → answer b ≡ judgePath mol s t xs
   unfolding judgePath
-  path-judged apart told b is = rw (ends .formed, ends .first, ends .last, ne-eqb s t apart, ← told, is)
+  path-judged e told b is =
+      rw formed (ap answer (sym is ∙ told) ∙ sym (ends-accepted (mol .atoms) s t Refused _ e))

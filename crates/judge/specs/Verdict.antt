@@ -1,11 +1,11 @@
 -- The judge of document 01: yes or no to any atom list, as a ring or as an s-t path; rules 9 to 11 come first.
 use Prim.Native.Nat.{ℕ}
-use mathlib.Core.Bool.{Bool, true, false, _&&_, cond}
+use mathlib.Core.Bool.{Bool, true, false, cond}
 use mathlib.Core.List.{List}
-use lib.Dec.{eqb}
-use Rattle.refusal.specs.declared.Refusal.the-variants.{Record, PathEnd, SameEnds}
+use Rattle.refusal.specs.declared.Refusal.the-variants.{Record}
 use Rattle.molecule.specs.declared.Molecule.{Molecule}
-use Rattle.molecule.specs.Record.{wellFormed, isAtom, bonded}
+use Rattle.molecule.specs.Record.{wellFormed, bonded}
+use Rattle.molecule.specs.Ends.{withEnds}
 use Rattle.graph.specs.Chordless.{isRing, isPath}
 use Rattle.judge.specs.declared.Verdict.{Verdict}
 use Rattle.judge.specs.declared.Verdict.the-variants.{Yes, No, Refused}
@@ -23,7 +23,5 @@ judgeRing mol xs =
 unfoldable pub judgePath : Molecule → ℕ → ℕ → List ℕ → Verdict
 judgePath mol s t xs =
     cond (wellFormed mol)
-    (cond (isAtom (mol .atoms) s && isAtom (mol .atoms) t)
-    (cond (eqb s t) (Refused SameEnds) (answer (isPath (mol .atoms) (bonded (mol .atoms) (mol .rows)) s t xs)))
-    (Refused PathEnd))
+    (withEnds (mol .atoms) s t Refused (answer (isPath (mol .atoms) (bonded (mol .atoms) (mol .rows)) s t xs)))
     (Refused Record)

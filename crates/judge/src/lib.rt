@@ -7,6 +7,7 @@ ghost use Rattle.molecule.specs.Record.{bonded};
 ghost use Rattle.judge.specs.Verdict.{judgeRing, judgePath};
 ghost use Rattle.judge.specs.Parts.{Atoms, OnePlace, TwoPlaces, pairFits, fitsBefore, lowestFirst};
 use molecule::Molecule;
+use refusal::Answer;
 use refusal::Refusal;
 use widen::u8_usize;
 
@@ -169,14 +170,9 @@ pub fn judge_path(m: Molecule, s: usize, t: usize, xs: &[u8]) -> Verdict
     }
     let n = m.atoms;
     let rows = m.rows;
-    if !molecule::is_atom(n, s) {
-        return Verdict::Refused(Refusal::PathEnd);
-    }
-    if !molecule::is_atom(n, t) {
-        return Verdict::Refused(Refusal::PathEnd);
-    }
-    if s == t {
-        return Verdict::Refused(Refusal::SameEnds);
+    let ends = molecule::check_ends(n, s, t);
+    if let Answer::Refused(r) = ends {
+        return Verdict::Refused(r);
     }
     if is_path(&rows, n, s, t, xs) {
         return Verdict::Yes;

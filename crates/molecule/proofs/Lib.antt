@@ -1,3 +1,4 @@
 pub mod Bonds
 pub mod Checks
 pub mod Rules
+pub mod Ends

@@ -3,7 +3,10 @@ ghost use mathlib.Core.Path.{_≡_};
 ghost use Prim.Native.Nat.{_+_, _*_, _/_, _%_, _<_};
 ghost use lib.ListN.{length};
 ghost use Rattle.molecule.specs.Record.{isAtom, cell, freshMolecule, onesOf, wellFormed};
+ghost use Rattle.molecule.specs.Ends.{endsAnswer};
 ghost use Rattle.molecule.specs.Parts.{mirrored, bitSound, byteSound, rowsSound};
+use refusal::Answer;
+use refusal::Refusal;
 
 // Atoms, bonds, and for each of 128 atoms a row of 16 bytes.
 pub struct Molecule {
@@ -31,6 +34,22 @@ pub fn is_atom(n: usize, a: usize) -> bool
         return false;
     }
     a <= n
+}
+
+// Rules 10 and 11 of the ends of a path: s and t are atoms, and differ.
+pub fn check_ends(n: usize, s: usize, t: usize) -> Answer
+    ensures { λ r. ⌜ r ≡ endsAnswer n s t ⌝ }
+{
+    if !is_atom(n, s) {
+        return Answer::Refused(Refusal::PathEnd);
+    }
+    if !is_atom(n, t) {
+        return Answer::Refused(Refusal::PathEnd);
+    }
+    if s == t {
+        return Answer::Refused(Refusal::SameEnds);
+    }
+    Answer::Accepted
 }
 
 // Whether row i has the bit of column j; atoms counted from 0.
