@@ -2,21 +2,24 @@
 -- The tests of a start are passed one after the other.
 use Prim.Native.Nat.{ℕ}
 use native.Mathlib.Omega.{arith}
-use mathlib.Core.Path.{_≡_, refl}
+use mathlib.Core.Path.{_≡_, refl, sym, ap, _∙_}
 use mathlib.Core.Logic.{_⊎_, inl, inr}
-use mathlib.Core.Bool.{Bool, true, false, _&&_, not, cond}
+use mathlib.Core.Bool.{Bool, true, false, _&&_, cond}
 use lib.Dec.{eqb}
-use borrow.Author.Tests.{eqb-true, ne-eqb}
+use borrow.Author.Tests.{eqb-true}
 use Rattle.graph.proofs.Below.{and-parts}
 use Rattle.refusal.specs.declared.Refusal.{Refusal}
 use Rattle.refusal.specs.declared.Refusal.the-variants as refusal
-use Rattle.refusal.specs.declared.Answer.the-variants.{Accepted}
+use Rattle.refusal.specs.declared.Answer.{Answer}
+use Rattle.refusal.specs.declared.Answer.the-variants.{Accepted, Refused}
 use Rattle.molecule.specs.declared.Molecule.{Molecule}
-use Rattle.molecule.specs.Record.{wellFormed, isAtom}
+use Rattle.molecule.specs.Record.{wellFormed}
+use Rattle.molecule.specs.Ends.{withEnds, endsAnswer}
+use Rattle.molecule.proofs.Ends.{ends-differ, ends-refused, ends-accepted}
 use Rattle.search.specs.declared.Made.{Made}
-use Rattle.search.specs.Place.{freshSearch, endsKept, boundKept, kindKept}
+use Rattle.search.specs.Place.{listsPaths, freshSearch, endsKept, boundKept, kindKept}
 use Rattle.search.specs.Entries.{acceptedSearch, refusedSearch, freshPaths, freshRingsUpTo, freshOfKind, startSearch}
-use Rattle.search.proofs.Readings.{KindFacts, kind-facts, kind-of, ends-facts, atom-of}
+use Rattle.search.proofs.Readings.{KindFacts, kind-facts, kind-of, ends-facts, atom-of, path-no-ring}
 
 abbrev Taken : Made → Type 0
 Taken x = x .answer ≡ Accepted
@@ -41,22 +44,14 @@ passed false x r e = absurd (not-taken r e)
 -- ---- the kinds
 
 module _ (n kind s t : ℕ) where
-  ends-taken : Taken (freshPaths n s t) → endsKept n s t ≡ true
+  -- rules 10 and 11 are kept
+  ends-taken : Taken (freshPaths n kind s t) → endsKept n s t ≡ true
   unfolding freshPaths endsKept
-  ends-taken e = go (passed (isAtom n s && isAtom n t) _ refusal.PathEnd e)
+  ends-taken e = go (endsAnswer n s t) refl
     where
-      go :
-          (isAtom n s && isAtom n t ≡ true)
-          × Taken (cond (eqb s t) (refusedSearch refusal.SameEnds) (acceptedSearch (freshSearch 1 s t))) →
-          isAtom n s && isAtom n t && not (eqb s t) ≡ true
-      go (atoms, f) = differ (either (eqb s t) _ _ f)
-        where
-          differ :
-              ((eqb s t ≡ true) × Taken (refusedSearch refusal.SameEnds))
-              ⊎ ((eqb s t ≡ false) × Taken (acceptedSearch (freshSearch 1 s t))) →
-              isAtom n s && isAtom n t && not (eqb s t) ≡ true
-          differ (inl (same, g)) = absurd (not-taken refusal.SameEnds g)
-          differ (inr (apart, g)) = rw (atoms, apart)
+      go : (x : Answer) → endsAnswer n s t ≡ x → withEnds n s t (λ r. false) true ≡ true
+      go Accepted is = ends-accepted n s t _ _ is
+      go (Refused r) is = absurd (not-taken r (ap (λ (x : Made). x .answer) (sym (ends-refused n s t _ _ is)) ∙ e))
 
   size-taken : Taken (freshRingsUpTo s) → boundKept s ≡ true
   unfolding freshRingsUpTo
@@ -73,32 +68,32 @@ module _ (n kind s t : ℕ) where
           inr (inr (eqb-true kind 2 two, size-taken f, eqb-true t 0 t-zero))
 
       second :
-          ((eqb kind 1 ≡ true) × Taken (freshPaths n s t))
-          ⊎ ((eqb kind 1 ≡ false)
+          ((listsPaths kind ≡ true) × Taken (freshPaths n kind s t))
+          ⊎ ((listsPaths kind ≡ false)
           × Taken (cond (eqb kind 2 && eqb t 0) (freshRingsUpTo s) (refusedSearch refusal.MarkKind))) →
           KindFacts n kind s t
-      second (inl (one, f)) = inr (inl (eqb-true kind 1 one, ends-facts n s t (ends-taken f)))
+      second (inl (path, f)) = inr (inl (path, ends-facts n s t (ends-taken f)))
       second (inr (other, f)) = third (passed (eqb kind 2 && eqb t 0) _ refusal.MarkKind f)
 
       first :
           ((eqb kind 0 && eqb s 0 && eqb t 0 ≡ true) × Taken (acceptedSearch (freshSearch 0 0 0)))
           ⊎ ((eqb kind 0 && eqb s 0 && eqb t 0 ≡ false)
-          × Taken (cond (eqb kind 1) (freshPaths n s t)
+          × Taken (cond (listsPaths kind) (freshPaths n kind s t)
           (cond (eqb kind 2 && eqb t 0) (freshRingsUpTo s) (refusedSearch refusal.MarkKind)))) →
           KindFacts n kind s t
       first (inl (h, f)) =
           let (kind-s, t-zero) = and-parts (eqb kind 0 && eqb s 0) (eqb t 0) h in
           let (zero, s-zero) = and-parts (eqb kind 0) (eqb s 0) kind-s in
           inl (eqb-true kind 0 zero, eqb-true s 0 s-zero, eqb-true t 0 t-zero)
-      first (inr (other, f)) = second (either (eqb kind 1) _ _ f)
+      first (inr (other, f)) = second (either (listsPaths kind) _ _ f)
 
   startable-starts : KindFacts n kind s t → freshOfKind n kind s t ≡ acceptedSearch (freshSearch kind s t)
   unfolding freshOfKind freshPaths freshRingsUpTo
   startable-starts (inl (zero, s-zero, t-zero)) = rw (zero, s-zero, t-zero)
-  startable-starts (inr (inl (one, ends))) =
+  startable-starts (inr (inl (path, ends))) =
       let s-atom = atom-of n s (ends .s-low) (ends .s-high) in
       let t-atom = atom-of n t (ends .t-low) (ends .t-high) in
-      rw (one, s-atom, t-atom, ne-eqb s t (ends .differ))
+      rw (path-no-ring kind path, path) (ends-differ n s t _ _ s-atom t-atom (ends .differ))
   startable-starts (inr (inr (two, size, t-zero))) = rw (two, t-zero, size)
 
 -- ---- the entry

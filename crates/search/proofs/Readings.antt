@@ -3,12 +3,12 @@
 use Prim.Native.Nat.{ℕ, suc, _-_, _≤_, _<_}
 use native.Mathlib.Omega.{arith}
 use mathlib.Core.Path.{_≡_, refl, sym, subst, _∙_}
-use mathlib.Core.Bool.{Bool, true, false, _&&_, _||_, not}
+use mathlib.Core.Bool.{Bool, true, false, _&&_, _||_, cond}
 use mathlib.Core.List.{List, [], _∷_, _++_}
 use mathlib.Core.Logic.{_⊎_, inl, inr, _↔_}
 use lib.ListN.{length, getD, length-append, List·getD-append}
 use lib.Dec.{leb, ltb, eqb}
-use borrow.Author.Tests.{le-leb, leb-true, ltb-true, ltb-false, eq-eqb, eqb-true, ne-eqb, eqb-false, not-true}
+use borrow.Author.Tests.{le-leb, leb-true, ltb-true, ltb-false, eq-eqb, eqb-true, ne-eqb, eqb-false}
 use Rattle.graph.specs.Every.{allBelow}
 use Rattle.graph.specs.Chordless.{Adjacency}
 use Rattle.graph.proofs.Below.{apart, either, and-parts, and-both, allBelow-at, allBelow-of}
@@ -17,39 +17,45 @@ use Rattle.enumeration.specs.Machine.{isEmpty}
 use Rattle.enumeration.specs.Run.{limit}
 use Rattle.enumeration.specs.Lawful.{Lawful, AtMost}
 use Rattle.enumeration.proofs.Basics.{or-either, or-left, or-right}
-use Rattle.chordless.specs.Families.{rings, paths, upTo}
+use Rattle.chordless.specs.Families.{rings, paths, upTo, shortestPaths}
 use Rattle.chordless.proofs.Members.{open-has}
 use Rattle.chordless.proofs.UpTo.{upto-facts, upto-lawful, upto-all}
 use Rattle.chordless.proofs.Lawful.{rings-lawful, paths-lawful}
+use Rattle.chordless.proofs.ShortestPaths.{shortest-lawful}
 use Rattle.molecule.specs.declared.Molecule.{Molecule}
 use Rattle.molecule.specs.Record.{isAtom, bonded}
+use Rattle.molecule.specs.Ends.{withEnds}
 use Rattle.molecule.proofs.Bonds.{atom-bounds}
+use Rattle.molecule.proofs.Ends.{ends-differ}
 use Rattle.search.specs.declared.Search.{Search}
-use Rattle.search.specs.Place.{familyIn, familyOf, family, beginning, endsKept, boundKept, ringsAllowed, pathsAllowed, sizesAllowed, kindKept, placeKept, restorable}
+use Rattle.search.specs.Place.{familyIn, listsPaths, familyOf, family, beginning, endsKept, boundKept, ringsAllowed, pathsAllowed, sizesAllowed, kindKept, placeKept, restorable}
 
 -- ---- the family of a search
 
 -- what holds of the family of each kind holds, whatever the kind, s and t
 pub each-family :
     (n : ℕ) (adj : Adjacency) (kind s t : ℕ) (P : Family → Type 0) → P (rings n adj) → P (paths n adj s t) →
-    P (upTo s (rings n adj)) → P (familyIn n adj kind s t)
+    P (shortestPaths n adj s t) → P (upTo s (rings n adj)) → P (familyIn n adj kind s t)
 unfolding familyIn
-each-family n adj kind s t P of-rings of-paths of-bounded = elim (either (eqb kind 0)) [
+each-family n adj kind s t P of-rings of-paths of-shortest of-bounded = elim (either (eqb kind 0)) [
   | inl zero ↦ rw zero of-rings
   | inr other ↦ elim (either (eqb kind 1)) [
     | inl one ↦ rw (other, one) of-paths
-    | inr two ↦ rw (other, two) of-bounded
+    | inr no-path ↦ elim (either (eqb kind 3)) [
+      | inl three ↦ rw (other, no-path, three) of-shortest
+      | inr two ↦ rw (other, no-path, two) of-bounded
+    ]
   ]
 ]
 
 module _ (n : ℕ) (adj : Adjacency) (kind s t : ℕ) where
   pub family-in-lawful : Lawful (familyIn n adj kind s t)
   family-in-lawful =
-      each-family n adj kind s t Lawful (rings-lawful n adj) (paths-lawful n adj s t)
+      each-family n adj kind s t Lawful (rings-lawful n adj) (paths-lawful n adj s t) (shortest-lawful n adj s t)
       (upto-lawful s (rings n adj) (rings-lawful n adj))
 
   pub family-in-atoms : familyIn n adj kind s t .atoms ≡ n
-  family-in-atoms = each-family n adj kind s t (λ (F : Family). F .atoms ≡ n) refl refl refl
+  family-in-atoms = each-family n adj kind s t (λ (F : Family). F .atoms ≡ n) refl refl refl refl
 
 -- kind 2: rings of at most s atoms, and with s at least n all rings
 module _ (n : ℕ) (adj : Adjacency) (kind s t : ℕ) (two : kind ≡ 2) where
@@ -103,9 +109,9 @@ pub record Ends (n s t : ℕ) : Type 0 where
   pub differ : s ≡ t → ⊥
 
 pub ends-facts : (n s t : ℕ) → endsKept n s t ≡ true → Ends n s t
-unfolding endsKept
+unfolding endsKept withEnds
 ends-facts n s t e =
-    let (atoms, differ) = and-parts (isAtom n s && isAtom n t) (not (eqb s t)) e in
+    let (atoms, differ) = ends-tests (isAtom n s && isAtom n t) (eqb s t) e in
     let (s-atom, t-atom) = and-parts (isAtom n s) (isAtom n t) atoms in
     let (s-low, s-high) = atom-bounds n s s-atom in
     let (t-low, t-high) = atom-bounds n t t-atom in
@@ -114,8 +120,13 @@ ends-facts n s t e =
       s-high = s-high;
       t-low = t-low;
       t-high = t-high;
-      differ = eqb-false s t (not-true (eqb s t) differ);
+      differ = eqb-false s t differ;
     }
+  where
+    ends-tests : (atoms same : Bool) → cond atoms (cond same false true) false ≡ true → (atoms ≡ true) × (same ≡ false)
+    ends-tests true true f = absurd (apart (sym f))
+    ends-tests true false f = (refl, refl)
+    ends-tests false same f = absurd (apart (sym f))
 
 pub atom-of : (n a : ℕ) → 1 ≤ a → a ≤ n → isAtom n a ≡ true
 atom-of n a low high = and-both (leb 1 a) (leb a n) (le-leb 1 a low) (le-leb a n high)
@@ -123,7 +134,7 @@ atom-of n a low high = and-both (leb 1 a) (leb a n) (le-leb 1 a low) (le-leb a n
 pub ends-of : (n s t : ℕ) → Ends n s t → endsKept n s t ≡ true
 unfolding endsKept
 ends-of n s t f =
-    rw (atom-of n s (f .s-low) (f .s-high), atom-of n t (f .t-low) (f .t-high), ne-eqb s t (f .differ))
+    ends-differ n s t _ true (atom-of n s (f .s-low) (f .s-high)) (atom-of n t (f .t-low) (f .t-high)) (f .differ)
 
 -- the largest size of a ring
 pub bound-facts : {k : ℕ} → boundKept k ≡ true → (3 ≤ k) × (k ≤ 128)
@@ -134,13 +145,29 @@ bound-facts {k} e =
 
 abbrev pub KindFacts : ℕ → ℕ → ℕ → ℕ → Type 0
 KindFacts n kind s t =
-    ((kind ≡ 0) × (s ≡ 0) × (t ≡ 0)) ⊎ ((kind ≡ 1) × Ends n s t) ⊎ ((kind ≡ 2) × (boundKept s ≡ true) × (t ≡ 0))
+    ((kind ≡ 0) × (s ≡ 0) × (t ≡ 0)) ⊎ ((listsPaths kind ≡ true) × Ends n s t)
+    ⊎ ((kind ≡ 2) × (boundKept s ≡ true) × (t ≡ 0))
+
+-- the kinds that list paths
+pub path-kinds : (kind : ℕ) → listsPaths kind ≡ true → (kind ≡ 1) ⊎ (kind ≡ 3)
+path-kinds kind e = elim (or-either (eqb kind 1) (eqb kind 3) e) [
+  | inl one ↦ inl (eqb-true kind 1 one)
+  | inr three ↦ inr (eqb-true kind 3 three)
+]
+
+pub path-no-ring : (kind : ℕ) → listsPaths kind ≡ true → eqb kind 0 ≡ false
+path-no-ring kind e = elim (path-kinds kind e) [
+  | inl one ↦ ne-eqb kind 0 (omega arith)
+  | inr three ↦ ne-eqb kind 0 (omega arith)
+]
 
 module _ (n kind s t : ℕ) where
   pub kind-of : KindFacts n kind s t → kindKept n kind s t ≡ true
   unfolding kindKept
   kind-of (inl (kind-zero, s-zero, t-zero)) = rw (kind-zero, s-zero, t-zero)
-  kind-of (inr (inl (kind-one, ends))) = rw (kind-one, ends-of n s t ends)
+  kind-of (inr (inl (path, ends))) =
+      or-left (ringsAllowed kind s t || pathsAllowed n kind s t) _
+      (or-right (ringsAllowed kind s t) _ (rw (path, ends-of n s t ends)))
   kind-of (inr (inr (kind-two, bound, t-zero))) =
       or-right (ringsAllowed kind s t || pathsAllowed n kind s t) _ (rw (kind-two, t-zero, bound))
 
@@ -154,7 +181,7 @@ module _ (n kind s t : ℕ) where
           inl (eqb-true _ _ (first .0), eqb-true _ _ (first .1), eqb-true _ _ (parts .1))
       | inr f ↦
           let parts = and-parts _ _ f in
-          inr (inl (eqb-true _ _ (parts .0), ends-facts n s t (parts .1)))
+          inr (inl (parts .0, ends-facts n s t (parts .1)))
     ]
     | inr f ↦
         let parts = and-parts _ _ f in
@@ -163,12 +190,15 @@ module _ (n kind s t : ℕ) where
   ]
 
 -- kind, s and t are small
-pub kind-small : (n kind s t : ℕ) → n ≤ 128 → kindKept n kind s t ≡ true → (kind ≤ 2) × (s ≤ 128) × (t ≤ 128)
+pub kind-small : (n kind s t : ℕ) → n ≤ 128 → kindKept n kind s t ≡ true → (kind ≤ 3) × (s ≤ 128) × (t ≤ 128)
 kind-small n kind s t few e = go (kind-facts n kind s t e)
   where
-    go : KindFacts n kind s t → (kind ≤ 2) × (s ≤ 128) × (t ≤ 128)
+    go : KindFacts n kind s t → (kind ≤ 3) × (s ≤ 128) × (t ≤ 128)
     go (inl f) = (omega arith, omega arith, omega arith)
-    go (inr (inl f)) = (omega arith, omega arith, omega arith)
+    go (inr (inl (path, ends))) = elim (path-kinds kind path) [
+      | inl one ↦ (omega arith, omega arith, omega arith)
+      | inr three ↦ (omega arith, omega arith, omega arith)
+    ]
     go (inr (inr (kind-two, bound, t-zero))) =
         let (low, high) = bound-facts bound in
         (omega arith, high, omega arith)

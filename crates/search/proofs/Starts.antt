@@ -1,38 +1,32 @@
 -- The answers of starting a search, by the tests that lead to each.
 -- The definitions go by `cond`, so each answer follows by rewriting the tests.
 use Prim.Native.Nat.{ℕ}
-use native.Mathlib.Omega.{arith}
 use mathlib.Core.Path.{_≡_, refl}
 use mathlib.Core.Bool.{true, false, _&&_, and-false}
 use lib.Dec.{eqb}
-use borrow.Author.Tests.{eq-eqb, ne-eqb}
-use Rattle.refusal.specs.declared.Refusal.the-variants.{Record, PathEnd, SameEnds, MarkKind, RingSize}
+use borrow.Author.Tests.{ne-eqb}
+use Rattle.refusal.specs.declared.Refusal.{Refusal}
+use Rattle.refusal.specs.declared.Refusal.the-variants.{Record, MarkKind, RingSize}
+use Rattle.refusal.specs.declared.Answer.the-variants.{Accepted, Refused}
 use Rattle.molecule.specs.declared.Molecule.{Molecule}
-use Rattle.molecule.specs.Record.{wellFormed, isAtom}
-use Rattle.search.specs.Place.{freshSearch, boundKept}
+use Rattle.molecule.specs.Record.{wellFormed}
+use Rattle.molecule.specs.Ends.{endsAnswer}
+use Rattle.molecule.proofs.Ends.{ends-refused, ends-accepted}
+use Rattle.search.specs.Place.{listsPaths, freshSearch, boundKept}
 use Rattle.search.specs.Entries.{acceptedSearch, refusedSearch, freshPaths, freshRingsUpTo, freshOfKind}
-use Rattle.search.specs.Entries.{startRings, startPaths, startRingsUpTo, startSearch}
+use Rattle.search.specs.Entries.{startRings, startPaths, startShortest, startRingsUpTo, startSearch}
+use Rattle.search.proofs.Readings.{path-no-ring}
 
 -- ---- rules 10 and 11
 
-module _ (n s t : ℕ) where
-  pub no-start : isAtom n s ≡ false → freshPaths n s t ≡ refusedSearch PathEnd
+module _ (n kind s t : ℕ) where
+  pub paths-refused : {r : Refusal} → endsAnswer n s t ≡ Refused r → freshPaths n kind s t ≡ refusedSearch r
   unfolding freshPaths
-  no-start e = rw e
+  paths-refused e = ends-refused n s t _ _ e
 
-  module _ (start : isAtom n s ≡ true) where
-    pub no-end : isAtom n t ≡ false → freshPaths n s t ≡ refusedSearch PathEnd
-    unfolding freshPaths
-    no-end e = rw (start, e)
-
-    module _ (end : isAtom n t ≡ true) where
-      pub same-ends : s ≡ t → freshPaths n s t ≡ refusedSearch SameEnds
-      unfolding freshPaths
-      same-ends e = rw (start, end, eq-eqb s t e)
-
-      pub paths-fresh : (s ≡ t → ⊥) → freshPaths n s t ≡ acceptedSearch (freshSearch 1 s t)
-      unfolding freshPaths
-      paths-fresh d = rw (start, end, ne-eqb s t d)
+  pub paths-fresh : endsAnswer n s t ≡ Accepted → freshPaths n kind s t ≡ acceptedSearch (freshSearch kind s t)
+  unfolding freshPaths
+  paths-fresh e = ends-accepted n s t _ _ e
 
 -- ---- rule 21
 
@@ -48,15 +42,15 @@ module _ (k : ℕ) where
 -- ---- rule 16, and then the rules of the kind
 
 module _ (n kind s t : ℕ) where
-  pub of-paths : kind ≡ 1 → freshOfKind n kind s t ≡ freshPaths n s t
+  pub of-paths : listsPaths kind ≡ true → freshOfKind n kind s t ≡ freshPaths n kind s t
   unfolding freshOfKind
-  of-paths one = rw (ne-eqb kind 0 (omega arith), eq-eqb kind 1 one)
+  of-paths path = rw (path-no-ring kind path, path)
 
-  module _ (other : kind ≡ 1 → ⊥) where
+  module _ (other : listsPaths kind ≡ false) where
     pub no-t : (t ≡ 0 → ⊥) → freshOfKind n kind s t ≡ refusedSearch MarkKind
     unfolding freshOfKind
     no-t d =
-        rw (ne-eqb t 0 d, and-false (eqb kind 0 && eqb s 0), ne-eqb kind 1 other, and-false (eqb kind 2))
+        rw (ne-eqb t 0 d, and-false (eqb kind 0 && eqb s 0), other, and-false (eqb kind 2))
 
     module _ (none : t ≡ 0) where
       pub of-size : kind ≡ 2 → freshOfKind n kind s t ≡ freshRingsUpTo s
@@ -65,7 +59,7 @@ module _ (n kind s t : ℕ) where
 
       pub no-kind : (kind ≡ 2 → ⊥) → (kind ≡ 0 → ⊥) → freshOfKind n kind s t ≡ refusedSearch MarkKind
       unfolding freshOfKind
-      no-kind two zero = rw (ne-eqb kind 0 zero, ne-eqb kind 1 other, ne-eqb kind 2 two)
+      no-kind two zero = rw (ne-eqb kind 0 zero, other, ne-eqb kind 2 two)
 
       module _ (zero : kind ≡ 0) where
         pub no-s : (s ≡ 0 → ⊥) → freshOfKind n kind s t ≡ refusedSearch MarkKind
@@ -97,6 +91,10 @@ module _ (mol : Molecule) where
   pub is-paths : (s t : ℕ) → startSearch mol 1 s t ≡ startPaths mol s t
   unfolding startSearch freshOfKind startPaths
   is-paths s t = refl
+
+  pub is-shortest : (s t : ℕ) → startSearch mol 3 s t ≡ startShortest mol s t
+  unfolding startSearch freshOfKind startShortest
+  is-shortest s t = refl
 
   pub is-size : (k : ℕ) → startSearch mol 2 k 0 ≡ startRingsUpTo mol k
   unfolding startSearch freshOfKind startRingsUpTo

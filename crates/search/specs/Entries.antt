@@ -1,5 +1,5 @@
 -- What starting and running return and leave in the output (document 01, "The search, trial by trial" and "Turned back
--- by number"; rule 21: document 02, F-4).
+-- by number"; rule 21 and kind 2: document 02, F-4; kind 3: F-14).
 use Prim.Native.Nat.{ℕ}
 use mathlib.Core.Bool.{_&&_, cond}
 use mathlib.Core.List.{List, _++_}
@@ -10,7 +10,8 @@ use Rattle.refusal.specs.declared.Refusal.the-variants as refusal
 use Rattle.refusal.specs.Number.{numberOf}
 use Rattle.enumeration.specs.Run.{Outcome, run, stopNumber}
 use Rattle.molecule.specs.declared.Molecule.{Molecule}
-use Rattle.molecule.specs.Record.{wellFormed, isAtom}
+use Rattle.molecule.specs.Record.{wellFormed}
+use Rattle.molecule.specs.Ends.{withEnds}
 use Rattle.search.specs.declared.Search.{Search}
 use Rattle.search.specs.declared.Made.{Made}
 use Rattle.refusal.specs.declared.Answer.the-variants.{Accepted}
@@ -19,7 +20,7 @@ use Rattle.search.specs.declared.Ran.{Ran}
 use Rattle.search.specs.declared.Ended.{Ended}
 use Rattle.search.specs.declared.Ended.the-variants.{Stopped}
 use Rattle.search.specs.declared.Ended.the-variants as ended
-use Rattle.search.specs.Place.{family, stateOf, searchAt, freshSearch, boundKept, restorable}
+use Rattle.search.specs.Place.{listsPaths, family, stateOf, searchAt, freshSearch, boundKept, restorable}
 
 abbrev pub acceptedSearch : Search → Made
 acceptedSearch q = record { answer = Accepted; search = q }
@@ -28,12 +29,9 @@ acceptedSearch q = record { answer = Accepted; search = q }
 abbrev pub refusedSearch : Refusal → Made
 refusedSearch r = record { answer = answer.Refused r; search = freshSearch 0 0 0 }
 
--- A fresh search for the paths from s to t among n atoms: rule 10, rule 11
-unfoldable pub freshPaths : ℕ → ℕ → ℕ → Made
-freshPaths n s t =
-    cond (isAtom n s && isAtom n t)
-    (cond (eqb s t) (refusedSearch refusal.SameEnds) (acceptedSearch (freshSearch 1 s t)))
-    (refusedSearch refusal.PathEnd)
+-- A fresh search of a kind that lists paths from s to t among n atoms: rule 10, rule 11
+unfoldable pub freshPaths : ℕ → ℕ → ℕ → ℕ → Made
+freshPaths n kind s t = withEnds n s t refusedSearch (acceptedSearch (freshSearch kind s t))
 
 -- A fresh search for the rings of at most k atoms: rule 21
 unfoldable pub freshRingsUpTo : ℕ → Made
@@ -44,7 +42,7 @@ freshRingsUpTo k = cond (boundKept k) (acceptedSearch (freshSearch 2 k 0)) (refu
 unfoldable pub freshOfKind : ℕ → ℕ → ℕ → ℕ → Made
 freshOfKind n kind s t =
     cond (eqb kind 0 && eqb s 0 && eqb t 0) (acceptedSearch (freshSearch 0 0 0))
-    (cond (eqb kind 1) (freshPaths n s t)
+    (cond (listsPaths kind) (freshPaths n kind s t)
     (cond (eqb kind 2 && eqb t 0) (freshRingsUpTo s)
     (refusedSearch refusal.MarkKind)))
 
@@ -58,7 +56,11 @@ startRings mol = onRecord mol (acceptedSearch (freshSearch 0 0 0))
 
 -- A fresh search for the paths from s to t: rule 9, rule 10, rule 11
 unfoldable pub startPaths : Molecule → ℕ → ℕ → Made
-startPaths mol s t = onRecord mol (freshPaths (mol .atoms) s t)
+startPaths mol s t = onRecord mol (freshPaths (mol .atoms) 1 s t)
+
+-- A fresh search for the shortest paths from s to t: rule 9, rule 10, rule 11
+unfoldable pub startShortest : Molecule → ℕ → ℕ → Made
+startShortest mol s t = onRecord mol (freshPaths (mol .atoms) 3 s t)
 
 -- A fresh search for the rings of at most k atoms: rule 9, rule 21
 unfoldable pub startRingsUpTo : Molecule → ℕ → Made
