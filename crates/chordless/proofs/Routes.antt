@@ -2,7 +2,7 @@
 -- that joins s to t is s and a route, and a shortest one is s and a route as long as the distance of s.
 use Prim.Native.Nat.{ℕ, zero, suc, _-_, _≤_, _<_}
 use mathlib.Core.Path.{_≡_, refl, sym, ap, _∙_}
-use mathlib.Core.Bool.{Bool, true, false, _&&_, not, cond}
+use mathlib.Core.Bool.{Bool, true, false, _&&_, cond}
 use mathlib.Core.List.{List, [], _∷_, _++_, List·Memᴰ, List·Memᴰ·not-nil, List·Memᴰ·cases-cons}
 use mathlib.Core.Logic.{inl, inr, _↔_}
 use native.Mathlib.Omega.{arith}
@@ -11,8 +11,7 @@ use native.Mathlib.Decide.{ℕ-discrete, decLt}
 use lib.ListN.{length}
 use lib.Dec.{leb, eqb}
 use borrow.Author.Tests.{leb-true, le-leb, eqb-true, eq-eqb, not-true}
-use Rattle.graph.specs.Every.{allBelow}
-use Rattle.graph.specs.Chordless.{Adjacency, atomAt, lastAtom, inRange}
+use Rattle.graph.specs.Chordless.{Adjacency, atomAt, lastAtom}
 use Rattle.graph.proofs.Below.{apart, clash, false-of, and-parts, allBelow-at, allBelow-of}
 use Rattle.graph.proofs.Facts.{InRange, inRange-at, inRange-of}
 use Rattle.enumeration.specs.Words.{any, words, joined, numbersFrom}
@@ -175,13 +174,10 @@ module _ (n : ℕ) (adj : Adjacency) (t : ℕ) where
     pub joins-facts : joins n adj s t xs ≡ true → Joins s xs
     unfolding joins
     joins-facts e =
-        let bonded = allBelow (length xs - 1) on in
-        let last = eqb (lastAtom xs) t in
-        let first = eqb (atomAt xs 0) s in
-        let (e1, b) = and-parts (leb 1 (length xs) && inRange n xs && first && last) bonded e in
-        let (e2, g) = and-parts (leb 1 (length xs) && inRange n xs && first) last e1 in
-        let (e3, f) = and-parts (leb 1 (length xs) && inRange n xs) first e2 in
-        let (l, r) = and-parts (leb 1 (length xs)) (inRange n xs) e3 in
+        let (e1, b) = and-parts _ _ e in
+        let (e2, g) = and-parts _ _ e1 in
+        let (e3, f) = and-parts _ _ e2 in
+        let (l, r) = and-parts _ _ e3 in
         record {
           long = leb-true 1 (length xs) l;
           range = inRange-at n xs r;
@@ -298,15 +294,14 @@ module _ (n : ℕ) (adj : Adjacency) (t : ℕ) where
       (r : List ℕ) × (w ≡ s ∷ r) × Atom n s × Route (length r) s r × Far n adj t (length r) s
   unfolding isShortest
   shortest-route s w e =
-      let (joined, fewest) = and-parts (joins n adj s t w) (not (any (joins n adj s t) (words n (length w - 1)))) e in
+      let (joined, fewest) = and-parts _ _ e in
       let (r, shape, atom, route) = joins-route s w (joins-facts s w joined) in
-      let none = not-true (any (joins n adj s t) (words n (length w - 1))) fewest in
+      let none : any (joins n adj s t) (words n (length w - 1)) ≡ false = not-true _ fewest in
       let size = ap length shape in
       let far : Far n adj t (length r) s = record {
         joined = route-ways route;
         no-nearer = λ k h. none-of (ways n adj t k s)
-            (λ l. clash (any (joins n adj s t) (words n (length w - 1)))
-            (joins-any s (length w - 1) k atom (omega arith) l) none);
+            (λ l. clash _ (joins-any s (length w - 1) k atom (omega arith) l) none);
       } in
       (r, shape, atom, route, far)
 

@@ -11,14 +11,14 @@ use lib.ListN.{length}
 use lib.Dec.{leb, ltb, eqb}
 use borrow.Author.Tests.{leb-true, le-leb, ltb-true, lt-ltb, eqb-true, eq-eqb, eqb-false, ne-eqb, not-true}
 use Rattle.graph.specs.Chordless.{Adjacency}
-use Rattle.graph.proofs.Below.{clash, and-parts, and-both, not-of}
+use Rattle.graph.proofs.Below.{clash, false-of, and-parts, and-both, not-of}
 use Rattle.graph.proofs.All.{all-head}
 use Rattle.enumeration.specs.Words.{Family, isOpen}
 use Rattle.enumeration.specs.Lawful.{Lawful}
 use Rattle.chordless.specs.Families.{rings, paths, upTo}
 use Rattle.chordless.specs.Reach.{Irreflexive, Walk, there, through, clear, free, closing, touchesOnlyLast, RingOpens, PathOpens}
 use Rattle.chordless.specs.Steers.{without, along, lastAfter, Onward, Steers}
-use Rattle.chordless.proofs.Members.{Bounded, open-has, open-of}
+use Rattle.chordless.proofs.Members.{Bounded, begins-append, open-has, open-of}
 use Rattle.chordless.proofs.Shortest.{walk-more}
 use Rattle.chordless.proofs.Rings.{ring-opens-long}
 use Rattle.chordless.proofs.Paths.{path-opens}
@@ -77,6 +77,20 @@ module _ {F : Family} (L : Lawful F) where
       goes-on a (c ∷ r) m =
           let opens = open-of F bounded y (p ++ a ∷ []) c r (rw append-assoc m) in
           rw (one v a may (steers-open k e a .0 opens .touches)) opens
+
+  -- a member opens nothing: none begins another
+  pub member-shuts : (p : List ℕ) (v : ℕ) → F .member (p ++ v ∷ []) ≡ true → isOpen F (p ++ v ∷ []) ≡ false
+  member-shuts p v = go p
+    where
+      shut : (x : ℕ) (w : List ℕ) → F .member (x ∷ w) ≡ true → isOpen F (x ∷ w) ≡ false
+      shut x w m =
+          false-of (isOpen F (x ∷ w))
+          (λ o. let (a, r, longer) = open-has F bounded x w o in
+          L .prefixFree (x ∷ w) (x ∷ w ++ a ∷ r) m longer (begins-append (x ∷ w) a r))
+
+      go : (p : List ℕ) → F .member (p ++ v ∷ []) ≡ true → isOpen F (p ++ v ∷ []) ≡ false
+      go [] m = shut v [] m
+      go (x ∷ p) m = shut x (p ++ v ∷ []) m
 
 -- ---- rings
 

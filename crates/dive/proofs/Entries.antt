@@ -19,7 +19,7 @@ use Rattle.openness.specs.Plan.{familyBy, mostAtoms, stepsLeft, firstLength, Ev
 use Rattle.search.proofs.Readings.{open-short}
 use Rattle.openness.proofs.Arrays.{taken-length, one-taken, open-atoms}
 use Rattle.openness.proofs.Plans.{family-by-lawful, family-by-atoms, first-few}
-use Rattle.openness.proofs.Aims.{place-atom, begun-steps}
+use Rattle.openness.proofs.Aims.{place-atom, begun-each, begun-steps}
 use Rattle.trial.specs.declared.Spot.{Spot}
 use Rattle.trial.specs.declared.Place.{Place}
 use Rattle.trial.specs.Parts.{stackOf, stateAt, Unwound}
@@ -72,10 +72,10 @@ module _ {n : ℕ} {table : List ℕ} {q : Search} {at : Spot} {first : FirstPla
       Steered family (linkedBy table) (mostAtoms (q .kind) (q .s)) (take (at .len) prefix)
       (getD prefix (at .len - 1) 0) aim →
       kept ≡ keptAim levels (at .len) aim → x ≡ getD prefix (at .len - 1) 0 →
-      steps ≡ stepsLeft (q .kind) (q .s) (at .len) → LevelPlanned (linkedBy table) x (at .len) steps kept planned →
+      steps ≡ stepsLeft (q .kind) (q .s) (at .len) → LevelPlanned (linkedBy table) (q .kind) x (at .len) steps kept planned →
       FirstStage n table (q .kind) (q .s) (q .t) prefix planned (at .len)
   starts-steered {aim} {kept} {planned} {steps = steps} long steered kept-is last-is left given =
-      let plan : LevelPlanned (linkedBy table) (getD prefix (at .len - 1) 0) (at .len) steps
+      let plan : LevelPlanned (linkedBy table) (q .kind) (getD prefix (at .len - 1) 0) (at .len) steps
       (keptAim levels (at .len) aim) planned = rw (kept-is, last-is) at given in
       let sets = kept-steers levels (at .len) aim (omega (arith, longer-room)) steered in
       record {
@@ -84,7 +84,8 @@ module _ {n : ℕ} {table : List ℕ} {q : Search} {at : Spot} {first : FirstPla
         long = λ h. planned-led plan sets;
         short = λ h. absurd (omega arith);
         to-try = λ v some.
-            plan .to-try family _ (take (at .len) prefix) sets (begun-steps (b .begun) left) v ∙ rw (le-leb 1 v some);
+            plan .to-try family _ (take (at .len) prefix) sets (begun-each (b .begun) (b .entered .some) refl)
+            (begun-steps (b .begun) left) v ∙ rw (le-leb 1 v some);
       }
 
   -- it is too short for them: the first plan tells of it

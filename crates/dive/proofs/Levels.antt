@@ -20,7 +20,7 @@ use Rattle.enumeration.specs.Words.{Family}
 use Rattle.chordless.proofs.Steers.{steers-same}
 use Rattle.openness.specs.declared.Aim.{Aim}
 use Rattle.openness.specs.declared.Plan.{Plan}
-use Rattle.openness.specs.Plan.{HandedOn, Steered, PlansBy}
+use Rattle.openness.specs.Plan.{EachOpens, HandedOn, Steered, PlansBy}
 use Rattle.dive.specs.Levels.{LevelRoom, aimIn, restIn, keptAim, keptRest, LevelPlanned, Led, LevelAdded}
 
 -- ---- sets with the same two words hold the same atoms
@@ -163,15 +163,16 @@ module _ (levels : List ℕ) (i : ℕ) (aim : Aim) where
 -- ---- a beginning is planned
 
 -- what is found for a beginning with the last atom x: the sets handed on, the plan, the atoms to be tried
-pub record Found (adj : Adjacency) (x steps : ℕ) (aim next : Aim) (plan : Plan) (rest : List ℕ) : Type 0 where
+pub record Found (adj : Adjacency) (kind x steps : ℕ) (aim next : Aim) (plan : Plan) (rest : List ℕ) : Type 0 where
   pub handing : HandedOn adj x aim next
-  pub telling : PlansBy adj x aim steps plan
+  pub telling : PlansBy adj kind x aim steps plan
   pub either-set : (v : ℕ) → has rest v ≡ (has (plan .members) v || has (plan .opens) v)
 
-module _ {adj : Adjacency} {x steps : ℕ} {next : Aim} {plan : Plan} {rest : List ℕ} where
+module _ {adj : Adjacency} {kind x steps : ℕ} {next : Aim} {plan : Plan} {rest : List ℕ} where
   kept-planned :
-      (levels : List ℕ) (len : ℕ) → LevelRoom (suc len) levels → Found adj x steps (aimIn levels len) next plan rest →
-      LevelPlanned adj x len steps levels (keptRest (keptAim levels (suc len) next) len rest)
+      (levels : List ℕ) (len : ℕ) → LevelRoom (suc len) levels →
+      Found adj kind x steps (aimIn levels len) next plan rest →
+      LevelPlanned adj kind x len steps levels (keptRest (keptAim levels (suc len) next) len rest)
   kept-planned levels len room found =
       let longer = keptAim levels (suc len) next in
       let room′ : LevelRoom len longer = omega (arith, length-kept-aim levels (suc len) next) in
@@ -185,8 +186,8 @@ module _ {adj : Adjacency} {x steps : ℕ} {next : Aim} {plan : Plan} {rest : Li
               ap (λ (a : Aim). has (a .free) u) (aim-past-rest longer len rest (suc len))
               ∙ free-kept-same levels (suc len) next room u ∙ found .handing .free-left u;
         };
-        to-try = λ F longest p steered left v.
-            let tells = found .telling F longest p steered left v in
+        to-try = λ F longest p steered each left v.
+            let tells = found .telling F longest p steered each left v in
             rest-kept-same longer len rest room′ v ∙ found .either-set v
             ∙ ap₂ _||_ (tells .members) (tells .opens);
         aims-kept = λ i l.
@@ -197,8 +198,8 @@ module _ {adj : Adjacency} {x steps : ℕ} {next : Aim} {plan : Plan} {rest : Li
 
   pub level-planned :
       {levels longer after : List ℕ} {len : ℕ} {aim : Aim} → LevelRoom (suc len) levels →
-      aim ≡ aimIn levels len → Found adj x steps aim next plan rest → longer ≡ keptAim levels (len + 1) next →
-      after ≡ keptRest longer len rest → LevelPlanned adj x len steps levels after
+      aim ≡ aimIn levels len → Found adj kind x steps aim next plan rest → longer ≡ keptAim levels (len + 1) next →
+      after ≡ keptRest longer len rest → LevelPlanned adj kind x len steps levels after
   level-planned {levels} {longer} {after} {len} {aim} room aim-is found kept kept-rest =
       rw (kept-rest, kept, add-one len) (kept-planned levels len room (rw aim-is at found))
 
@@ -219,7 +220,7 @@ module _ {F : Family} {adj : Adjacency} {longest : ℕ} {p : List ℕ} {x : ℕ}
 
   -- they are as they were after the beginning is planned
   pub planned-led :
-      {len steps : ℕ} {before after : List ℕ} → LevelPlanned adj x len steps before after →
+      {kind len steps : ℕ} {before after : List ℕ} → LevelPlanned adj kind x len steps before after →
       Steered F adj longest p x (aimIn before len) → Led F adj longest p x (aimIn after len) (aimIn after (suc len))
   planned-led {len} plan k =
       let still = plan .aims-kept len (omega arith) in
@@ -234,15 +235,16 @@ steered-at prefix last-is same steered = rw (last-is, same) steered
 
 -- ---- a beginning that has got its last atom
 
-module _ {F : Family} {adj : Adjacency} {longest first x len steps : ℕ} {prefix levels after : List ℕ}
+module _ {F : Family} {adj : Adjacency} {kind longest first x len steps : ℕ} {prefix levels after : List ℕ}
+    (each : kind ≡ 3 → EachOpens F adj (take len prefix) x)
     (left : steps ≡ longest - suc (length (take len prefix))) where
   -- the shortest that the sets steer: they are made and kept
   pub added-first :
       (aim : Aim) {kept : List ℕ} → LevelRoom len levels → len ≡ first →
       Steered F adj longest (take len prefix) x aim → kept ≡ keptAim levels len aim →
-      LevelPlanned adj x len steps kept after → LevelAdded F adj longest first x len prefix levels after
+      LevelPlanned adj kind x len steps kept after → LevelAdded F adj longest first x len prefix levels after
   added-first aim {kept} room same steered kept-is planned =
-      let plan : LevelPlanned adj x len steps (keptAim levels len aim) after = rw kept-is at planned in
+      let plan : LevelPlanned adj kind x len steps (keptAim levels len aim) after = rw kept-is at planned in
       let sets = kept-steers levels len aim room steered in
       record {
         size = plan .size ∙ length-kept-aim levels len aim;
@@ -250,12 +252,12 @@ module _ {F : Family} {adj : Adjacency} {longest first x len steps : ℕ} {prefi
         aim-kept = λ l. absurd (omega arith);
         rests-kept = λ i l. plan .rests-kept i (omega arith) ∙ rest-past-aim levels len aim i;
         led = λ before. planned-led plan sets;
-        to-try = λ before. plan .to-try F longest (take len prefix) sets left;
+        to-try = λ before. plan .to-try F longest (take len prefix) sets each left;
       }
 
   -- a longer one: they were handed on
   pub added-later :
-      first ≤ len → (len ≡ first → ⊥) → LevelPlanned adj x len steps levels after →
+      first ≤ len → (len ≡ first → ⊥) → LevelPlanned adj kind x len steps levels after →
       LevelAdded F adj longest first x len prefix levels after
   added-later long other plan = record {
     size = plan .size;
@@ -263,5 +265,5 @@ module _ {F : Family} {adj : Adjacency} {longest first x len steps : ℕ} {prefi
     aim-kept = λ l. plan .aims-kept len (omega arith);
     rests-kept = λ i l. plan .rests-kept i (omega arith);
     led = λ before. planned-led plan (before (omega arith));
-    to-try = λ before. plan .to-try F longest (take len prefix) (before (omega arith)) left;
+    to-try = λ before. plan .to-try F longest (take len prefix) (before (omega arith)) each left;
   }

@@ -11,7 +11,7 @@ use Rattle.enumeration.specs.Words.{Family, isOpen}
 use Rattle.enumeration.specs.Lawful.{Lawful}
 use Rattle.atomset.specs.Set.{has}
 use Rattle.openness.specs.declared.Aim.{Aim}
-use Rattle.openness.specs.Plan.{HandedOn, Steered}
+use Rattle.openness.specs.Plan.{HandedOn, EachOpens, Steered}
 
 -- there is room for what is kept of the beginnings of i atoms, and so of shorter ones
 abbrev pub LevelRoom : ℕ → List ℕ → Type 0
@@ -42,12 +42,13 @@ goesOnBy F p v = F .member (p ++ v ∷ []) || isOpen F (p ++ v ∷ [])
 
 -- the beginning of `len` atoms with the last atom x, past which so many steps are left, is planned: the atoms to be
 -- tried are kept, and the sets handed on; the other lengths are as they were
-pub record LevelPlanned (adj : Adjacency) (x len steps : ℕ) (before after : List ℕ) : Type 0 where
+pub record LevelPlanned (adj : Adjacency) (kind x len steps : ℕ) (before after : List ℕ) : Type 0 where
   pub size : length after ≡ length before
   pub handed : HandedOn adj x (aimIn before len) (aimIn after (suc len))
   pub to-try :
       (F : Family) (longest : ℕ) (p : List ℕ) → Steered F adj longest p x (aimIn before len) →
-      steps ≡ longest - suc (length p) → (v : ℕ) → has (restIn after len) v ≡ goesOnBy F p v
+      (kind ≡ 3 → EachOpens F adj p x) → steps ≡ longest - suc (length p) → (v : ℕ) →
+      has (restIn after len) v ≡ goesOnBy F p v
   pub aims-kept : (i : ℕ) → i ≤ len → aimIn after i ≡ aimIn before i
   pub rests-kept : (i : ℕ) → suc i ≤ len → restIn after i ≡ restIn before i
 

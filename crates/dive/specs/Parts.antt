@@ -13,7 +13,7 @@ use Rattle.atomset.specs.Set.{linkedBy}
 use Rattle.search.specs.declared.Search.{Search}
 use Rattle.search.specs.Place.{kindKept}
 use Rattle.openness.specs.declared.FirstPlan.{FirstPlan}
-use Rattle.openness.specs.Plan.{familyBy, mostAtoms, firstLength, FirstTells, Words, Beginning}
+use Rattle.openness.specs.Plan.{familyBy, mostAtoms, firstLength, FirstTells, SearchTable, Beginning}
 use Rattle.trial.specs.declared.Spot.{Spot}
 use Rattle.trial.specs.Parts.{stackOf, stateAt, HeldWithRoom}
 use Rattle.dive.specs.declared.Dived.{Dived}
@@ -102,7 +102,7 @@ FirstStage n table kind s t prefix levels len =
 -- what the fast loop starts from: an open beginning, at most one atom shorter than those that two sets steer
 pub record Descent (n : ℕ) (table : List ℕ) (kind s t most : ℕ) (from : Spot) (start : ℕ) (prefix levels out : List ℕ)
     : Type 0 where
-  pub words : Words n table
+  pub words : SearchTable n table kind t
   pub kinds : kindKept n kind s t ≡ true
   pub sized : LevelRoom n levels
   pub standing : HeldWithRoom prefix (from .len)

@@ -7,8 +7,7 @@ ghost use Prim.Native.Nat.{suc, _-_, _≤_};
 ghost use lib.ListN.{length};
 ghost use Rattle.enumeration.specs.Run.{limit};
 ghost use Rattle.atomset.specs.Set.{linkedBy};
-ghost use Rattle.chordless.specs.Reach.{Symmetric};
-ghost use Rattle.openness.specs.Plan.{familyBy, mostAtoms, firstLength};
+ghost use Rattle.openness.specs.Plan.{familyBy, mostAtoms, firstLength, BothWays};
 ghost use Rattle.dive.specs.Levels.{LevelRoom, aimIn, restIn, keptAim, keptRest, LevelPlanned, LevelAdded};
 ghost use Rattle.dive.specs.Parts.{Rising, listedAt, extendedAt, droppedAt, Room, Bounds, Added, Starting};
 ghost use Rattle.dive.specs.Parts.{FirstStage, Descent, Left, Entering, Entered, Descended};
@@ -72,15 +71,22 @@ fn keep_rest(levels: &mut [u64], i: usize, rest: [u64; 2])
 
 // Plans the beginning of `len` atoms with the last atom x, past which so many steps are left: keeps the atoms to be
 // tried, and the sets of the beginnings that have an atom more.
-fn plan_level(table: &[u64; 256], levels: &mut [u64], len: usize, x: usize, steps: usize)
+fn plan_level(
+    table: &[u64; 256],
+    kind: usize,
+    levels: &mut [u64],
+    len: usize,
+    x: usize,
+    steps: usize,
+)
     requires { ⌜
-        Symmetric (linkedBy (now table)) × (len ≤ 127) × (1 ≤ x) × (x ≤ 128) × LevelRoom (suc len) (now levels) ⌝ }
+        BothWays kind (linkedBy (now table)) × (len ≤ 127) × (1 ≤ x) × (x ≤ 128) × LevelRoom (suc len) (now levels) ⌝ }
     ensures { λ _. ⌜
-        LevelPlanned (linkedBy (now (table .entry))) x len steps (now (levels .entry)) (now (levels .exit)) ⌝ }
+        LevelPlanned (linkedBy (now (table .entry))) kind x len steps (now (levels .entry)) (now (levels .exit)) ⌝ }
 {
     let aim = aim_in(levels, len);
     let next = openness::aim_after(table, aim, x);
-    let plan = openness::plan_by(table, aim, next, x, steps);
+    let plan = openness::plan_by(table, kind, aim, next, x, steps);
     let members = plan.members;
     let opens = plan.opens;
     let rest = atomset::union(members, opens);
@@ -111,7 +117,7 @@ fn plan_added(
         keep_aim(levels, len, aim);
     }
     let steps = openness::steps_left(kind, s, len);
-    plan_level(table, levels, len, x, steps);
+    plan_level(table, kind, levels, len, x, steps);
 }
 
 // The place after the trials from the next atom up to v, of which the last lists its word.
@@ -286,7 +292,7 @@ fn plan_start(
     let aim = openness::aim_at(table, n, q.kind, q.s, q.t, prefix, len);
     keep_aim(levels, len, aim);
     let steps = openness::steps_left(q.kind, q.s, len);
-    plan_level(table, levels, len, u8_usize(prefix[len - 1]), steps);
+    plan_level(table, q.kind, levels, len, u8_usize(prefix[len - 1]), steps);
 }
 
 // The trials below an open beginning of q whose next atom is 1, as long as none of them can stop the run; then the

@@ -4,9 +4,9 @@ use Prim.Native.Nat.{ℕ, suc, _+_, _-_, _≤_, _<_}
 use native.Mathlib.Omega.{arith}
 use native.Mathlib.Nat.{not-suc-le-zero}
 use native.Mathlib.Numerals.{add-one}
-use mathlib.Core.Path.{_≡_, sym, _∙_}
+use mathlib.Core.Path.{_≡_, sym, ap, _∙_}
 use mathlib.Core.Bool.{Bool, true, false, _&&_, not, cond}
-use mathlib.Core.List.{List, [], _∷_}
+use mathlib.Core.List.{List, [], _∷_, _++_}
 use lib.ListN.{length, take, getD}
 use lib.Seq.{take-suc}
 use lib.Dec.{leb, ltb, eqb}
@@ -16,18 +16,21 @@ use Rattle.enumeration.specs.Lawful.{Lawful}
 use Rattle.chordless.specs.Families.{paths, upTo}
 use Rattle.chordless.specs.Steers.{Steers}
 use Rattle.chordless.proofs.Steers.{steers-more, steers-same, rings-steer, paths-steer}
-use Rattle.chordless.proofs.UpTo.{upto-room}
+use Rattle.chordless.proofs.UpTo.{upto-room, upto-all}
+use Rattle.chordless.proofs.Lawful.{paths-lawful}
+use Rattle.chordless.proofs.Nearer.{leading-opens}
 use Rattle.chordless.proofs.Bounds.{paths-open}
 use Rattle.chordless.proofs.Paths.{path-stem}
 use Rattle.atomset.specs.Set.{has, linkedBy}
+use Rattle.search.specs.Place.{listsPaths}
 use Rattle.openness.specs.declared.Aim.{Aim}
 use Rattle.openness.specs.Plan.{familyBy, mostAtoms, stepsLeft, ringsBy, pathsBy, firstLength}
-use Rattle.openness.specs.Plan.{Beginning, Steered, HandedOn}
+use Rattle.openness.specs.Plan.{Beginning, Steered, HandedOn, EachOpens}
 use Rattle.openness.specs.Parts.{TwoAtoms, TwoEnds}
 use Rattle.openness.proofs.Steps.{Row}
 use Rattle.openness.proofs.Arrays.{taken-length, one-taken, two-taken, open-atoms}
 use Rattle.openness.proofs.Plans.{family-rings, family-paths, family-bounded, most-paths, family-by-lawful, family-by-atoms}
-use Rattle.openness.proofs.Plans.{first-of-rings, first-of-paths}
+use Rattle.openness.proofs.Plans.{ring-words, first-of-rings, first-of-paths}
 use Rattle.openness.proofs.Opens.{open-shorter, OpenTo, open-beside}
 
 -- ---- the first sets
@@ -51,13 +54,13 @@ pub path-aimed :
     Steers (pathsBy n table s t) (linkedBy table) 128 (s ∷ []) s goal free
 path-aimed {n} {table} {s} {t} b goal-is all-is free-is =
     steers-same (λ u. sym (goal-is u)) (λ u. sym (free-is u ∙ rw (all-is u)))
-    (paths-steer n (linkedBy table) (b .words .irreflexive) 128 s t)
+    (paths-steer n (linkedBy table) (b .irreflexive) 128 s t)
 
 -- ---- a beginning in its array
 
 -- the first length of each kind
 pub first-some : (kind : ℕ) → 1 ≤ firstLength kind
-first-some kind = go (eqb kind 1)
+first-some kind = go (listsPaths kind)
   where
     go : (b : Bool) → 1 ≤ cond b 1 2
     go true = omega arith
@@ -94,7 +97,7 @@ module _ {n : ℕ} {table : List ℕ} {kind s t : ℕ} {prefix : List ℕ} {len 
   -- it has fewer atoms than a member may have
   pub begun-room : 1 ≤ len → len < mostAtoms kind s
   begun-room some =
-      let (F, L, same) = family-bounded n table kind s t (b .words .few) in
+      let (F, L, same) = family-bounded n table kind s t (b .words) in
       omega (arith, size, below F L (take len prefix) (omega (arith, size)) (rw same at (b .isOpened)))
     where
       size : length (take len prefix) ≡ len
@@ -106,6 +109,28 @@ module _ {n : ℕ} {table : List ℕ} {kind s t : ℕ} {prefix : List ℕ} {len 
           length p < mostAtoms kind s
       below F L [] h e = absurd (not-suc-le-zero h)
       below F L (x ∷ p) h e = upto-room (mostAtoms kind s) F (λ w m. (L .short w m, L .inRange w m)) x p e
+
+  -- of shortest paths each atom bonded to its last one makes a member or opens it
+  pub begun-each :
+      1 ≤ len → {x : ℕ} → x ≡ getD prefix (len - 1) 0 → kind ≡ 3 →
+      EachOpens (familyBy n table kind s t) (linkedBy table) (take len prefix) x
+  begun-each some {x} at three v bond none =
+      rw (same, split) (leading-opens (b .words .leading three) s (take (len - 1) prefix) x v
+      (rw (same, split) at (b .isOpened)) bond (rw (same, split) at none))
+    where
+      path : listsPaths kind ≡ true
+      path = rw three
+
+      same : familyBy n table kind s t ≡ paths n (linkedBy table) s t
+      same =
+          family-paths n table kind s t path (b .words)
+          ∙ upto-all 128 (paths n (linkedBy table) s t) (paths-lawful n (linkedBy table) s t) (b .words .few)
+
+      split : take len prefix ≡ take (len - 1) prefix ++ x ∷ []
+      split =
+          let whole : len ≡ suc (len - 1) = omega arith in
+          ap (λ (k : ℕ). take k prefix) whole
+          ∙ take-suc prefix (len - 1) 0 (omega (arith, b .size, b .short)) ∙ rw at
 
   -- the steps left past it
   pub begun-steps :
@@ -131,7 +156,7 @@ module _ {n : ℕ} {table : List ℕ} {kind s t : ℕ} {prefix : List ℕ} {len 
       }
 
   -- a first beginning of a ring: two atoms
-  module _ (first : len ≡ firstLength kind) (ring : kind ≡ 1 → ⊥) {x y : ℕ} (at-first : x ≡ atomAt prefix 0)
+  module _ (first : len ≡ firstLength kind) (ring : listsPaths kind ≡ false) {x y : ℕ} (at-first : x ≡ atomAt prefix 0)
       (at-second : y ≡ atomAt prefix 1) where
     two : len ≡ 2
     two = first ∙ first-of-rings kind ring
@@ -142,7 +167,7 @@ module _ {n : ℕ} {table : List ℕ} {kind s t : ℕ} {prefix : List ℕ} {len 
         let one = begun-atom 0 (omega arith) at-first in
         let other = begun-atom 1 (omega arith) at-second in
         record {
-          words = b .words;
+          words = ring-words (b .words) ring;
           first-low = one .0;
           first-high = one .1;
           second-low = other .0;
@@ -165,7 +190,7 @@ module _ {n : ℕ} {table : List ℕ} {kind s t : ℕ} {prefix : List ℕ} {len 
         (rw (family-rings n table kind s t ring (b .words .few), two-read, two-last) (k (mostAtoms kind s)))
 
   -- a first beginning of a path: one atom, s
-  module _ (first : len ≡ firstLength kind) (path : kind ≡ 1) where
+  module _ (first : len ≡ firstLength kind) (path : listsPaths kind ≡ true) where
     one : len ≡ 1
     one = first ∙ first-of-paths kind path
 
@@ -175,7 +200,7 @@ module _ {n : ℕ} {table : List ℕ} {kind s t : ℕ} {prefix : List ℕ} {len 
     one-is : atomAt prefix 0 ≡ s
     one-is =
         path-first n (linkedBy table) s t 128 (atomAt prefix 0)
-        (rw (family-paths n table kind s t path (b .words .few), one-read) at (b .isOpened))
+        (rw (family-paths n table kind s t path (b .words), one-read) at (b .isOpened))
 
     one-last : getD prefix (len - 1) 0 ≡ s
     one-last = rw one one-is
@@ -186,9 +211,8 @@ module _ {n : ℕ} {table : List ℕ} {kind s t : ℕ} {prefix : List ℕ} {len 
         SteeredHere aim
     first-path k =
         let long = one in
-        let few = b .words .few in
         steered-here (omega arith)
-        (rw (family-paths n table kind s t path few, most-paths n table kind s t path, one-read, one-last, one-is) k)
+        (rw (family-paths n table kind s t path (b .words), most-paths n table kind s t path, one-read, one-last, one-is) k)
 
 -- ---- the loop over the places
 

@@ -3,12 +3,15 @@
 -- By function extensionality, from the equality at every two atoms.
 use Prim.Native.Nat.{ℕ, _≤_}
 use native.Mathlib.Omega.{arith}
-use mathlib.Core.Path.{_≡_, ap, fun-ext, _∙_}
+use native.Mathlib.Decide.{ℕ-discrete}
+use mathlib.Core.Path.{_≡_, sym, ap, fun-ext, _∙_}
 use mathlib.Core.Bool.{true}
 use mathlib.Core.List.{List, [], _∷_, _++_}
 use lib.ListN.{length, take}
 use Rattle.graph.specs.Chordless.{Adjacency}
 use Rattle.enumeration.specs.Words.{Family, isOpen}
+use Rattle.chordless.specs.Distance.{Nearing}
+use Rattle.chordless.proofs.Nearer.{nearing-leading, nearing-same, leading-irreflexive}
 use Rattle.molecule.specs.declared.Molecule.{Molecule}
 use Rattle.molecule.specs.Record.{bonded, wellFormed}
 use Rattle.molecule.proofs.Bonds.{rule9, bonded-irreflexive}
@@ -18,8 +21,56 @@ use Rattle.search.specs.declared.Search.{Search}
 use Rattle.search.specs.Place.{familyIn, familyOf, family, beginning, kindKept}
 use Rattle.openness.specs.declared.Plan.{Plan}
 use Rattle.openness.specs.declared.FirstPlan.{FirstPlan}
-use Rattle.openness.specs.Plan.{familyBy, Words, Tells, Planned, FirstTells, Beginning, Planning}
+use Rattle.openness.specs.Plan.{familyBy, Words, SearchTable, Tells, Planned, FirstTells, Beginning, Planning}
+use Rattle.distance.specs.Layers.{Measured}
+use Rattle.search.proofs.Readings.{ends-facts}
 use Rattle.openness.proofs.Arrays.{taken-length}
+use Rattle.openness.proofs.Plans.{kind-ends}
+
+-- ---- the table of a search over n atoms
+
+module _ {n : ℕ} {table : List ℕ} {kind t : ℕ} where
+  -- of every kind but 3 the word table
+  pub words-table : Words n table → (kind ≡ 3 → ⊥) → SearchTable n table kind t
+  words-table words other =
+      record {
+        few = words .few;
+        irreflexive = words .irreflexive;
+        both-ways = λ d. words .symmetric;
+        leading = λ three. absurd (other three);
+      }
+
+  -- of shortest paths the bonds that lead one nearer to t
+  pub near-table : {adj : Adjacency} → n ≤ 128 → kind ≡ 3 → Nearing n adj t (linkedBy table) → SearchTable n table kind t
+  near-table few three k =
+      record {
+        few = few;
+        irreflexive = leading-irreflexive (nearing-leading k);
+        both-ways = λ d. absurd (d three);
+        leading = λ e. nearing-leading k;
+      }
+
+-- they have the shortest paths
+pub near-family :
+    {n t : ℕ} {adj near : Adjacency} (kind s : ℕ) → kind ≡ 3 → Nearing n adj t near →
+    familyIn n near kind s t ≡ familyIn n adj kind s t
+unfolding familyIn
+near-family kind s three k = rw three (sym (nearing-same k s))
+
+module _ (n : ℕ) (words : List ℕ) (kind s t : ℕ) (three : kind ≡ 3) where
+  -- they are found where rule 16 allows the search
+  pub near-measured : Words n words → kindKept n kind s t ≡ true → Measured n (linkedBy words) t
+  near-measured k kept =
+      let ends = ends-facts n s t (kind-ends n words kind s t (rw three) kept) in
+      record { few = k .few; both-ways = k .symmetric; atom = record { low = ends .t-low; high = ends .t-high } }
+
+  pub near-open :
+      (near p : List ℕ) → Nearing n (linkedBy words) t (linkedBy near) →
+      isOpen (familyBy n near kind s t) p ≡ isOpen (familyBy n words kind s t) p
+  unfolding familyBy
+  near-open near p k = ap (λ (F : Family). isOpen F p) (near-family kind s three k)
+
+-- ---- on a molecule
 
 module _ (mol : Molecule) (ok : wellFormed mol ≡ true) (table : List ℕ) (words : WordsOf (mol .rows) table) where
   -- The table is that of n atoms
@@ -31,7 +82,7 @@ module _ (mol : Molecule) (ok : wellFormed mol ≡ true) (table : List ℕ) (wor
         irreflexive = λ u l h. linked-bonded mol ok table words u u ∙ bonded-irreflexive mol ok u;
       }
 
-  linked-same : linkedBy table ≡ bonded (mol .atoms) (mol .rows)
+  pub linked-same : linkedBy table ≡ bonded (mol .atoms) (mol .rows)
   linked-same = fun-ext (λ a. fun-ext (λ b. linked-bonded mol ok table words a b))
 
   -- Its families are the record's
@@ -46,13 +97,47 @@ module _ (mol : Molecule) (ok : wellFormed mol ≡ true) (table : List ℕ) (wor
   unfolding beginning
   open-same q = ap (λ (F : Family). isOpen F (take (q .len) (q .prefix))) (family-same (q .kind) (q .s) (q .t))
 
+-- The table of a search of a kind to t: that of `words_of`; of shortest paths that of `nearing`
+pub record TableOf (mol : Molecule) (kind t : ℕ) (table : List ℕ) : Type 0 where
+  pub plain : (kind ≡ 3 → ⊥) → WordsOf (mol .rows) table
+  pub near : kind ≡ 3 → Nearing (mol .atoms) (bonded (mol .atoms) (mol .rows)) t (linkedBy table)
+
+-- The word table of the record's rows, and the bonds that lead nearer, found over it
+module _ (mol : Molecule) (kind t : ℕ) (words : List ℕ) where
+  pub plain-of : (kind ≡ 3 → ⊥) → WordsOf (mol .rows) words → TableOf mol kind t words
+  plain-of other k = record { plain = λ d. k; near = λ three. absurd (other three) }
+
+  module _ (ok : wellFormed mol ≡ true) (three : kind ≡ 3) (k : WordsOf (mol .rows) words) where
+    pub measured-of : (s : ℕ) → kindKept (mol .atoms) kind s t ≡ true → Measured (mol .atoms) (linkedBy words) t
+    measured-of s kept = near-measured (mol .atoms) words kind s t three (table-words mol ok words k) kept
+
+    pub near-of :
+        (near : List ℕ) → Nearing (mol .atoms) (linkedBy words) t (linkedBy near) → TableOf mol kind t near
+    near-of near found =
+        record { plain = λ other. absurd (other three); near = λ e. rw (linked-same mol ok words k) at found }
+
+module _ {mol : Molecule} (ok : wellFormed mol ≡ true) {kind t : ℕ} {table : List ℕ} (k : TableOf mol kind t table) where
+  pub table-of : SearchTable (mol .atoms) table kind t
+  table-of = elim (ℕ-discrete kind 3) [
+    | yes three ↦ near-table (rule9 mol ok .atoms-high) three (k .near three)
+    | no other ↦ words-table (table-words mol ok table (k .plain other)) other
+  ]
+
+  -- Its families are the record's
+  pub family-of : (s : ℕ) → familyBy (mol .atoms) table kind s t ≡ familyOf mol kind s t
+  unfolding familyBy familyOf
+  family-of s = elim (ℕ-discrete kind 3) [
+    | yes three ↦ near-family kind s three (k .near three)
+    | no other ↦ family-same mol ok table (k .plain other) kind s t
+  ]
+
 -- ---- from a record to the answer
 
--- A record that rule 9 allows, the word table that `words_of` returns for its rows, a kind of search that rule 16
--- allows, an open beginning in its array, and an atom c
+-- A record that rule 9 allows, the table of a search on it, of a kind that rule 16 allows, an open beginning in its
+-- array, and an atom c
 pub record Asked (mol : Molecule) (table : List ℕ) (kind s t : ℕ) (prefix : List ℕ) (len c : ℕ) : Type 0 where
   pub allowed : wellFormed mol ≡ true
-  pub words : WordsOf (mol .rows) table
+  pub words : TableOf mol kind t table
   pub kinds : kindKept (mol .atoms) kind s t ≡ true
   pub size : length prefix ≡ 128
   pub short : len ≤ 127
@@ -91,7 +176,7 @@ words-answer-openness {mol} {table} {kind} {s} {t} {prefix} {len} {c} q =
     }
   where
     same : familyBy (mol .atoms) table kind s t ≡ familyOf mol kind s t
-    same = family-same mol (q .allowed) table (q .words) kind s t
+    same = family-of (q .allowed) (q .words) s
 
     length-is : length (take len prefix) ≡ len
     length-is = taken-length prefix len (q .size) (omega (arith, q .short))
@@ -99,7 +184,7 @@ words-answer-openness {mol} {table} {kind} {s} {t} {prefix} {len} {c} q =
     begun : Beginning (mol .atoms) table kind s t prefix len
     begun =
         record {
-          words = table-words mol (q .allowed) table (q .words);
+          words = table-of (q .allowed) (q .words);
           kinds = q .kinds;
           size = q .size;
           short = q .short;

@@ -12,17 +12,18 @@ use lib.ListN.{length, take, drop, take-append-drop}
 use lib.Seq.{take-suc, take-take}
 use borrow.Author.Tests.{not-true, not-false}
 use Rattle.graph.specs.Chordless.{atomAt}
-use Rattle.graph.proofs.Below.{clash, false-of}
+use mathlib.Core.Logic.{_⊎_, inl, inr}
+use Rattle.graph.proofs.Below.{clash, either, false-of}
 use Rattle.enumeration.specs.Words.{Family, isOpen}
 use Rattle.enumeration.specs.Lawful.{Lawful}
 use Rattle.chordless.proofs.Members.{Bounded, open-has, open-of}
 use Rattle.molecule.specs.Record.{isAtom}
 use Rattle.atomset.specs.Set.{has}
 use Rattle.atomset.proofs.Members.{has-range}
-use Rattle.search.specs.Place.{kindKept}
+use Rattle.search.specs.Place.{listsPaths, kindKept}
 use Rattle.search.proofs.Readings.{atom-of}
 use Rattle.openness.specs.declared.Plan.{Plan}
-use Rattle.openness.specs.Plan.{familyBy, mostAtoms, ringsBy, pathsBy, firstLength, Words, Tells, Beginning}
+use Rattle.openness.specs.Plan.{familyBy, mostAtoms, ringsBy, pathsBy, firstLength, SearchTable, Tells, Beginning}
 use Rattle.openness.proofs.Arrays.{one-taken, two-taken, open-atoms}
 use Rattle.openness.proofs.Rings.{rings-by-lawful}
 use Rattle.openness.proofs.Plans.{family-rings, family-paths, family-by-lawful, family-by-atoms, first-of-rings, first-of-paths, first-few}
@@ -95,7 +96,7 @@ pub record OpenTo (n : ℕ) (table : List ℕ) (kind s t : ℕ) (prefix : List �
 module _ {n : ℕ} {table : List ℕ} {kind s t : ℕ} {prefix : List ℕ} {len i : ℕ}
     (k : OpenTo n table kind s t prefix len i) where
   pub open-beginning :
-      Words n table × (kindKept n kind s t ≡ true) × (length prefix ≡ 128) × (len ≤ 127) →
+      SearchTable n table kind t × (kindKept n kind s t ≡ true) × (length prefix ≡ 128) × (len ≤ 127) →
       Beginning n table kind s t prefix i
   open-beginning (words, kinds, size, short) =
       record {
@@ -130,7 +131,7 @@ module _ {n : ℕ} {table : List ℕ} {kind s t : ℕ} {prefix : List ℕ} {len 
 -- the empty beginning
 pub open-none :
     {n : ℕ} {table : List ℕ} {kind s t : ℕ} {prefix : List ℕ} {len : ℕ} →
-    Words n table × (kindKept n kind s t ≡ true) × (length prefix ≡ 128) × (len ≤ 127) →
+    SearchTable n table kind t × (kindKept n kind s t ≡ true) × (length prefix ≡ 128) × (len ≤ 127) →
     Beginning n table kind s t prefix 0
 open-none {n} {table} {kind} {s} {t} known =
     let opened = open-empty (familyBy n table kind s t) (family-by-lawful n table kind s t) in
@@ -154,16 +155,16 @@ module _ (n : ℕ) (table : List ℕ) (most : ℕ) (prefix : List ℕ) (size : l
       {len : ℕ} {opens : Bool} (kind s t : ℕ) → n ≤ 128 → most ≡ mostAtoms kind s → 1 ≤ len → len < firstLength kind →
       opens ≡ isOpen (ringsBy n table most) (take 1 prefix) →
       opens ≡ isOpen (familyBy n table kind s t) (take len prefix)
-  one-of-rings {len} kind s t few most-is some short told = told ∙ sym (go (ℕ-discrete kind 1))
+  one-of-rings {len} kind s t few most-is some short told = told ∙ sym (go (either (listsPaths kind)))
     where
       one : len ≡ 1
       one = omega (arith, first-few kind)
 
       go :
-          Dec (kind ≡ 1) →
+          (listsPaths kind ≡ true) ⊎ (listsPaths kind ≡ false) →
           isOpen (familyBy n table kind s t) (take len prefix) ≡ isOpen (ringsBy n table most) (take 1 prefix)
-      go (yes path) = absurd (omega (arith, first-of-paths kind path))
-      go (no ring) = rw (family-rings n table kind s t ring few, one, most-is)
+      go (inl path) = absurd (omega (arith, first-of-paths kind path))
+      go (inr ring) = rw (family-rings n table kind s t ring few, one, most-is)
 
 -- ---- the shortest beginning that two sets steer, tested by itself
 
@@ -171,20 +172,20 @@ module _ (n : ℕ) (table : List ℕ) (kind s t : ℕ) (prefix : List ℕ) where
   abbrev FirstOpens : Bool → Type 0
   FirstOpens opens = opens ≡ isOpen (familyBy n table kind s t) (take (firstLength kind) prefix)
 
-  module _ (few : n ≤ 128) (size : length prefix ≡ 128) where
+  module _ (words : SearchTable n table kind t) (size : length prefix ≡ 128) where
     pub first-path-opens :
-        {a : ℕ} {opens : Bool} → kind ≡ 1 → a ≡ atomAt prefix 0 →
+        {a : ℕ} {opens : Bool} → listsPaths kind ≡ true → a ≡ atomAt prefix 0 →
         opens ≡ isOpen (pathsBy n table s t) (a ∷ []) → FirstOpens opens
     first-path-opens path at told =
-        told ∙ rw (family-paths n table kind s t path few, first-of-paths kind path, one-taken prefix size, at)
+        told ∙ rw (family-paths n table kind s t path words, first-of-paths kind path, one-taken prefix size, at)
 
     pub first-ring-opens :
-        {most a b : ℕ} {opens : Bool} → (kind ≡ 1 → ⊥) → most ≡ mostAtoms kind s → a ≡ atomAt prefix 0 →
+        {most a b : ℕ} {opens : Bool} → listsPaths kind ≡ false → most ≡ mostAtoms kind s → a ≡ atomAt prefix 0 →
         b ≡ atomAt prefix 1 → opens ≡ isOpen (ringsBy n table most) (a ∷ b ∷ []) → FirstOpens opens
     first-ring-opens ring most-is at at-next told =
         told ∙
         rw (
-          family-rings n table kind s t ring few,
+          family-rings n table kind s t ring (words .few),
           first-of-rings kind ring,
           two-taken prefix size,
           most-is,
@@ -194,7 +195,7 @@ module _ (n : ℕ) (table : List ℕ) (kind s t : ℕ) (prefix : List ℕ) where
 
     -- no atom stands at one of its places
     pub first-no-atom :
-        {i v : ℕ} → (kind ≡ 1 → ⊥) → i < 2 → v ≡ atomAt prefix i → isAtom n v ≡ false → FirstOpens false
+        {i v : ℕ} → listsPaths kind ≡ false → i < 2 → v ≡ atomAt prefix i → isAtom n v ≡ false → FirstOpens false
     first-no-atom ring h at none =
         let two = first-of-rings kind ring in
         let short : firstLength kind ≤ 128 = omega arith in
@@ -209,7 +210,8 @@ module _ (n : ℕ) (table : List ℕ) (kind s t : ℕ) (prefix : List ℕ) where
         (sym told ∙ not-true opens fails)
 
     pub first-goes-on :
-        Words n table × (kindKept n kind s t ≡ true) × (length prefix ≡ 128) × (len ≤ 127) → not opens ≡ false →
+        SearchTable n table kind t × (kindKept n kind s t ≡ true) × (length prefix ≡ 128) × (len ≤ 127) →
+        not opens ≡ false →
         Beginning n table kind s t prefix (firstLength kind)
     first-goes-on known passes =
         open-beginning (record { within = h; opened = sym told ∙ not-false opens passes }) known

@@ -1,18 +1,24 @@
--- Openness of a beginning of one atom of a path, from what a sweep tells: only s begins a path from s to t.
--- By `path-opens-none`, with s the sole candidate of the sweep.
+-- Openness of a beginning of one atom of a path: only s begins a path from s to t, and whether it does is told by a
+-- sweep of which s is the sole candidate, or by its row where every bond leads nearer to t.
 use Prim.Native.Nat.{ℕ}
-use mathlib.Core.Path.{_≡_, refl, sym, _∙_}
+use mathlib.Core.Path.{_≡_, refl, sym, ap, _∙_}
 use mathlib.Core.Bool.{Bool, true, false, _&&_, and-true}
 use mathlib.Core.List.{List, [], _∷_}
 use mathlib.Core.Logic.{_↔_}
 use lib.Dec.{leb, eqb}
-use borrow.Author.Tests.{eq-eqb, eqb-true}
-use Rattle.graph.proofs.Below.{false-of, same-test}
-use Rattle.enumeration.specs.Words.{isOpen}
+use native.Mathlib.Decide.{ℕ-discrete}
+use borrow.Author.Tests.{eq-eqb, ne-eqb, eqb-true}
+use Rattle.graph.proofs.Below.{clash, false-of, same-test}
+use Rattle.enumeration.specs.Words.{Family, isOpen}
 use Rattle.chordless.specs.Reach.{Walk, clear, free}
+use Rattle.chordless.specs.Families.{paths}
+use Rattle.chordless.specs.Distance.{Leading}
 use Rattle.chordless.proofs.Paths.{path-opens-none}
+use Rattle.chordless.proofs.Lawful.{paths-lawful}
+use Rattle.chordless.proofs.UpTo.{upto-all}
+use Rattle.chordless.proofs.Nearer.{leading-starts}
 use Rattle.search.proofs.Readings.{ends-facts}
-use Rattle.atomset.specs.Set.{linkedBy}
+use Rattle.atomset.specs.Set.{has, linkedBy, Emptiness}
 use Rattle.sweep.specs.Swept.{Reached}
 use Rattle.sweep.proofs.Walks.{reached-same}
 use Rattle.openness.specs.Plan.{pathsBy}
@@ -24,7 +30,7 @@ module _ {n : ℕ} {table : List ℕ} {s t : ℕ} (b : TwoEnds n table s t) wher
       ((c ≡ s) × Walk (linkedBy table) (free n (linkedBy table) 0 []) t 127 s)
   start-opens c =
       let e = ends-facts n s t (b .ends) in
-      path-opens-none n (linkedBy table) s t (b .words .irreflexive) 128 c (e .differ) (e .s-low, e .s-high)
+      path-opens-none n (linkedBy table) s t (b .irreflexive) 128 c (e .differ) (e .s-low, e .s-high)
       (e .t-low, e .t-high)
 
   pub start-other : {c : ℕ} → (c ≡ s → ⊥) → isOpen (pathsBy n table s t) (c ∷ []) ≡ false
@@ -57,3 +63,33 @@ module _ {n : ℕ} {table : List ℕ} {s t : ℕ} (b : TwoEnds n table s t) wher
       back o =
           let (is-s, walk) = start-opens v .0 o in
           sweeps v .1 (want-is v ∙ eq-eqb v s is-s, (t, eq-eqb t t refl, rw is-s walk))
+
+  -- every bond leads nearer to t: the row of s tells
+  module _ (leading : Leading n t (linkedBy table)) {row : List ℕ} (row-is : (v : ℕ) → has row v ≡ linkedBy table s v)
+      {empty : Bool} (told : Emptiness row empty) where
+    s-opens : (isOpen (pathsBy n table s t) (s ∷ []) ≡ true) ↔ ((v : ℕ) × (linkedBy table s v ≡ true))
+    s-opens =
+        rw (upto-all 128 (paths n (linkedBy table) s t) (paths-lawful n (linkedBy table) s t) (b .few))
+        (leading-starts leading s)
+
+    -- no bond leads on from s
+    pub none-led : empty ≡ true → (v : ℕ) → has row v ≡ isOpen (pathsBy n table s t) (v ∷ [])
+    none-led empties v = told .none empties v ∙ sym (false-of (isOpen (pathsBy n table s t) (v ∷ [])) shut)
+      where
+        shut : isOpen (pathsBy n table s t) (v ∷ []) ≡ true → ⊥
+        shut o =
+            let is-s = start-opens v .0 o .0 in
+            let (a, bond) = s-opens .0 (rw is-s at o) in
+            clash (has row a) (row-is a ∙ bond) (told .none empties a)
+
+    -- some bond does
+    pub one-led :
+        {alone : ℕ → Bool} → ((v : ℕ) → alone v ≡ eqb v s) → empty ≡ false → (v : ℕ) →
+        alone v ≡ isOpen (pathsBy n table s t) (v ∷ [])
+    one-led {alone} alone-is some v = alone-is v ∙ go (ℕ-discrete v s)
+      where
+        go : Dec (v ≡ s) → eqb v s ≡ isOpen (pathsBy n table s t) (v ∷ [])
+        go (yes e) =
+            let (a, held) = told .some some in
+            eq-eqb v s e ∙ sym (rw e (s-opens .1 (a, sym (row-is a) ∙ held)))
+        go (no d) = ne-eqb v s d ∙ sym (start-other d)

@@ -7,64 +7,96 @@ use native.Mathlib.Omega.{arith}
 use mathlib.Core.Path.{_≡_, refl, sym, _∙_}
 use mathlib.Core.Bool.{Bool, true, false, _&&_, cond}
 use mathlib.Core.List.{List, [], _∷_}
-use mathlib.Core.Logic.{inl, inr}
+use mathlib.Core.Logic.{_⊎_, inl, inr}
 use lib.ListN.{take}
 use lib.Dec.{leb, eqb}
 use borrow.Author.Tests.{eq-eqb, ne-eqb, le-leb, lt-leb}
 use Rattle.graph.specs.Chordless.{Adjacency, atomAt}
-use Rattle.graph.proofs.Below.{clash}
+use Rattle.graph.proofs.Below.{clash, either, false-of}
 use Rattle.enumeration.specs.Words.{Family, isOpen}
 use Rattle.enumeration.specs.Lawful.{Lawful}
-use Rattle.chordless.specs.Families.{rings, paths, upTo}
+use Rattle.chordless.specs.Families.{rings, paths, upTo, shortestPaths}
 use Rattle.chordless.proofs.UpTo.{upto-all}
 use Rattle.chordless.proofs.Lawful.{rings-lawful, paths-lawful}
 use Rattle.chordless.proofs.Paths.{path-not-one}
+use Rattle.chordless.proofs.Nearer.{leading-paths}
 use Rattle.atomset.specs.Set.{has, linkedBy}
-use Rattle.search.specs.Place.{familyIn, kindKept, endsKept}
-use Rattle.search.proofs.Readings.{family-in-lawful, family-in-atoms, kind-facts, KindFacts, ends-facts, ends-of, bound-facts}
+use Rattle.search.specs.Place.{familyIn, listsPaths, kindKept, endsKept}
+use Rattle.search.proofs.Readings.{family-in-lawful, family-in-atoms, kind-facts, KindFacts, path-kinds, ends-facts, ends-of, bound-facts}
 use Rattle.openness.specs.declared.Plan.{Plan}
 use Rattle.openness.specs.declared.FirstPlan.{FirstPlan}
 use Rattle.openness.specs.declared.Found.{Found}
 use Rattle.openness.specs.Plan.{familyBy, mostAtoms, ringsBy, pathsBy, firstLength}
-use Rattle.openness.specs.Plan.{Planned, Ahead, Everywhere, Beginning, Planning, FoundAt}
+use Rattle.openness.specs.Plan.{Words, SearchTable, Planned, Ahead, Everywhere, Beginning, Planning, FoundAt}
 use Rattle.openness.specs.Parts.{OneAtom, TwoEnds, FirstOf, FirstAhead, ShortRing, PathFirsts}
 use Rattle.openness.proofs.Arrays.{one-taken, open-atoms}
 use Rattle.openness.proofs.Rings.{rings-by-lawful, ring-by-not-short}
 
+-- ---- the table of a search
+
+-- no path is listed: the kind is neither 1 nor 3
+no-path-kinds : (kind : ℕ) → listsPaths kind ≡ false → (kind ≡ 1 → ⊥) × (kind ≡ 3 → ⊥)
+no-path-kinds kind ring = (
+  λ one. clash (listsPaths kind) (rw one) ring,
+  λ three. clash (listsPaths kind) (rw three) ring,
+)
+
+-- of a kind that lists rings, its bonds go both ways
+pub ring-words :
+    {n : ℕ} {table : List ℕ} {kind t : ℕ} → SearchTable n table kind t → listsPaths kind ≡ false → Words n table
+ring-words {kind = kind} words ring =
+    record {
+      few = words .few;
+      symmetric = words .both-ways (no-path-kinds kind ring .1);
+      irreflexive = words .irreflexive;
+    }
+
 -- ---- the family of a kind
 
 module _ (n : ℕ) (table : List ℕ) (kind s t : ℕ) where
-  -- of every kind but 1, rings of at most so many atoms: where the kind has no bound, no ring exceeds 128
-  pub family-rings : (kind ≡ 1 → ⊥) → n ≤ 128 → familyBy n table kind s t ≡ ringsBy n table (mostAtoms kind s)
+  -- of every kind that lists no paths, rings of at most so many atoms: where it has no bound, no ring exceeds 128
+  pub family-rings : listsPaths kind ≡ false → n ≤ 128 → familyBy n table kind s t ≡ ringsBy n table (mostAtoms kind s)
   unfolding familyBy familyIn
-  family-rings d few = go (ℕ-discrete kind 0)
+  family-rings ring few = go (ℕ-discrete kind 0)
     where
       adj : Adjacency
       adj = linkedBy table
 
       go :
           Dec (kind ≡ 0) →
-          cond (eqb kind 0) (rings n adj) (cond (eqb kind 1) (paths n adj s t) (upTo s (rings n adj)))
+          cond (eqb kind 0) (rings n adj)
+          (cond (eqb kind 1) (paths n adj s t) (cond (eqb kind 3) (shortestPaths n adj s t) (upTo s (rings n adj))))
           ≡ ringsBy n table (mostAtoms kind s)
       go (yes e) = rw e (sym (upto-all 128 (rings n adj) (rings-lawful n adj) few))
-      go (no other) = rw (ne-eqb kind 0 other, ne-eqb kind 1 d, lt-leb kind 1 (omega arith))
+      go (no other) =
+          let (no-path, no-shortest) = no-path-kinds kind ring in
+          rw (ne-eqb kind 0 other, ne-eqb kind 1 no-path, ne-eqb kind 3 no-shortest, lt-leb kind 1 (omega arith))
 
-  pub family-paths : kind ≡ 1 → n ≤ 128 → familyBy n table kind s t ≡ pathsBy n table s t
+  -- of the others, paths: where every bond leads nearer to t, the shortest paths are all paths
+  pub family-paths : listsPaths kind ≡ true → SearchTable n table kind t → familyBy n table kind s t ≡ pathsBy n table s t
   unfolding familyBy familyIn
-  family-paths e few =
-      let adj = linkedBy table in
-      rw e (sym (upto-all 128 (paths n adj s t) (paths-lawful n adj s t) few))
+  family-paths path words = go (path-kinds kind path) ∙ sym (upto-all 128 _ (paths-lawful n (linkedBy table) s t) (words .few))
+    where
+      go :
+          (kind ≡ 1) ⊎ (kind ≡ 3) → familyIn n (linkedBy table) kind s t ≡ paths n (linkedBy table) s t
+      go (inl one) = rw one
+      go (inr three) = rw three (leading-paths (words .leading three) s)
 
-  pub most-paths : kind ≡ 1 → mostAtoms kind s ≡ 128
-  most-paths e = rw e
+  pub most-paths : listsPaths kind ≡ true → mostAtoms kind s ≡ 128
+  most-paths path = elim (path-kinds kind path) [
+    | inl one ↦ rw one
+    | inr three ↦ rw three
+  ]
 
   -- of every kind, the members of a family that have at most so many atoms
-  pub family-bounded : n ≤ 128 → (F : Family) × Lawful F × (familyBy n table kind s t ≡ upTo (mostAtoms kind s) F)
-  family-bounded few =
+  pub family-bounded :
+      SearchTable n table kind t →
+      (F : Family) × Lawful F × (familyBy n table kind s t ≡ upTo (mostAtoms kind s) F)
+  family-bounded words =
       let adj = linkedBy table in
-      elim (ℕ-discrete kind 1) [
-        | yes e ↦ (paths n adj s t, paths-lawful n adj s t, rw (most-paths e) (family-paths e few))
-        | no d ↦ (rings n adj, rings-lawful n adj, family-rings d few)
+      elim (either (listsPaths kind)) [
+        | inl path ↦ (paths n adj s t, paths-lawful n adj s t, rw (most-paths path) (family-paths path words))
+        | inr ring ↦ (rings n adj, rings-lawful n adj, family-rings ring (words .few))
       ]
 
   pub family-by-lawful : Lawful (familyBy n table kind s t)
@@ -75,13 +107,15 @@ module _ (n : ℕ) (table : List ℕ) (kind s t : ℕ) where
   unfolding familyBy
   family-by-atoms = family-in-atoms n (linkedBy table) kind s t
 
-  pub kind-ends : kind ≡ 1 → kindKept n kind s t ≡ true → endsKept n s t ≡ true
-  kind-ends one e = go (kind-facts n kind s t e)
+  pub kind-ends : listsPaths kind ≡ true → kindKept n kind s t ≡ true → endsKept n s t ≡ true
+  kind-ends path e = go (kind-facts n kind s t e) (path-kinds kind path)
     where
-      go : KindFacts n kind s t → endsKept n s t ≡ true
-      go (inl f) = absurd (omega arith)
-      go (inr (inl f)) = ends-of n s t (f .1)
-      go (inr (inr f)) = absurd (omega arith)
+      go : KindFacts n kind s t → (kind ≡ 1) ⊎ (kind ≡ 3) → endsKept n s t ≡ true
+      go (inl f) (inl one) = absurd (omega arith)
+      go (inl f) (inr three) = absurd (omega arith)
+      go (inr (inl f)) k = ends-of n s t (f .1)
+      go (inr (inr f)) (inl one) = absurd (omega arith)
+      go (inr (inr f)) (inr three) = absurd (omega arith)
 
   -- every kind has room for a ring
   pub most-room : kindKept n kind s t ≡ true → 3 ≤ mostAtoms kind s
@@ -89,20 +123,24 @@ module _ (n : ℕ) (table : List ℕ) (kind s t : ℕ) where
     where
       go : KindFacts n kind s t → 3 ≤ mostAtoms kind s
       go (inl f) = rw (f .0) (omega arith)
-      go (inr (inl f)) = rw (f .0) (omega arith)
+      go (inr (inl f)) = rw (most-paths (f .0)) (omega arith)
       go (inr (inr (two, bound, t-zero))) =
           let (low, high) = bound-facts bound in
           rw two (omega arith)
 
 -- the first length of each kind
-pub first-of-rings : (kind : ℕ) → (kind ≡ 1 → ⊥) → firstLength kind ≡ 2
-first-of-rings kind d = rw (ne-eqb kind 1 d)
+pub first-of-rings : (kind : ℕ) → listsPaths kind ≡ false → firstLength kind ≡ 2
+first-of-rings kind ring = rw ring
 
-pub first-of-paths : (kind : ℕ) → kind ≡ 1 → firstLength kind ≡ 1
-first-of-paths kind e = rw (eq-eqb kind 1 e)
+pub first-of-paths : (kind : ℕ) → listsPaths kind ≡ true → firstLength kind ≡ 1
+first-of-paths kind path = rw path
+
+-- where one atom is too few for two sets, rings are listed
+pub short-ring-kind : (kind : ℕ) → 1 < firstLength kind → listsPaths kind ≡ false
+short-ring-kind kind h = false-of (listsPaths kind) (λ path. omega (arith, first-of-paths kind path))
 
 pub first-few : (kind : ℕ) → firstLength kind ≤ 2
-first-few kind = go (eqb kind 1)
+first-few kind = go (listsPaths kind)
   where
     go : (b : Bool) → cond b 1 2 ≤ 2
     go true = omega arith
@@ -215,9 +253,13 @@ module _ {n : ℕ} {table : List ℕ} {most : ℕ} {prefix : List ℕ} {len c : 
 
 pub path-ends :
     {n : ℕ} {table : List ℕ} {kind s t : ℕ} {prefix : List ℕ} {len : ℕ} → Beginning n table kind s t prefix len →
-    kind ≡ 1 → TwoEnds n table s t
-path-ends {n} {table} {kind} {s} {t} b e =
-    record { words = b .words; ends = kind-ends n table kind s t e (b .kinds) }
+    listsPaths kind ≡ true → TwoEnds n table s t
+path-ends {n} {table} {kind} {s} {t} b path =
+    record {
+      few = b .words .few;
+      irreflexive = b .words .irreflexive;
+      ends = kind-ends n table kind s t path (b .kinds);
+    }
 
 module _ {n : ℕ} {table : List ℕ} {kind s t : ℕ} {prefix : List ℕ} {len c : ℕ} {first : FirstPlan}
     (q : Planning n table kind s t prefix len c first) where
@@ -231,14 +273,14 @@ module _ {n : ℕ} {table : List ℕ} {kind s t : ℕ} {prefix : List ℕ} {len 
   steered-found k = record { planned = planned-every k; tells = q .tells }
 
   -- a ring search
-  module _ (d : kind ≡ 1 → ⊥) {most : ℕ} (most-is : most ≡ mostAtoms kind s) where
+  module _ (ring : listsPaths kind ≡ false) {most : ℕ} (most-is : most ≡ mostAtoms kind s) where
     same : familyBy n table kind s t ≡ ringsBy n table most
-    same = rw most-is (family-rings n table kind s t d (q .begun .words .few))
+    same = rw most-is (family-rings n table kind s t ring (q .begun .words .few))
 
     pub ring-asked : len < firstLength kind → ShortRing n table most prefix len c first
     ring-asked short =
         record {
-          words = q .begun .words;
+          words = ring-words (q .begun .words) ring;
           room = rw most-is (most-room n table kind s t (q .begun .kinds));
           size = q .begun .size;
           short = omega (arith, first-few kind);
@@ -253,7 +295,7 @@ module _ {n : ℕ} {table : List ℕ} {kind s t : ℕ} {prefix : List ℕ} {len 
 
   -- a path search, at the empty beginning
   pub path-found :
-      {none opens : List ℕ} → kind ≡ 1 → len < firstLength kind → ((v : ℕ) → has none v ≡ false) →
+      {none opens : List ℕ} → listsPaths kind ≡ true → len < firstLength kind → ((v : ℕ) → has none v ≡ false) →
       PathFirsts n table s t opens → FoundBy (record { plan = record { members = none; opens = opens }; first = first })
   path-found {none} {opens} e before none-is opens-is = record { planned = planned; tells = q .tells }
     where
@@ -261,7 +303,7 @@ module _ {n : ℕ} {table : List ℕ} {kind s t : ℕ} {prefix : List ℕ} {len 
       planned =
           let empty : len ≡ 0 = omega (arith, first-of-paths kind e) in
           let differ = ends-facts n s t (path-ends (q .begun) e .ends) .differ in
-          rw (family-paths n table kind s t e (q .begun .words .few), none-taken prefix empty)
+          rw (family-paths n table kind s t e (q .begun .words), none-taken prefix empty)
           (planned-every
           (λ v. record {
             members = none-is v ∙ sym (rw (path-not-one n (linkedBy table) s t v differ));

@@ -5,12 +5,13 @@ use mathlib.Core.Path.{_≡_, sym, fun-ext, _∙_}
 use mathlib.Core.Bool.{Bool, true, _&&_, not}
 use mathlib.Core.List.{List, [], _∷_, _++_}
 use lib.ListN.{length}
+use borrow.Author.Tests.{not-true}
 use Rattle.graph.specs.Chordless.{Adjacency}
-use Rattle.graph.proofs.Below.{clash, false-of, same-test}
+use Rattle.graph.proofs.Below.{clash, false-of, same-test, and-parts, and-both, not-of}
 use Rattle.enumeration.specs.Words.{Family, isOpen}
 use Rattle.chordless.specs.Reach.{Reaches}
 use Rattle.chordless.specs.Steers.{without}
-use Rattle.chordless.proofs.Steers.{steers-member, steers-open, sole-opens}
+use Rattle.chordless.proofs.Steers.{steers-member, steers-open, sole-opens, member-shuts}
 use Rattle.atomset.specs.Set.{has, Emptiness, AtMostOne}
 use Rattle.sweep.specs.Swept.{Reached}
 use Rattle.openness.specs.declared.Aim.{Aim}
@@ -37,8 +38,8 @@ handed-on row-is goal-is free-is =
 
 -- ---- what opens
 
-module _ {F : Family} {adj : Adjacency} {most : ℕ} {p : List ℕ} {x : ℕ} {aim next : Aim} {steps : ℕ}
-    {members want : List ℕ} (k : Stepping F adj most p x aim next steps members want) where
+module _ {F : Family} {adj : Adjacency} {kind most : ℕ} {p : List ℕ} {x : ℕ} {aim next : Aim} {steps : ℕ}
+    {members want : List ℕ} (k : Stepping F adj kind most p x aim next steps members want) where
   -- the atoms that the sets handed on reach, as those of `Onward`
   abbrev Ahead : ℕ → Type 0
   Ahead v = Reaches adj (has (next .free)) (has (next .goal)) steps v
@@ -92,6 +93,28 @@ module _ {F : Family} {adj : Adjacency} {most : ℕ} {p : List ℕ} {x : ℕ} {a
           (λ u. sym (k .members-is u) ∙ no-member .none empties u)
           (λ u w a b. one .sole alone u w (k .want-is u ∙ a) (k .want-is w ∙ b)) v
 
+  -- of shortest paths each candidate opens that makes no member
+  pub each-opens :
+      {opens : ℕ → Bool} → kind ≡ 3 → ((v : ℕ) → opens v ≡ (has want v && not (has members v))) → (v : ℕ) →
+      opens v ≡ isOpen F (p ++ v ∷ [])
+  each-opens three opens-is v =
+      opens-is v ∙ same-test (has want v && not (has members v)) (isOpen F (p ++ v ∷ [])) to back
+    where
+      member-is : F .member (p ++ v ∷ []) ≡ has members v
+      member-is = steers-member (k .steered .steers) (k .steered .isOpened) v ∙ sym (k .members-is v)
+
+      to : (has want v && not (has members v)) ≡ true → isOpen F (p ++ v ∷ []) ≡ true
+      to e =
+          let (wanted, other) = and-parts (has want v) (not (has members v)) e in
+          let (free, bonded) = and-parts (has (aim .free) v) (adj x v) (sym (k .want-is v) ∙ wanted) in
+          k .each three v bonded (member-is ∙ not-true (has members v) other)
+
+      back : isOpen F (p ++ v ∷ []) ≡ true → (has want v && not (has members v)) ≡ true
+      back o =
+          let none = false-of (has members v) (λ m.
+          clash (isOpen F (p ++ v ∷ [])) o (member-shuts (k .steered .lawful) p v (member-is ∙ m))) in
+          and-both (has want v) (not (has members v)) (opening-wanted v o) (not-of (has members v) none)
+
   -- otherwise the sweep tells
   pub sweep-opens :
       {swept : ℕ → Bool} → Reached adj (has (next .free)) (has (next .goal)) steps (has want) swept → (v : ℕ) →
@@ -110,18 +133,19 @@ module _ {F : Family} {adj : Adjacency} {most : ℕ} {p : List ℕ} {x : ℕ} {a
 module _ {adj : Adjacency} {x : ℕ} {aim next : Aim} {near : Beside} (handed : HandedOn adj x aim next)
     (k : BesideLast adj x aim near) where
   pub plan-told :
-      {steps : ℕ} {opens : List ℕ} →
+      {kind steps : ℕ} {opens : List ℕ} →
       ((F : Family) (most : ℕ) (p : List ℕ) (y : ℕ) (before : Aim) →
-      Stepping F adj most p y before next steps (near .members) (near .want) →
+      Stepping F adj kind most p y before next steps (near .members) (near .want) →
       (v : ℕ) → has opens v ≡ isOpen F (p ++ v ∷ [])) →
-      PlansBy adj x aim steps (record { members = near .members; opens = opens })
-  plan-told opens-is F most p steered left v =
+      PlansBy adj kind x aim steps (record { members = near .members; opens = opens })
+  plan-told opens-is F most p steered each left v =
       record {
         members = k .members-is v ∙ sym (steers-member (steered .steers) (steered .isOpened) v);
         opens =
             opens-is F most p x aim
             (record {
               steered = steered;
+              each = each;
               left = left;
               handed = handed;
               members-is = k .members-is;

@@ -7,12 +7,13 @@ use mathlib.Core.List.{List, [], _∷_}
 use lib.ListN.{length, take}
 use Rattle.graph.specs.Chordless.{Adjacency}
 use Rattle.enumeration.specs.Words.{Family, isOpen}
-use Rattle.atomset.specs.Set.{has}
+use Rattle.chordless.specs.Reach.{Irreflexive}
+use Rattle.atomset.specs.Set.{has, linkedBy}
 use Rattle.search.specs.Place.{endsKept}
 use Rattle.openness.specs.declared.Aim.{Aim}
 use Rattle.openness.specs.declared.Beside.{Beside}
 use Rattle.openness.specs.declared.FirstPlan.{FirstPlan}
-use Rattle.openness.specs.Plan.{ringsBy, pathsBy, Words, Everywhere, HandedOn, Steered, FirstTells}
+use Rattle.openness.specs.Plan.{ringsBy, pathsBy, Words, Everywhere, HandedOn, Steered, EachOpens, FirstTells}
 
 -- an atom that may begin a ring of at most so many atoms
 pub record OneAtom (n : ℕ) (table : List ℕ) (most c : ℕ) : Type 0 where
@@ -29,9 +30,10 @@ pub record TwoAtoms (n : ℕ) (table : List ℕ) (s v : ℕ) : Type 0 where
   pub second-low : 1 ≤ v
   pub second-high : v ≤ n
 
--- the ends of a path
+-- the ends of a path, over a table of n atoms
 pub record TwoEnds (n : ℕ) (table : List ℕ) (s t : ℕ) : Type 0 where
-  pub words : Words n table
+  pub few : n ≤ 128
+  pub irreflexive : Irreflexive n (linkedBy table)
   pub ends : endsKept n s t ≡ true
 
 -- the closing atoms and the free ones that are bonded to the last atom x
@@ -39,10 +41,12 @@ pub record BesideLast (adj : Adjacency) (x : ℕ) (aim : Aim) (near : Beside) : 
   pub members-is : (v : ℕ) → has (near .members) v ≡ (has (aim .goal) v && adj x v)
   pub want-is : (v : ℕ) → has (near .want) v ≡ (has (aim .free) v && adj x v)
 
--- a beginning that the sets steer, the sets handed on, the steps left, its members and its candidates
-pub record Stepping (F : Family) (adj : Adjacency) (most : ℕ) (p : List ℕ) (x : ℕ) (aim next : Aim) (steps : ℕ)
+-- a beginning that the sets steer, the sets handed on, the steps left, its members and its candidates; of shortest
+-- paths each atom beside the last one makes a member or opens
+pub record Stepping (F : Family) (adj : Adjacency) (kind most : ℕ) (p : List ℕ) (x : ℕ) (aim next : Aim) (steps : ℕ)
     (members want : List ℕ) : Type 0 where
   pub steered : Steered F adj most p x aim
+  pub each : kind ≡ 3 → EachOpens F adj p x
   pub left : steps ≡ most - suc (length p)
   pub handed : HandedOn adj x aim next
   pub members-is : (v : ℕ) → has members v ≡ (has (aim .goal) v && adj x v)

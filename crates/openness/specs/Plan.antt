@@ -1,7 +1,7 @@
 -- What a trial finds at a beginning, as two sets of atoms, over the word table of a molecule's rows.
 use Prim.Native.Nat.{ℕ, suc, _-_, _≤_, _<_}
 use mathlib.Core.Path.{_≡_}
-use mathlib.Core.Bool.{true, false, cond}
+use mathlib.Core.Bool.{true, false, _||_, cond}
 use mathlib.Core.List.{List, [], _∷_, _++_}
 use lib.ListN.{length, take}
 use lib.Dec.{leb, eqb}
@@ -10,9 +10,10 @@ use Rattle.enumeration.specs.Words.{Family, isOpen}
 use Rattle.enumeration.specs.Lawful.{Lawful}
 use Rattle.chordless.specs.Families.{rings, paths, upTo}
 use Rattle.chordless.specs.Reach.{Irreflexive, Symmetric}
+use Rattle.chordless.specs.Distance.{Leading}
 use Rattle.chordless.specs.Steers.{without, Steers}
 use Rattle.atomset.specs.Set.{has, linkedBy}
-use Rattle.search.specs.Place.{familyIn, kindKept}
+use Rattle.search.specs.Place.{familyIn, listsPaths, kindKept}
 use Rattle.openness.specs.declared.Plan.{Plan}
 use Rattle.openness.specs.declared.Aim.{Aim}
 use Rattle.openness.specs.declared.FirstPlan.{FirstPlan}
@@ -22,9 +23,9 @@ use Rattle.openness.specs.declared.Found.{Found}
 unfoldable pub familyBy : ℕ → List ℕ → ℕ → ℕ → ℕ → Family
 familyBy n table kind s t = familyIn n (linkedBy table) kind s t
 
--- the most atoms that a member may have: of kind 2 its largest size s; of kinds 0 and 1 128, which no member exceeds
+-- the most atoms that a member may have: of kind 2 its largest size s; of the other kinds 128, which no member exceeds
 abbrev pub mostAtoms : ℕ → ℕ → ℕ
-mostAtoms kind s = cond (leb kind 1) 128 s
+mostAtoms kind s = cond (leb kind 1 || eqb kind 3) 128 s
 
 -- the steps that are left past an atom added to a beginning of `len` atoms
 abbrev pub stepsLeft : ℕ → ℕ → ℕ → ℕ
@@ -42,6 +43,18 @@ pub record Words (n : ℕ) (table : List ℕ) : Type 0 where
   pub few : n ≤ 128
   pub symmetric : Symmetric (linkedBy table)
   pub irreflexive : Irreflexive n (linkedBy table)
+
+-- the bonds of a table go both ways, but for those of shortest paths
+abbrev pub BothWays : ℕ → Adjacency → Type 0
+BothWays kind adj = (kind ≡ 3 → ⊥) → Symmetric adj
+
+-- The table of a search of a kind to t: a word table of n atoms; of shortest paths it has the bonds that lead one nearer
+-- to t, and only these
+pub record SearchTable (n : ℕ) (table : List ℕ) (kind t : ℕ) : Type 0 where
+  pub few : n ≤ 128
+  pub irreflexive : Irreflexive n (linkedBy table)
+  pub both-ways : BothWays kind (linkedBy table)
+  pub leading : kind ≡ 3 → Leading n t (linkedBy table)
 
 -- The sets tell whether the beginning p with v added is a member, and whether it is open
 pub record Tells (F : Family) (p : List ℕ) (plan : Plan) (v : ℕ) : Type 0 where
@@ -68,7 +81,7 @@ FirstTells F first = 1 ≤ first .atom → Everywhere F (first .atom ∷ []) (fi
 
 -- an open beginning of a search in its array
 pub record Beginning (n : ℕ) (table : List ℕ) (kind s t : ℕ) (prefix : List ℕ) (len : ℕ) : Type 0 where
-  pub words : Words n table
+  pub words : SearchTable n table kind t
   pub kinds : kindKept n kind s t ≡ true
   pub size : length prefix ≡ 128
   pub short : len ≤ 127
@@ -89,7 +102,7 @@ pub record FoundAt (F : Family) (p : List ℕ) (c : ℕ) (found : Found) : Type 
 
 -- the length of the shortest beginnings that two sets steer, by the kind
 abbrev pub firstLength : ℕ → ℕ
-firstLength kind = cond (eqb kind 1) 1 2
+firstLength kind = cond (listsPaths kind) 1 2
 
 -- the sets handed on past the last atom x
 pub record HandedOn (adj : Adjacency) (x : ℕ) (aim next : Aim) : Type 0 where
@@ -103,9 +116,14 @@ pub record Steered (F : Family) (adj : Adjacency) (most : ℕ) (p : List ℕ) (x
   pub isOpened : isOpen F p ≡ true
   pub steers : Steers F adj most p x (has (aim .goal)) (has (aim .free))
 
+-- every atom bonded to the last atom x of the beginning p makes a member or opens it
+abbrev pub EachOpens : Family → Adjacency → List ℕ → ℕ → Type 0
+EachOpens F adj p x =
+    (v : ℕ) → adj x v ≡ true → F .member (p ++ v ∷ []) ≡ false → isOpen F (p ++ v ∷ []) ≡ true
+
 -- The plan tells of every atom, at each beginning that the sets steer, with the last atom x, where so many steps are
--- left past an atom added
-abbrev pub PlansBy : Adjacency → ℕ → Aim → ℕ → Plan → Type 0
-PlansBy adj x aim steps plan =
-    (F : Family) (most : ℕ) (p : List ℕ) → Steered F adj most p x aim → steps ≡ most - suc (length p) →
-    Everywhere F p plan
+-- left past an atom added; of shortest paths, where each atom bonded to x makes a member or opens
+abbrev pub PlansBy : Adjacency → ℕ → ℕ → Aim → ℕ → Plan → Type 0
+PlansBy adj kind x aim steps plan =
+    (F : Family) (most : ℕ) (p : List ℕ) → Steered F adj most p x aim → (kind ≡ 3 → EachOpens F adj p x) →
+    steps ≡ most - suc (length p) → Everywhere F p plan

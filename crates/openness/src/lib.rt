@@ -15,7 +15,8 @@ ghost use Rattle.atomset.specs.Set.{has, linkedBy};
 ghost use Rattle.sweep.specs.Swept.{Reached};
 ghost use Rattle.search.specs.Place.{kindKept};
 ghost use Rattle.openness.specs.Plan.{familyBy, ringsBy, pathsBy, mostAtoms, stepsLeft, firstLength};
-ghost use Rattle.openness.specs.Plan.{Words, Beginning, Planning, FoundAt, Everywhere, Steered, HandedOn, PlansBy};
+ghost use Rattle.openness.specs.Plan.{Words, SearchTable, Beginning, Planning, FoundAt, Everywhere, Steered};
+ghost use Rattle.openness.specs.Plan.{HandedOn, BothWays, EachOpens, PlansBy};
 ghost use Rattle.openness.specs.Parts.{OneAtom, TwoAtoms, TwoEnds, BesideLast, Stepping, FirstOf, FirstAhead, ShortRing, PathFirsts};
 
 // The atoms that make a member of a beginning, and those that open it.
@@ -53,7 +54,7 @@ struct Beside {
 pub fn first_length(kind: usize) -> usize
     ensures { λ r. ⌜ r ≡ firstLength kind ⌝ }
 {
-    if kind == 1 {
+    if search::lists_paths(kind) {
         return 1;
     }
     2
@@ -64,6 +65,9 @@ fn most_atoms(kind: usize, s: usize) -> usize
     ensures { λ r. ⌜ r ≡ mostAtoms kind s ⌝ }
 {
     if kind <= 1 {
+        return 128;
+    }
+    if kind == 3 {
         return 128;
     }
     s
@@ -142,7 +146,7 @@ pub fn first_aim(
         Steered (familyBy n (now (table .entry)) kind s t) (linkedBy (now (table .entry))) (mostAtoms kind s)
         (take (firstLength kind) (now (prefix .entry))) (getD (now (prefix .entry)) (firstLength kind - 1) 0) r ⌝ }
 {
-    if kind == 1 {
+    if search::lists_paths(kind) {
         return path_aim(table, n, s, t);
     }
     ring_aim(table, n, u8_usize(prefix[0]), u8_usize(prefix[1]))
@@ -173,20 +177,44 @@ pub fn aim_at(
     aim
 }
 
-// Of the candidates `want` at an open beginning with these members, those that open it. Where nothing may close a
-// member later, or there is no candidate, none does; where it has no member, a sole candidate opens it, in every
-// family; otherwise one sweep tells.
-fn opening(
+// Of the candidates `want` at an open beginning with these members, those that open it: one sweep tells. Of shortest
+// paths every bond of the table leads nearer to t, and each candidate that makes no member opens.
+fn openers(
     table: &[u64; 256],
+    kind: usize,
     next: Aim,
     members: [u64; 2],
     want: [u64; 2],
     steps: usize,
 ) -> [u64; 2]
-    requires { ⌜ Symmetric (linkedBy (now table)) ⌝ }
+    requires { ⌜ BothWays kind (linkedBy (now table)) ⌝ }
     ensures { λ r. ⌜
         ((F : Family) (most : ℕ) (p : List ℕ) (x : ℕ) (aim : Aim) →
-        Stepping F (linkedBy (now (table .entry))) most p x aim next steps members want →
+        Stepping F (linkedBy (now (table .entry))) kind most p x aim next steps members want →
+        (v : ℕ) → has r v ≡ isOpen F (p ++ v ∷ [])) ⌝ }
+{
+    if kind == 3 {
+        return atomset::minus(want, members);
+    }
+    let goal = next.goal;
+    let free = next.free;
+    sweep::reached(table, free, goal, want, steps)
+}
+
+// The same for the fast loop, which leaves the sweep out where it can. Where nothing may close a member later, or there
+// is no candidate, none opens; where the beginning has no member, a sole candidate opens it, in every family.
+fn opening(
+    table: &[u64; 256],
+    kind: usize,
+    next: Aim,
+    members: [u64; 2],
+    want: [u64; 2],
+    steps: usize,
+) -> [u64; 2]
+    requires { ⌜ BothWays kind (linkedBy (now table)) ⌝ }
+    ensures { λ r. ⌜
+        ((F : Family) (most : ℕ) (p : List ℕ) (x : ℕ) (aim : Aim) →
+        Stepping F (linkedBy (now (table .entry))) kind most p x aim next steps members want →
         (v : ℕ) → has r v ≡ isOpen F (p ++ v ∷ [])) ⌝ }
 {
     let goal = next.goal;
@@ -201,8 +229,7 @@ fn opening(
             return want;
         }
     }
-    let free = next.free;
-    sweep::reached(table, free, goal, want, steps)
+    openers(table, kind, next, members, want, steps)
 }
 
 // What the two sets have beside the last atom x: the atoms that make a member, and the candidates.
@@ -223,15 +250,22 @@ fn beside_last(table: &[u64; 256], aim: Aim, x: usize) -> Beside
 
 // The plan of an open beginning that the sets steer, with the last atom x; `next` are the sets handed on, and `steps`
 // are left past an atom added.
-pub fn plan_by(table: &[u64; 256], aim: Aim, next: Aim, x: usize, steps: usize) -> Plan
+pub fn plan_by(
+    table: &[u64; 256],
+    kind: usize,
+    aim: Aim,
+    next: Aim,
+    x: usize,
+    steps: usize,
+) -> Plan
     requires { ⌜
-        Symmetric (linkedBy (now table)) × HandedOn (linkedBy (now table)) x aim next × (1 ≤ x) × (x ≤ 128) ⌝ }
-    ensures { λ r. ⌜ PlansBy (linkedBy (now (table .entry))) x aim steps r ⌝ }
+        BothWays kind (linkedBy (now table)) × HandedOn (linkedBy (now table)) x aim next × (1 ≤ x) × (x ≤ 128) ⌝ }
+    ensures { λ r. ⌜ PlansBy (linkedBy (now (table .entry))) kind x aim steps r ⌝ }
 {
     let near = beside_last(table, aim, x);
     let members = near.members;
     let want = near.want;
-    let opens = opening(table, next, members, want, steps);
+    let opens = opening(table, kind, next, members, want, steps);
     Plan {
         members: members,
         opens: opens,
@@ -240,17 +274,22 @@ pub fn plan_by(table: &[u64; 256], aim: Aim, next: Aim, x: usize, steps: usize) 
 
 // The same plan by one sweep, whatever the candidates: for the places where single beginnings are planned. The fast
 // loop alone calls `plan_by`, so that it is compiled into the loop.
-fn swept_plan(table: &[u64; 256], aim: Aim, next: Aim, x: usize, steps: usize) -> Plan
+fn swept_plan(
+    table: &[u64; 256],
+    kind: usize,
+    aim: Aim,
+    next: Aim,
+    x: usize,
+    steps: usize,
+) -> Plan
     requires { ⌜
-        Symmetric (linkedBy (now table)) × HandedOn (linkedBy (now table)) x aim next × (1 ≤ x) × (x ≤ 128) ⌝ }
-    ensures { λ r. ⌜ PlansBy (linkedBy (now (table .entry))) x aim steps r ⌝ }
+        BothWays kind (linkedBy (now table)) × HandedOn (linkedBy (now table)) x aim next × (1 ≤ x) × (x ≤ 128) ⌝ }
+    ensures { λ r. ⌜ PlansBy (linkedBy (now (table .entry))) kind x aim steps r ⌝ }
 {
     let near = beside_last(table, aim, x);
     let members = near.members;
     let want = near.want;
-    let targets = next.goal;
-    let through = next.free;
-    let opens = sweep::reached(table, through, targets, want, steps);
+    let opens = openers(table, kind, next, members, want, steps);
     Plan {
         members: members,
         opens: opens,
@@ -274,7 +313,7 @@ fn steered_plan(
     let x = u8_usize(prefix[len - 1]);
     let next = aim_after(table, aim, x);
     let steps = steps_left(kind, s, len);
-    swept_plan(table, aim, next, x, steps)
+    swept_plan(table, kind, aim, next, x, steps)
 }
 
 // Whether the beginning s, v of a ring of at most `most` atoms is open.
@@ -409,26 +448,34 @@ fn atom_alone(atom: u8) -> [u64; 2]
     atomset::single(u8_usize(atom))
 }
 
-// The atom that begins a path from s to t: s where t is reached from it, otherwise none.
-fn path_firsts(table: &[u64; 256], n: usize, s: usize, t: usize) -> [u64; 2]
-    requires { ⌜ TwoEnds n (now table) s t ⌝ }
+// The atom that begins a path from s to t: s where t is reached from it, otherwise none. Of shortest paths t is
+// reached where any bond of the table leads on from s.
+fn path_firsts(table: &[u64; 256], n: usize, kind: usize, s: usize, t: usize) -> [u64; 2]
+    requires { ⌜ TwoEnds n (now table) s t × SearchTable n (now table) kind t ⌝ }
     ensures { λ r. ⌜ PathFirsts n (now (table .entry)) s t r ⌝ }
 {
+    let alone = atomset::single(s);
+    if kind == 3 {
+        let row = atomset::row(table, s);
+        if atomset::is_empty(row) {
+            return row;
+        }
+        return alone;
+    }
     let all = atomset::up_to(n);
     let goal = atomset::single(t);
-    let alone = atomset::single(s);
     sweep::reached(table, all, goal, alone, 127)
 }
 
 // Whether some path from s to t begins with c.
-fn path_starts(table: &[u64; 256], n: usize, s: usize, t: usize, c: usize) -> bool
-    requires { ⌜ TwoEnds n (now table) s t ⌝ }
+fn path_starts(table: &[u64; 256], n: usize, kind: usize, s: usize, t: usize, c: usize) -> bool
+    requires { ⌜ TwoEnds n (now table) s t × SearchTable n (now table) kind t ⌝ }
     ensures { λ r. ⌜ r ≡ isOpen (pathsBy n (now (table .entry)) s t) (c ∷ []) ⌝ }
 {
     if c != s {
         return false;
     }
-    atomset::contains(path_firsts(table, n, s, t), s)
+    atomset::contains(path_firsts(table, n, kind, s, t), s)
 }
 
 // What a trial finds at an open beginning of one atom or none, of rings of at most `most` atoms: the plan of one atom
@@ -495,12 +542,12 @@ pub fn plan_at(
             first: first,
         };
     }
-    if kind != 1 {
+    if !search::lists_paths(kind) {
         let most = most_atoms(kind, s);
         return short_ring(table, n, most, prefix, len, c, first);
     }
     let none = atomset::empty();
-    let firsts = path_firsts(table, n, s, t);
+    let firsts = path_firsts(table, n, kind, s, t);
     Found {
         plan: Plan {
             members: none,
@@ -542,13 +589,13 @@ fn first_opens(
     t: usize,
     prefix: &[u8; 128],
 ) -> bool
-    requires { ⌜ Words n (now table) × (kindKept n kind s t ≡ true) × (length (now prefix) ≡ 128) ⌝ }
+    requires { ⌜ SearchTable n (now table) kind t × (kindKept n kind s t ≡ true) × (length (now prefix) ≡ 128) ⌝ }
     ensures { λ r. ⌜
         r ≡ isOpen (familyBy n (now (table .entry)) kind s t) (take (firstLength kind) (now (prefix .entry))) ⌝ }
 {
     let a = u8_usize(prefix[0]);
-    if kind == 1 {
-        return path_starts(table, n, s, t, a);
+    if search::lists_paths(kind) {
+        return path_starts(table, n, kind, s, t, a);
     }
     if !molecule::is_atom(n, a) {
         return false;
@@ -582,7 +629,7 @@ fn goes_on_open(
         let x = u8_usize(prefix[i - 1]);
         let next = aim_after(table, aim, x);
         let steps = steps_left(kind, s, i);
-        if !opens_by(swept_plan(table, aim, next, x, steps), u8_usize(prefix[i])) {
+        if !opens_by(swept_plan(table, kind, aim, next, x, steps), u8_usize(prefix[i])) {
             return false;
         }
         aim = next;
@@ -591,8 +638,8 @@ fn goes_on_open(
     true
 }
 
-// Whether the first `len` atoms are an open beginning.
-pub fn is_open(
+// Whether the first `len` atoms are an open beginning, over the table of the search.
+fn is_open_by(
     table: &[u64; 256],
     n: usize,
     kind: usize,
@@ -602,7 +649,8 @@ pub fn is_open(
     len: usize,
 ) -> bool
     requires { ⌜
-        Words n (now table) × (kindKept n kind s t ≡ true) × (length (now prefix) ≡ 128) × (len ≤ 127) ⌝ }
+        SearchTable n (now table) kind t × (kindKept n kind s t ≡ true) × (length (now prefix) ≡ 128) ×
+        (len ≤ 127) ⌝ }
     ensures { λ r. ⌜ r ≡ isOpen (familyBy n (now (table .entry)) kind s t) (take len (now (prefix .entry))) ⌝ }
 {
     if len == 0 {
@@ -616,4 +664,25 @@ pub fn is_open(
         return false;
     }
     goes_on_open(table, n, kind, s, t, prefix, len)
+}
+
+// Whether the first `len` atoms are an open beginning, over the word table of a molecule's rows.
+pub fn is_open(
+    words: &[u64; 256],
+    n: usize,
+    kind: usize,
+    s: usize,
+    t: usize,
+    prefix: &[u8; 128],
+    len: usize,
+) -> bool
+    requires { ⌜
+        Words n (now words) × (kindKept n kind s t ≡ true) × (length (now prefix) ≡ 128) × (len ≤ 127) ⌝ }
+    ensures { λ r. ⌜ r ≡ isOpen (familyBy n (now (words .entry)) kind s t) (take len (now (prefix .entry))) ⌝ }
+{
+    if kind == 3 {
+        let near = distance::nearing(words, n, t);
+        return is_open_by(&near, n, kind, s, t, prefix, len);
+    }
+    is_open_by(words, n, kind, s, t, prefix, len)
 }

@@ -9,6 +9,7 @@ use Rattle.enumeration.specs.Run.{atLimit, recordOf, recordIf, lists, run}
 use Rattle.enumeration.specs.Trials.{records}
 use Rattle.fields.specs.Field.{digits, afterBlanks, readField, column, columns, fieldText}
 use Rattle.molecule.specs.Record.{cell, bonded}
+use Rattle.molecule.specs.Ends.{withEnds}
 use Rattle.sheet.specs.Bonds.{atomsKept, noneToItself, samePair, noneTwice, withBit, withCell, withBond, rowsOf}
 use Rattle.sheet.specs.Read.{lengthKept, lineKept, linesKept, lineOf, readBonds, readSheet}
 use Rattle.search.specs.Place.{familyIn, familyOf, beginning, stateOf, held, searchAt, freshSearch, endsKept, kindKept}
@@ -26,7 +27,7 @@ computed : AllComputed table
 unfolding
     inRange induces isRing isPath begins numbersFrom joined words keep any members isOpen
     fresh tried isEmpty isDone unwound act trial atLimit recordOf recordIf lists run records
-    digits afterBlanks readField column columns fieldText cell bonded
+    digits afterBlanks readField column columns fieldText cell bonded withEnds
     atomsKept noneToItself samePair noneTwice withBit withCell withBond rowsOf
     lengthKept lineKept linesKept lineOf readBonds readSheet
     familyIn familyOf beginning stateOf held searchAt freshSearch endsKept kindKept fieldsText markText

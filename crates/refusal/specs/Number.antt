@@ -1,7 +1,7 @@
 -- The number of each refusal in document 01, "Turned back by number", and in the requests of document 02.
 use Prim.Native.Nat.{ℕ}
 use Rattle.refusal.specs.declared.Refusal.{Refusal}
-use Rattle.refusal.specs.declared.Refusal.the-variants.{SheetLength, SheetBytes, TooManyAtoms, TooManyBonds, SheetSize, BondAtom, SelfBond, RepeatedBond, Record, PathEnd, SameEnds, Search, MarkRoom, MarkBytes, MarkMolecule, MarkKind, MarkPlace, RingSize}
+use Rattle.refusal.specs.declared.Refusal.the-variants.{SheetLength, SheetBytes, TooManyAtoms, TooManyBonds, SheetSize, BondAtom, SelfBond, RepeatedBond, Record, PathEnd, SameEnds, Search, MarkRoom, MarkBytes, MarkMolecule, MarkKind, MarkPlace, RingSize, TooManyPaths}
 
 abbrev pub numberOf : Refusal → ℕ
 -- the sheet is shorter than 9 bytes or not a multiple of 9
@@ -34,10 +34,12 @@ numberOf MarkRoom = 13
 numberOf MarkBytes = 14
 -- the mark's n or m differs from the molecule's
 numberOf MarkMolecule = 15
--- the kind is not 0, 1 or 2, or s and t are not 0 and 0 for rings, or break rule 10 or 11 for paths, or s breaks
--- rule 21 or t is not 0 for rings up to a size
+-- the kind is not 0, 1, 2 or 3, or s and t are not 0 and 0 for rings, or break rule 10 or 11 for paths and shortest
+-- paths, or s breaks rule 21 or t is not 0 for rings up to a size
 numberOf MarkKind = 16
 -- p is not open, or c is 0 or above n; p empty with c = n + 1 is allowed
 numberOf MarkPlace = 17
 -- the largest size k of a ring is outside 3 to 128 (document 02, F-4)
 numberOf RingSize = 21
+-- the number of shortest paths from s to t is above the limit of the counts (document 02, F-14)
+numberOf TooManyPaths = 26

@@ -21,6 +21,7 @@ pub enum Refusal {
     MarkKind,
     MarkPlace,
     RingSize,
+    TooManyPaths,
 }
 
 // The answer of an entry that makes a record or a search.
@@ -52,5 +53,6 @@ pub fn number(r: Refusal) -> u32
         Refusal::MarkKind => 16,
         Refusal::MarkPlace => 17,
         Refusal::RingSize => 21,
+        Refusal::TooManyPaths => 26,
     }
 }

@@ -1,5 +1,5 @@
--- The answer of a run past rules 9 and 12: the run over the word table, whose family is that of the molecule.
--- The table's bonds are the record's, so the families are equal and the definition's run is the one over the table.
+-- The answer of a run past rules 9 and 12: the run over the table of the search, whose family is that of the molecule.
+-- The families are equal, so the definition's run is the one over the table.
 use Prim.Native.Nat.{ℕ}
 use native.Mathlib.Omega.{arith}
 use mathlib.Core.Path.{_≡_, ap}
@@ -8,7 +8,6 @@ use mathlib.Core.List.{List}
 use lib.ListN.{length}
 use Rattle.enumeration.specs.Words.{Family}
 use Rattle.enumeration.specs.Run.{run}
-use Rattle.atomset.specs.Set.{WordsOf}
 use Rattle.molecule.specs.declared.Molecule.{Molecule}
 use Rattle.molecule.specs.Record.{wellFormed}
 use Rattle.search.specs.declared.Search.{Search}
@@ -18,19 +17,19 @@ use Rattle.search.specs.Entries.{outcome, runSearch, runOutput}
 use Rattle.search.proofs.Readings.{restorable-facts}
 use Rattle.search.proofs.Views.{restorable-valid, restorable-bounded}
 use Rattle.openness.specs.Plan.{familyBy}
-use Rattle.openness.proofs.Molecules.{family-same, table-words}
+use Rattle.openness.proofs.Molecules.{TableOf, table-of, family-of}
 use Rattle.runner.specs.Parts.{Ready, outcomeBy, Yields}
 
 module _ (m : Molecule) (q : Search) (table : List ℕ) (ok : wellFormed m ≡ true) (kept : restorable m q ≡ true)
-    (words : WordsOf (m .rows) table) where
+    (k : TableOf m (q .kind) (q .t) table) where
   same-family : familyBy (m .atoms) table (q .kind) (q .s) (q .t) ≡ family m q
-  same-family = family-same m ok table words (q .kind) (q .s) (q .t)
+  same-family = family-of ok k (q .s)
 
   pub ready : length (q .prefix) ≡ 128 → Ready (m .atoms) table q
   ready full =
       let f = restorable-facts m q kept in
       record {
-        words = table-words m ok table words;
+        words = table-of ok k;
         kinds = f .kind-kept;
         standing = record {
           within = record { size = full; most = omega (arith, f .short); zeros = f .padded };

@@ -14,7 +14,7 @@ use Rattle.search.specs.declared.Ended.the-variants.{Stopped}
 use Rattle.search.specs.declared.Ran.{Ran}
 use Rattle.search.specs.Place.{stateOf, kindKept}
 use Rattle.search.specs.Entries.{ran}
-use Rattle.openness.specs.Plan.{familyBy, Words}
+use Rattle.openness.specs.Plan.{familyBy, SearchTable}
 use Rattle.trial.specs.declared.Spot.{Spot}
 use Rattle.trial.specs.Parts.{searchHeld, HeldWithRoom}
 
@@ -25,7 +25,7 @@ stoppedAt q prefix at stop used made =
 
 -- a search that a run over a word table starts from
 pub record Ready (n : ℕ) (table : List ℕ) (q : Search) : Type 0 where
-  pub words : Words n table
+  pub words : SearchTable n table (q .kind) (q .t)
   pub kinds : kindKept n (q .kind) (q .s) (q .t) ≡ true
   pub standing : HeldWithRoom (q .prefix) (q .len)
   pub valid : Valid (familyBy n table (q .kind) (q .s) (q .t)) (stateOf q)

@@ -79,7 +79,7 @@ fn stopped(q: Search, prefix: [u8; 128], at: Spot, stop: Stop, used: usize, made
     }
 }
 
-// The run of a search that rule 12 allows, over the word table of the molecule; `kept` is for the fast loop's sets.
+// The run of a search that rule 12 allows, over the table of the search; `kept` is for the fast loop's sets.
 fn run_trials(
     table: &[u64; 256],
     n: usize,
@@ -140,6 +140,21 @@ fn run_trials(
     stopped(q, prefix, at, stop, used, made)
 }
 
+// The same with an array for the sets: a small molecule needs a small one, which is cheaper to make.
+fn run_over(table: &[u64; 256], n: usize, q: Search, budget: u64, out: &mut [u8]) -> Ran
+    requires { ⌜ Ready n (now table) q ⌝ }
+    ensures { λ r. ⌜
+        Yields q (outcomeBy n (now (table .entry)) q budget (now (out .entry)))
+        (now (out .entry)) r (now (out .exit)) ⌝ }
+{
+    if n < 32 {
+        let mut few = [0u64; 192];
+        return run_trials(table, n, q, budget, &mut few, out);
+    }
+    let mut kept = [0u64; 774];
+    run_trials(table, n, q, budget, &mut kept, out)
+}
+
 // The run of a search that rule 12 allows on a molecule that rule 9 allows: trials until done, limit, spent or full.
 pub fn run_checked(m: Molecule, q: Search, budget: u64, out: &mut [u8]) -> Ran
     requires { ⌜ (wellFormed m ≡ true) × (restorable m q ≡ true) ⌝ }
@@ -149,12 +164,11 @@ pub fn run_checked(m: Molecule, q: Search, budget: u64, out: &mut [u8]) -> Ran
 {
     let n = m.atoms;
     let rows = m.rows;
-    let table = atomset::words_of(&rows);
-    // A small molecule needs a small array, which is cheaper to make.
-    if n < 32 {
-        let mut few = [0u64; 192];
-        return run_trials(&table, n, q, budget, &mut few, out);
+    let words = atomset::words_of(&rows);
+    // Of shortest paths the search goes by the bonds that lead one nearer to t.
+    if q.kind == 3 {
+        let near = distance::nearing(&words, n, q.t);
+        return run_over(&near, n, q, budget, out);
     }
-    let mut kept = [0u64; 774];
-    run_trials(&table, n, q, budget, &mut kept, out)
+    run_over(&words, n, q, budget, out)
 }

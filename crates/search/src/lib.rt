@@ -1,12 +1,12 @@
 // The search of document 01 and the answers of the entries on it. What they mean is in specs/.
 ghost use mathlib.Core.Path.{_≡_};
-ghost use Rattle.search.specs.Place.{freshSearch, boundKept};
+ghost use Rattle.search.specs.Place.{listsPaths, freshSearch, boundKept};
 ghost use Rattle.search.specs.Entries.{acceptedSearch, refusedSearch, endedNumber};
 use enumeration::Stop;
 use refusal::Answer;
 use refusal::Refusal;
 
-// Kind 0 lists rings, kind 1 paths from s to t, kind 2 rings of at most s atoms.
+// Kind 0 lists rings, kind 1 paths from s to t, kind 2 rings of at most s atoms, kind 3 shortest paths from s to t.
 // The present beginning is the first `len` places of `prefix`; the places past it hold 0.
 pub struct Search {
     pub kind: usize,
@@ -60,6 +60,16 @@ pub fn fresh_search(kind: usize, s: usize, t: usize) -> Search
         extensions: 0,
         listed: 0,
     }
+}
+
+// Whether a search of the kind lists paths from s to t.
+pub fn lists_paths(kind: usize) -> bool
+    ensures { λ r. ⌜ r ≡ listsPaths kind ⌝ }
+{
+    if kind == 1 {
+        return true;
+    }
+    kind == 3
 }
 
 // Rule 21: whether k may be the largest size of a ring.

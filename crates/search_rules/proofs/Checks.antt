@@ -4,7 +4,7 @@ use Prim.Native.Nat.{ℕ, suc, _+_, _≤_, _<_}
 use native.Mathlib.Omega.{arith}
 use native.Mathlib.Numerals.{add-one}
 use mathlib.Core.Path.{_≡_, sym, ap, _∙_}
-use mathlib.Core.Bool.{Bool, true, false, _&&_, not, and-true, and-false, or-false}
+use mathlib.Core.Bool.{Bool, true, false, _&&_, and-true, and-false, or-false}
 use mathlib.Core.List.{List, []}
 use mathlib.Core.Logic.{_⊎_, inl, inr}
 use lib.ListN.{length, getD}
@@ -16,12 +16,16 @@ use Rattle.graph.proofs.Loops.{all-fails}
 use Rattle.enumeration.specs.Words.{isOpen}
 use Rattle.enumeration.specs.Run.{limit}
 use Rattle.enumeration.proofs.Basics.{or-either, or-left, or-right}
+use Rattle.refusal.specs.declared.Refusal.{Refusal}
+use Rattle.refusal.specs.declared.Answer.the-variants.{Accepted, Refused}
 use Rattle.molecule.specs.declared.Molecule.{Molecule}
 use Rattle.molecule.specs.Record.{isAtom}
+use Rattle.molecule.specs.Ends.{endsAnswer}
+use Rattle.molecule.proofs.Ends.{ends-refused, ends-accepted}
 use Rattle.molecule.proofs.Bonds.{atom-bounds}
 use Rattle.search.specs.declared.Search.{Search}
-use Rattle.search.specs.Place.{family, beginning, endsKept, boundKept, kindKept, restorable}
-use Rattle.search.proofs.Readings.{NextHigh, Restorable, restorable-facts, restorable-of, atom-of}
+use Rattle.search.specs.Place.{listsPaths, family, beginning, endsKept, boundKept, kindKept, restorable}
+use Rattle.search.proofs.Readings.{NextHigh, Restorable, restorable-facts, restorable-of, atom-of, path-kinds}
 use Rattle.search.proofs.Readings.{zeros-past, past-zeros}
 use Rattle.search.proofs.Views.{beginning-length}
 use Rattle.search_rules.specs.Parts.{paddedAt, padded, nextKept, countsKept}
@@ -75,18 +79,13 @@ module _ (prefix : List ℕ) (len : ℕ) where
 -- ---- kind, s and t
 
 module _ (n s t : ℕ) where
-  pub ends-no-start : isAtom n s ≡ false → endsKept n s t ≡ false
+  pub ends-not-kept : {r : Refusal} → endsAnswer n s t ≡ Refused r → endsKept n s t ≡ false
   unfolding endsKept
-  ends-no-start e = rw e
+  ends-not-kept e = ends-refused n s t _ _ e
 
-  module _ (start : isAtom n s ≡ true) where
-    pub ends-no-end : isAtom n t ≡ false → endsKept n s t ≡ false
-    unfolding endsKept
-    ends-no-end e = rw (start, e)
-
-    pub ends-differ : isAtom n t ≡ true → endsKept n s t ≡ not (eqb s t)
-    unfolding endsKept
-    ends-differ e = rw (start, e)
+  pub ends-are-kept : endsAnswer n s t ≡ Accepted → endsKept n s t ≡ true
+  unfolding endsKept
+  ends-are-kept e = ends-accepted n s t _ _ e
 
 module _ (n kind s t : ℕ) where
   module _ (zero : kind ≡ 0) where
@@ -98,9 +97,12 @@ module _ (n kind s t : ℕ) where
     unfolding kindKept
     kind-zero e = rw (zero, e, or-false (eqb t 0), or-false (eqb t 0))
 
-  pub kind-one : kind ≡ 1 → kindKept n kind s t ≡ endsKept n s t
+  pub kind-paths : listsPaths kind ≡ true → kindKept n kind s t ≡ endsKept n s t
   unfolding kindKept
-  kind-one e = rw (e, or-false (endsKept n s t))
+  kind-paths path = elim (path-kinds kind path) [
+    | inl one ↦ rw (one, or-false (endsKept n s t))
+    | inr three ↦ rw (three, or-false (endsKept n s t))
+  ]
 
   module _ (two : kind ≡ 2) where
     pub kind-no-end : (t ≡ 0 → ⊥) → kindKept n kind s t ≡ false
@@ -111,9 +113,9 @@ module _ (n kind s t : ℕ) where
     unfolding kindKept
     kind-two e = rw (two, e) (and-true (boundKept s))
 
-  pub kind-none : (kind ≡ 0 → ⊥) → (kind ≡ 1 → ⊥) → (kind ≡ 2 → ⊥) → kindKept n kind s t ≡ false
+  pub kind-none : (kind ≡ 0 → ⊥) → listsPaths kind ≡ false → (kind ≡ 2 → ⊥) → kindKept n kind s t ≡ false
   unfolding kindKept
-  kind-none d e f = rw (ne-eqb kind 0 d, ne-eqb kind 1 e, ne-eqb kind 2 f)
+  kind-none d e f = rw (ne-eqb kind 0 d, e, ne-eqb kind 2 f)
 
 -- ---- the next atom
 

@@ -7,6 +7,7 @@ ghost use Rattle.molecule.specs.Record.{wellFormed};
 ghost use Rattle.search.specs.Place.{family, beginning, endsKept, kindKept, placeKept, restorable};
 ghost use Rattle.search_rules.specs.Parts.{padded, nextKept, countsKept};
 use molecule::Molecule;
+use refusal::Answer;
 use search::Search;
 
 // Whether the places past the length hold 0.
@@ -27,13 +28,11 @@ fn is_padded(prefix: &[u8; 128], len: usize) -> bool
 fn ends_kept(n: usize, s: usize, t: usize) -> bool
     ensures { λ r. ⌜ r ≡ endsKept n s t ⌝ }
 {
-    if !molecule::is_atom(n, s) {
-        return false;
+    let ends = molecule::check_ends(n, s, t);
+    match ends {
+        Answer::Accepted => true,
+        Answer::Refused(_) => false,
     }
-    if !molecule::is_atom(n, t) {
-        return false;
-    }
-    s != t
 }
 
 // Rule 16: whether kind, s and t go together.
@@ -46,7 +45,7 @@ pub fn kind_kept(n: usize, kind: usize, s: usize, t: usize) -> bool
         }
         return t == 0;
     }
-    if kind == 1 {
+    if search::lists_paths(kind) {
         return ends_kept(n, s, t);
     }
     if kind != 2 {

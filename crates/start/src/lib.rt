@@ -1,26 +1,22 @@
-// Starting a search (document 01, "The search, trial by trial"; document 02, F-4): a fresh search of any kind,
-// rule 9 and then those of its kind, s and t. A start of one kind is one of any kind.
+// Starting a search (document 01, "The search, trial by trial"; document 02, F-4 and F-14): a fresh search of any
+// kind, rule 9 and then those of its kind, s and t. A start of one kind is one of any kind.
 ghost use mathlib.Core.Path.{_≡_};
 ghost use Rattle.search.specs.Entries.{freshPaths, freshRingsUpTo, freshOfKind};
-ghost use Rattle.search.specs.Entries.{startRings, startPaths, startRingsUpTo, startSearch};
+ghost use Rattle.search.specs.Entries.{startRings, startPaths, startShortest, startRingsUpTo, startSearch};
 use molecule::Molecule;
+use refusal::Answer;
 use refusal::Refusal;
 use search::Made;
 
-// The paths from s to t among n atoms: rules 10, 11.
-fn fresh_paths(n: usize, s: usize, t: usize) -> Made
-    ensures { λ r. ⌜ r ≡ freshPaths n s t ⌝ }
+// A kind that lists paths from s to t among n atoms: rules 10, 11.
+fn fresh_paths(n: usize, kind: usize, s: usize, t: usize) -> Made
+    ensures { λ r. ⌜ r ≡ freshPaths n kind s t ⌝ }
 {
-    if !molecule::is_atom(n, s) {
-        return search::refused_search(Refusal::PathEnd);
+    let ends = molecule::check_ends(n, s, t);
+    if let Answer::Refused(r) = ends {
+        return search::refused_search(r);
     }
-    if !molecule::is_atom(n, t) {
-        return search::refused_search(Refusal::PathEnd);
-    }
-    if s == t {
-        return search::refused_search(Refusal::SameEnds);
-    }
-    search::accepted_search(search::fresh_search(1, s, t))
+    search::accepted_search(search::fresh_search(kind, s, t))
 }
 
 // The rings of at most k atoms: rule 21.
@@ -38,8 +34,8 @@ fn fresh_rings_up_to(k: usize) -> Made
 fn fresh_of_kind(n: usize, kind: usize, s: usize, t: usize) -> Made
     ensures { λ r. ⌜ r ≡ freshOfKind n kind s t ⌝ }
 {
-    if kind == 1 {
-        return fresh_paths(n, s, t);
+    if search::lists_paths(kind) {
+        return fresh_paths(n, kind, s, t);
     }
     if t != 0 {
         return search::refused_search(Refusal::MarkKind);
@@ -78,6 +74,13 @@ pub fn start_paths(m: Molecule, s: usize, t: usize) -> Made
     ensures { λ r. ⌜ r ≡ startPaths m s t ⌝ }
 {
     start_search(m, 1, s, t)
+}
+
+// A fresh search for the shortest paths from s to t: rules 9, 10, 11.
+pub fn start_shortest(m: Molecule, s: usize, t: usize) -> Made
+    ensures { λ r. ⌜ r ≡ startShortest m s t ⌝ }
+{
+    start_search(m, 3, s, t)
 }
 
 // A fresh search for the rings of at most k atoms: rules 9, 21.

@@ -5,7 +5,7 @@ ghost use Rattle.chordless.specs.Reach.{Symmetric};
 ghost use Rattle.sweep.specs.Swept.{Reached, NearWord};
 
 // The atoms bonded to an atom of word k of a set.
-fn near_word(table: &[u64; 256], word: u64, k: usize) -> [u64; 2]
+pub fn near_word(table: &[u64; 256], word: u64, k: usize) -> [u64; 2]
     requires { ⌜ k < 2 ⌝ }
     ensures { λ r. ⌜ NearWord (linkedBy (now (table .entry))) word k r ⌝ }
 {

@@ -6,8 +6,9 @@ use mathlib.Core.Logic.{inl, inr}
 use mathlib.Core.Path.{_≡_, ap, sym, _∙_}
 use lib.ListN.{length, take}
 use borrow.Author.Needs.{needs}
-use Rattle.openness.specs.Plan.{mostAtoms, firstLength}
-use Rattle.openness.proofs.Aims.{first-some, begun-room, begun-steps}
+use Rattle.atomset.specs.Set.{linkedBy}
+use Rattle.openness.specs.Plan.{familyBy, mostAtoms, firstLength, EachOpens}
+use Rattle.openness.proofs.Aims.{first-some, begun-room, begun-each, begun-steps}
 use Rattle.dive.proofs.Levels.{steered-at, added-first, added-later}
 use Rattle.dive.proofs.plan_added.Statement.{statement}
 use Rattle.dive.proofs.plan_added.Tie as tie
@@ -46,6 +47,15 @@ left : (c : tie.After-steps-left) → let args = start (c .before .before) .args
     c .steps-left .result ≡ mostAtoms (args .kind) (args .s) - suc (length (take (args .len) (args .prefix .now)))
 left c = let start : tie.Start = search in begun-steps (start .pre .begun) (c .steps-left .ensures)
 
+-- of shortest paths each atom bonded to the last one makes a member or opens
+each : (c : tie.Start) → let args = c .args in
+    args .kind ≡ 3 →
+    EachOpens (familyBy (args .n) (args .table .now) (args .kind) (args .s) (args .t)) (linkedBy (args .table .now))
+    (take (args .len) (args .prefix .now)) (args .x)
+each c =
+    let some = first-some (c .args .kind) in
+    begun-each (c .pre .begun) (omega (arith, c .pre .long)) (c .pre .last-is)
+
 steps-left-requires : tie.Need-steps-left-requires
 steps-left-requires c κs =
     let start : tie.Start = search in
@@ -55,7 +65,7 @@ plan-level-requires : tie.Need-plan-level-requires
 plan-level-requires c κs =
     let start : tie.Start = search in
     let pre = start .pre in (
-      pre .begun .words .symmetric,
+      pre .begun .words .both-ways,
       pre .begun .short,
       pre .low,
       pre .high,
@@ -63,7 +73,7 @@ plan-level-requires c κs =
     )
 
 same-length : tie.Need-same-length
-same-length c = let plan : tie.After-plan-level = search in plan .plan-level .kept .1 .0 ∙ size-kept (joined plan)
+same-length c = let plan : tie.After-plan-level = search in plan .plan-level .kept .1 .1 .0 ∙ size-kept (joined plan)
 
 returns : tie.Need-returns
 returns c =
@@ -74,11 +84,11 @@ returns c =
     elim (joined plan .if1 .came) [
       | inl (if1, first-aim, arg, keep-aim, back, known, levels) ↦
           let first = if1 .taken ∙ length .first-length .ensures in
-          added-first (left (search)) (first-aim .result) (omega (arith, pre .sized)) first
+          added-first (each (search)) (left (search)) (first-aim .result) (omega (arith, pre .sized)) first
           (steered-at _ (pre .last-is) first (first-aim .ensures)) (levels ∙ keep-aim .ensures)
           (plan .plan-level .ensures)
       | inr (if1, levels) ↦
-          added-later (left (search)) (pre .long) (λ e. if1 .left (e ∙ sym (length .first-length .ensures)))
+          added-later (each (search)) (left (search)) (pre .long) (λ e. if1 .left (e ∙ sym (length .first-length .ensures)))
           (rw levels at (plan .plan-level .ensures))
     ]
 

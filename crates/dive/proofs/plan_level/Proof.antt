@@ -20,7 +20,7 @@ start c = c .before .before .before .before .before
 found :
     (c : tie.After-union) →
     let args = start (plan c) .args in
-    Found (linkedBy (args .table .now)) (args .x) (args .steps) (plan c .before .before .aim-in .result)
+    Found (linkedBy (args .table .now)) (args .kind) (args .x) (args .steps) (plan c .before .before .aim-in .result)
     (plan c .before .aim-after .result) (plan c .plan-by .result) (c .union .result)
 found c = record {
   handing = plan c .before .aim-after .ensures;

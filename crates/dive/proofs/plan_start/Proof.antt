@@ -80,7 +80,7 @@ plan-level-requires c κs =
     let atom : tie.After-u8-usize = search in
     let pre = start .pre in
     let (low, high) = last-atom pre (atom .u8-usize .ensures .same) in (
-      pre .begun .words .symmetric,
+      pre .begun .words .both-ways,
       pre .begun .short,
       low,
       high,
@@ -90,7 +90,7 @@ plan-level-requires c κs =
 same-length-2 : tie.Need-same-length-2
 same-length-2 c =
     let plan : tie.After-plan-level = search in
-    plan .plan-level .kept .1 .0 ∙ sets plan .keep-aim2 .kept .0
+    plan .plan-level .kept .1 .1 .0 ∙ sets plan .keep-aim2 .kept .0
 
 returns-2 : tie.Need-returns-2
 returns-2 c =

@@ -7,7 +7,7 @@ use lib.ListN.{take}
 use Rattle.enumeration.specs.Words.{isOpen}
 use Rattle.openness.specs.Plan.{Beginning, familyBy}
 use Rattle.openness.proofs.Opens.{open-beside, opens-in, open-stops, open-more, open-all}
-use Rattle.openness.proofs.Aims.{AimedTo, place-atom, begun-room, begun-steps, steered-last}
+use Rattle.openness.proofs.Aims.{AimedTo, place-atom, begun-room, begun-each, begun-steps, steered-last}
 use Rattle.openness.proofs.Aims.{aimed-start, aimed-some, aimed-open, aimed-more}
 use Rattle.openness.proofs.goes_on_open.Statement.{statement}
 use Rattle.openness.proofs.goes_on_open.Tie as tie
@@ -61,7 +61,9 @@ told c =
     let steered = steered-last (read .u8-usize .ensures .same) (turn c .before .loop .inv .steered) in
     c .opens-by .ensures ∙
     opens-in here (next .u8-usize2 .ensures .same)
-    (plan .swept-plan .ensures _ _ _ steered (begun-steps here (steps .steps-left .ensures)) _)
+    (plan .swept-plan .ensures _ _ _ steered
+    (begun-each here (aimed-some (turn c .before .loop .inv)) (read .u8-usize .ensures .same))
+    (begun-steps here (steps .steps-left .ensures)) _)
 
 -- ---- the needs
 
@@ -85,7 +87,7 @@ swept-plan-requires : tie.Need-swept-plan-requires Inv-loop μ-loop
 swept-plan-requires c κs =
     let handed : Place tie.After-aim-after = search in
     let (low, high) = last (search) in
-    (begun (search) .words .symmetric, handed .aim-after .ensures, low, high)
+    (begun (search) .words .both-ways, handed .aim-after .ensures, low, high)
 
 element-copy-out-u8-usize-2 : tie.Need-element-copy-out-u8-usize-2 Inv-loop μ-loop
 element-copy-out-u8-usize-2 c = omega (arith, begun (search) .short)

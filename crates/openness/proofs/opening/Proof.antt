@@ -1,7 +1,7 @@
 -- `openness::opening` meets its contract, in each of its four answers.
--- By `nothing-ahead`, `nothing-wanted`, `sole-candidate` and `sweep-opens`.
+-- By `nothing-ahead`, `nothing-wanted`, `sole-candidate`, and the contract of `openers`.
 use borrow.Author.Needs.{needs}
-use Rattle.openness.proofs.Steps.{nothing-ahead, nothing-wanted, sole-candidate, sweep-opens}
+use Rattle.openness.proofs.Steps.{nothing-ahead, nothing-wanted, sole-candidate}
 use Rattle.openness.proofs.opening.Statement.{statement}
 use Rattle.openness.proofs.opening.Tie as tie
 
@@ -19,7 +19,7 @@ returns-3 c F most p x aim k =
     (c .if4 .taken)
 
 returns-4 : tie.Need-returns-4
-returns-4 c F most p x aim k = sweep-opens k (c .reached .ensures)
+returns-4 c = c .openers .ensures
 
 pub opening-spec : {M : Type 1} → statement M
 opening-spec =

@@ -10,13 +10,13 @@ use Rattle.openness.proofs.path_aim.Tie as tie
 single-requires : tie.Need-single-requires
 single-requires c κs =
     let ends = ends-facts _ _ _ (c .pre .ends) in
-    (ends .t-low, omega (arith, c .pre .words .few))
+    (ends .t-low, omega (arith, c .pre .few))
 
 without-atom-requires : tie.Need-without-atom-requires
 without-atom-requires c κs =
     let start : tie.Start = search in
     let ends = ends-facts _ _ _ (start .pre .ends) in
-    (ends .s-low, omega (arith, start .pre .words .few))
+    (ends .s-low, omega (arith, start .pre .few))
 
 returns : tie.Need-returns
 returns c =

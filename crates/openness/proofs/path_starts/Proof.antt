@@ -11,13 +11,14 @@ use Rattle.openness.proofs.path_starts.Tie as tie
 -- ---- the needs (`search` finds a place in c by its type)
 
 returns : tie.Need-returns
-returns c = sym (start-other (c .before .pre) (c .if1 .taken))
+returns c = sym (start-other (c .before .pre .0) (c .if1 .taken))
 
 contains-requires : tie.Need-contains-requires
 contains-requires c κs =
     let start : tie.Start = search in
-    let ends = ends-facts _ _ _ (start .pre .ends) in
-    (ends .s-low, omega (arith, start .pre .words .few))
+    let (two, words) = start .pre in
+    let ends = ends-facts _ _ _ (two .ends) in
+    (ends .s-low, omega (arith, two .few))
 
 returns-2 : tie.Need-returns-2
 returns-2 c =

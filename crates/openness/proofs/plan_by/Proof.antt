@@ -9,7 +9,7 @@ returns : tie.Need-returns
 returns c =
     let start : tie.Start = search in
     let near : tie.After-beside-last = search in
-    let (symmetric, handed, low, high) = start .pre in
+    let (both-ways, handed, low, high) = start .pre in
     plan-told handed (near .beside-last .ensures) (c .opening .ensures)
 
 pub plan-by-spec : {M : Type 1} → statement M

@@ -2,7 +2,7 @@
 -- Its last atom is read from the array, and is an atom since the beginning is open.
 use native.Mathlib.Omega.{arith}
 use borrow.Author.Needs.{needs}
-use Rattle.openness.proofs.Aims.{first-some, place-atom, begun-room, begun-steps, steered-last}
+use Rattle.openness.proofs.Aims.{first-some, place-atom, begun-room, begun-each, begun-steps, steered-last}
 use Rattle.openness.proofs.steered_plan.Statement.{statement}
 use Rattle.openness.proofs.steered_plan.Tie as tie
 
@@ -24,7 +24,7 @@ swept-plan-requires c κs =
     let some = first-some (start .args .kind) in
     let (low, high) = place-atom (start .pre .0) _ (omega arith) (read .u8-usize .ensures .same) in
     let next : tie.After-aim-after = search in
-    (start .pre .0 .words .symmetric, next .aim-after .ensures, low, high)
+    (start .pre .0 .words .both-ways, next .aim-after .ensures, low, high)
 
 steps-left-requires : tie.Need-steps-left-requires
 steps-left-requires c κs =
@@ -38,7 +38,9 @@ returns c =
     let aimed : tie.After-aim-at = search in
     let read : tie.After-u8-usize = search in
     let steps : tie.After-steps-left = search in
+    let some = first-some (start .args .kind) in
     c .swept-plan .ensures _ _ _ (steered-last (read .u8-usize .ensures .same) (aimed .aim-at .ensures))
+    (begun-each (start .pre .0) (omega arith) (read .u8-usize .ensures .same))
     (begun-steps (start .pre .0) (steps .steps-left .ensures))
 
 pub steered-plan-spec : {M : Type 1} → statement M

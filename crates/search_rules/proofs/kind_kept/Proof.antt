@@ -2,7 +2,7 @@
 -- The laws of `Checks` say what each test decides.
 use mathlib.Core.Path.{sym, _∙_}
 use borrow.Author.Needs.{needs}
-use Rattle.search_rules.proofs.Checks.{kind-no-zero, kind-zero, kind-one, kind-no-end, kind-two, kind-none}
+use Rattle.search_rules.proofs.Checks.{kind-no-zero, kind-zero, kind-paths, kind-no-end, kind-two, kind-none}
 use Rattle.search_rules.proofs.kind_kept.Statement.{statement}
 use Rattle.search_rules.proofs.kind_kept.Tie as tie
 
@@ -15,13 +15,17 @@ returns-2 : tie.Need-returns-2
 returns-2 c = sym (kind-zero _ _ _ _ (c .before .if1 .taken) (c .if2 .left))
 
 returns-3 : tie.Need-returns-3
-returns-3 c = c .ends-kept .ensures ∙ sym (kind-one _ _ _ _ (c .before .if3 .taken))
+returns-3 c =
+    let told : tie.After-lists-paths = search in
+    let path = sym (told .lists-paths .ensures) ∙ c .before .if3 .taken in
+    c .ends-kept .ensures ∙ sym (kind-paths _ _ _ _ path)
 
 returns-4 : tie.Need-returns-4
 returns-4 c =
     let rings : tie.Else1 = search in
     let paths : tie.Else3 = search in
-    sym (kind-none _ _ _ _ (rings .if1 .left) (paths .if3 .left) (c .if4 .taken))
+    let no-path = sym (paths .before .lists-paths .ensures) ∙ paths .if3 .left in
+    sym (kind-none _ _ _ _ (rings .if1 .left) no-path (c .if4 .taken))
 
 returns-5 : tie.Need-returns-5
 returns-5 c = sym (kind-no-end _ _ _ _ (c .before .if4 .left) (c .if5 .taken))
@@ -34,4 +38,4 @@ returns-6 c =
 pub kind-kept-spec : {M : Type 1} → statement M
 kind-kept-spec =
     tie.close
-    (tie.spec returns returns-2 (λ c κs. search needs) returns-3 returns-4 returns-5 (λ c κs. search needs) returns-6)
+    (tie.spec returns returns-2 (λ c κs. search needs) (λ c κs. search needs) returns-3 returns-4 returns-5 (λ c κs. search needs) returns-6)

@@ -1,0 +1,9 @@
+pub mod Totals
+pub mod Ways
+pub mod Near
+pub mod Layers
+pub mod Replaced
+pub mod Rows
+pub mod Rounds
+pub mod Sums
+pub mod Tally

@@ -1,0 +1,166 @@
+-- Capped sums: sums of capped numbers, capped again, are the capped sums; and the loops that make them.
+-- By the cases of a number up to the limit and one above it.
+use Prim.Native.Nat.{ℕ, zero, suc, _+_, _≤_, _<_}
+use native.Mathlib.Decide.{decLt}
+use native.Mathlib.Omega.{arith}
+use mathlib.Core.Path.{_≡_, refl, ap, sym, _∙_}
+use mathlib.Core.Bool.{Bool, true, false, _&&_, not, cond}
+use mathlib.Core.List.{List}
+use mathlib.Core.Logic.{_⊎_, inl, inr}
+use lib.ListN.{length, getD, set, length-set}
+use lib.Seq.{getD-set-same, getD-set-other}
+use lib.Dec.{eqb}
+use borrow.Author.Tests.{le-leb, lt-leb}
+use Rattle.graph.specs.Chordless.{Adjacency}
+use Rattle.graph.proofs.Below.{either, clash, false-of, and-parts}
+use Rattle.fields.specs.Field.{limit}
+use Rattle.chordless.specs.Distance.{Atom, total}
+use Rattle.atomset.specs.Set.{has, Lowest, LowestLeft}
+use Rattle.distance.specs.Capped.{capped, sumOver, SumsAsked, SumsKept}
+use Rattle.distance.proofs.Totals.{atom-wider, atom-last, total-same, total-none, total-take}
+use Rattle.distance.proofs.Replaced.{Replaced, replaced-start, replaced-more, replaced-end}
+
+-- ---- capped numbers
+
+pub capped-small : {x : ℕ} → x ≤ limit → capped x ≡ x
+unfolding capped
+capped-small {x} h = rw (le-leb x limit h)
+
+pub capped-large : {x : ℕ} → limit < x → capped x ≡ suc limit
+unfolding capped
+capped-large {x} h = rw (lt-leb x limit h)
+
+-- a capped number is capped already
+pub capped-same : {x : ℕ} → x ≤ suc limit → capped x ≡ x
+capped-same {x} h = elim (decLt limit x) [
+  | yes above ↦ let same : x ≡ suc limit = omega arith in capped-large above ∙ sym same
+  | no below ↦ capped-small (omega arith)
+]
+
+pub capped-within : (x : ℕ) → capped x ≤ suc limit
+capped-within x = elim (decLt limit x) [
+  | yes above ↦ rw (capped-large above) (omega arith)
+  | no below ↦ rw (capped-small {x = x} (omega arith)) (omega arith)
+]
+
+pub capped-left : (a b : ℕ) → capped (capped a + b) ≡ capped (a + b)
+capped-left a b = elim (decLt limit a) [
+  | yes above ↦ rw (capped-large above) (capped-large (omega arith) ∙ sym (capped-large (omega arith)))
+  | no below ↦ rw (capped-small {x = a} (omega arith))
+]
+
+capped-both : (a b : ℕ) → capped (capped a + capped b) ≡ capped (a + b)
+capped-both a b =
+    let turned : a + capped b ≡ capped b + a = omega arith in
+    let back : b + a ≡ a + b = omega arith in
+    capped-left a (capped b) ∙ ap capped turned ∙ capped-left b a ∙ ap capped back
+
+-- a sum of capped numbers
+pub capped-total :
+    (n : ℕ) (f g : ℕ → ℕ) → ((a : ℕ) → Atom n a → f a ≡ capped (g a)) → capped (total n f) ≡ capped (total n g)
+unfolding total
+capped-total zero f g h = refl
+capped-total (suc n) f g h =
+    let rest = capped-total n f g (λ a at. h a (atom-wider (omega arith) at)) in
+    sym (capped-left (total n f) (f (suc n))) ∙ rw (rest, h (suc n) (atom-last n)) (capped-both (total n g) (g (suc n)))
+
+-- ---- the sum over a set; `left` is to do
+
+pub record Summed (numbers : List ℕ) (all left : ℕ → Bool) (sum : ℕ) : Type 0 where
+  pub within : sum ≤ suc limit
+  pub rest : capped (sum + sumOver left numbers) ≡ capped (sumOver all numbers)
+
+module _ {numbers : List ℕ} {all : ℕ → Bool} where
+  pub summed-start : Summed numbers all all 0
+  summed-start =
+      let same : 0 + sumOver all numbers ≡ sumOver all numbers = omega arith in
+      record { within = omega arith; rest = ap capped same }
+
+  pub summed-more :
+      {left rest : List ℕ} {v sum more : ℕ} → Summed numbers all (has left) sum → Lowest left v → LowestLeft left rest →
+      more ≡ capped (sum + getD numbers v 0) → Summed numbers all (has rest) more
+  summed-more {left} {rest} {v} {sum} s lowest takes more-is =
+      let f : ℕ → ℕ = λ a. getD numbers a 0 in
+      let atom : Atom 128 v = record { low = lowest .low; high = lowest .high } in
+      let taken = total-take 128 f (has left) atom (lowest .member) (takes .others v lowest) in
+      let same : sum + getD numbers v 0 + sumOver (has rest) numbers ≡ sum + sumOver (has left) numbers = omega arith in
+      record {
+        within = rw more-is (capped-within (sum + getD numbers v 0));
+        rest =
+            rw more-is
+            (capped-left (sum + getD numbers v 0) (sumOver (has rest) numbers) ∙ ap capped same ∙ s .rest);
+      }
+
+  pub summed-end :
+      {left : ℕ → Bool} {sum : ℕ} → Summed numbers all left sum → ((a : ℕ) → left a ≡ false) →
+      sum ≡ capped (sumOver all numbers)
+  summed-end {left} {sum} s empty =
+      let none = total-none 128 (λ a. cond (left a) (getD numbers a 0) 0) (λ a at. rw (empty a)) in
+      let same : sum + sumOver left numbers ≡ sum = omega arith in
+      sym (capped-same (s .within)) ∙ ap capped (sym same) ∙ s .rest
+
+-- ---- a loop that stores the sums of the atoms of `found`; those of `left` are to do
+
+-- the sum of the numbers of the atoms of `front` that v is bonded to
+abbrev pub sumBefore : Adjacency → (ℕ → Bool) → List ℕ → ℕ → ℕ
+sumBefore adj front numbers v = capped (sumOver (λ a. adj v a && front a) numbers)
+
+pub record Summing (adj : Adjacency) (front found left : ℕ → Bool) (old numbers : List ℕ) : Type 0 where
+  pub long : length numbers ≡ 129
+  pub apart : (a : ℕ) → found a ≡ true → front a ≡ false
+  pub within : (a : ℕ) → left a ≡ true → found a ≡ true
+  pub sums : Replaced found left (λ v. getD old v 0) (sumBefore adj front old) (λ v. getD numbers v 0)
+
+module _ {adj : Adjacency} {front found : ℕ → Bool} {old : List ℕ} where
+  pub summing-start : SumsAsked front found old → Summing adj front found found old old
+  summing-start asked = record {
+    long = asked .size;
+    apart = asked .apart;
+    within = λ a e. e;
+    sums = replaced-start found _ _;
+  }
+
+  -- the numbers of the atoms of `front` are still the old ones
+  sum-still :
+      {left near : ℕ → Bool} {numbers : List ℕ} (v : ℕ) → Summing adj front found left old numbers →
+      ((b : ℕ) → near b ≡ (adj v b && front b)) → sumOver near numbers ≡ sumOver (λ a. adj v a && front a) old
+  sum-still {left} {near} {numbers} v s near-is =
+      total-same 128 _ _ (λ a at. rw (near-is a) (at-atom a (either (front a))))
+    where
+      at-atom :
+          (a : ℕ) → (front a ≡ true) ⊎ (front a ≡ false) →
+          cond (adj v a && front a) (getD numbers a 0) 0 ≡ cond (adj v a && front a) (getD old a 0) 0
+      at-atom a (inl here) =
+          let not-found = false-of (found a) (λ e. clash (front a) here (s .apart a e)) in
+          let still : getD numbers a 0 ≡ getD old a 0 = s .sums .at a ∙ rw not-found in
+          rw still
+      at-atom a (inr away) = rw away (neither (adj v a) (getD numbers a 0) (getD old a 0))
+        where
+          neither : (t : Bool) (x y : ℕ) → cond (t && false) x 0 ≡ cond (t && false) y 0
+          neither true x y = refl
+          neither false x y = refl
+
+  pub summing-more :
+      {left rest numbers : List ℕ} {v sum : ℕ} (near : List ℕ) → Summing adj front found (has left) old numbers →
+      Lowest left v → LowestLeft left rest → ((b : ℕ) → has near b ≡ (adj v b && front b)) →
+      sum ≡ capped (sumOver (has near) numbers) → Summing adj front found (has rest) old (set numbers v sum)
+  summing-more {left} {rest} {numbers} {v} {sum} near s lowest takes near-is sum-is = record {
+    long = length-set numbers v sum ∙ s .long;
+    apart = s .apart;
+    within = λ a e. s .within a (and-parts (has left a) (not (eqb a v)) (sym (rest-is a) ∙ e) .0);
+    sums =
+        replaced-more (s .within) (lowest .member) rest-is (s .sums)
+        (getD-set-same numbers v sum 0 inside ∙ sum-is ∙ ap capped (sum-still v s near-is))
+        (λ a other. getD-set-other numbers v a sum 0 other);
+  }
+    where
+      inside : v < length numbers
+      inside = omega (arith, s .long, lowest .high)
+
+      rest-is : (a : ℕ) → has rest a ≡ (has left a && not (eqb a v))
+      rest-is = takes .others v lowest
+
+  pub summing-end :
+      {left : ℕ → Bool} {numbers : List ℕ} → Summing adj front found left old numbers →
+      ((a : ℕ) → left a ≡ false) → SumsKept adj front found old numbers
+  summing-end s empty = record { size = s .long; sums = replaced-end empty (s .sums) }
