@@ -57,8 +57,8 @@ void flat_write_field(uint8_t *field, size_t field_len, uint64_t value);
    function below returns 200 when rows_len is not 2,048, numbers_len not 10 or
    prefix_len not 128; that, and every refusal, writes nothing. */
 
-/* 0: the fresh search is written (used and made 0); 9 (then 10, 11 for paths,
-   21 for the rings of at most `size` atoms): refused. */
+/* 0: the fresh search is written (used and made 0); 9 (then 10, 11 for paths
+   and for shortest paths, 21 for the rings of at most `size` atoms): refused. */
 uint32_t flat_start_rings(uint64_t atoms, uint64_t bonds,
                           const uint8_t *rows, size_t rows_len,
                           uint64_t *numbers, size_t numbers_len,
@@ -73,6 +73,21 @@ uint32_t flat_start_rings_up_to(uint64_t atoms, uint64_t bonds,
                                 uint64_t size,
                                 uint64_t *numbers, size_t numbers_len,
                                 uint8_t *prefix, size_t prefix_len);
+
+uint32_t flat_start_shortest(uint64_t atoms, uint64_t bonds,
+                             const uint8_t *rows, size_t rows_len,
+                             uint64_t s, uint64_t t,
+                             uint64_t *numbers, size_t numbers_len,
+                             uint8_t *prefix, size_t prefix_len);
+
+/* The number of shortest paths from s to t, each bond of length 1, 0 where t is
+   not joined to s. 0: the number is in *count; 9, 10, 11, or 26 when the number
+   is above 9,999,999,999,999,999,999: refused; 200: rows_len is not 2,048.
+   *count is written with 0 alone. */
+uint32_t flat_count_shortest(uint64_t atoms, uint64_t bonds,
+                             const uint8_t *rows, size_t rows_len,
+                             uint64_t s, uint64_t t,
+                             uint64_t *count);
 
 /* Runs the search: 101 done, 102 limit, 103 spent, 104 full, with the search,
    used and made written back and the records in out; 9 or 12: refused. */

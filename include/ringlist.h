@@ -1,11 +1,13 @@
 /* include/ringlist.h: lists the chordless rings of a molecule, those up to a
-   chosen size, or the chordless paths between two of its atoms, in slices.
+   chosen size, or the chordless or the shortest paths between two of its atoms,
+   in slices; and counts the shortest paths.
 
    Link with libhost.a. ringlist_start starts a search of any kind: it writes
    its first mark. Each call of ringlist_resume reads a bond sheet, takes up the
    search where a mark left it, makes at most `budget` trials, and writes the
    rings that it found and the mark to go on from. A search for all rings may
-   also start without a mark. examples/minimal.c is a whole host in twenty
+   also start without a mark. ringlist_count_shortest works out the number of
+   shortest paths without listing them. examples/minimal.c is a whole host in twenty
    lines; examples/host.c keeps its mark in a file and goes on after being
    killed. */
 #ifndef RINGLIST_H
@@ -60,10 +62,10 @@ extern "C" {
    Next mark. It stands at the start of the output, 91 + 4 * (atoms in the
    present beginning) bytes, that is ringlist_mark_length(next_mark,
    next_mark_len); the bytes past it keep their values. It is text of three
-   lines. Line 1: kind (0 rings, 1 paths, 2 rings of at most s atoms), s and t
-   (0 and 0 for kind 0, the two ends for kind 1, the largest size and 0 for
-   kind 2), n, m, the number of atoms in the present beginning, and the next
-   atom, 4 columns each. Line 2: trials, extensions and rings listed so far, 20
+   lines. Line 1: kind (0 rings, 1 paths, 2 rings of at most s atoms, 3 shortest
+   paths), s and t (0 and 0 for kind 0, the two ends for kinds 1 and 3, the
+   largest size and 0 for kind 2), n, m, the number of atoms in the present
+   beginning, and the next atom, 4 columns each. Line 2: trials, extensions and rings listed so far, 20
    columns each. Line 3: the atoms of the beginning, 4 columns each. Blanks fill
    the fields of a mark, whatever fills those of the sheet; a mark with a field
    that zeros fill, also "0000" for 0, is refused (14).
@@ -94,9 +96,9 @@ extern "C" {
       14  the mark's bytes do not follow the layout, in which zeros fill no
           field
       15  the mark's n or m differs from the sheet's
-      16  the mark's kind is not 0, 1 or 2, or its s and t are not 0 and 0 for
-          kind 0, or not two different atoms for kind 1, or not a size from 3
-          to 128 and 0 for kind 2
+      16  the mark's kind is not 0, 1, 2 or 3, or its s and t are not 0 and 0
+          for kind 0, or not two different atoms for kinds 1 and 3, or not a
+          size from 3 to 128 and 0 for kind 2
       17  the mark's beginning is not open, or its next atom is 0 or above n
           (n + 1 is allowed with no beginning: the mark of a search that is
           done)
@@ -104,15 +106,16 @@ extern "C" {
    No other number comes back.
 
    A mark of kind 1 lists the chordless paths from s to t in the same way, as
-   records of 2 atoms or more, and one of kind 2 the rings of at most s atoms;
-   what is said above of rings holds of these. ringlist_start writes the first
-   mark of such a search.
+   records of 2 atoms or more, one of kind 2 the rings of at most s atoms, and
+   one of kind 3 the shortest paths from s to t, each bond of length 1; what is
+   said above of rings holds of these. Each shortest path is a chordless one.
+   ringlist_start writes the first mark of such a search.
 
    The functions have no state of their own: they may be called at once from
    several threads, where no output of one call overlaps a stretch of another.
    They take no memory from the heap and use less than 32 kilobytes of stack.
    This paragraph is not proved: no Rattle function has a heap, or variables
-   that outlive a call; the stack is measured on a start and two resumes
+   that outlive a call; the stack is measured on starts, resumes and counts
    (tests/c/host_test.c). That the prototypes in this header are those of the
    code is tested (tests/prototypes.py). The proofs of these functions assume
    nothing of the C library; only those of the program ringlist do, of its read
@@ -129,7 +132,8 @@ uint32_t ringlist_resume(const uint8_t *sheet, size_t sheet_len,
    sheet      the bond sheet, as for ringlist_resume.
    kind, s, t what to list. 0: all rings, with s = 0 and t = 0. 1: the paths
               from atom s to atom t, which differ. 2: the rings of at most s
-              atoms, s from 3 to 128, with t = 0.
+              atoms, s from 3 to 128, with t = 0. 3: the shortest paths from
+              atom s to atom t, which differ.
    next_mark  the mark output, next_mark_len bytes, at least 599 as for
               ringlist_resume.
 
@@ -147,10 +151,10 @@ uint32_t ringlist_resume(const uint8_t *sheet, size_t sheet_len,
    Returned when it was refused, by the first rule that is broken in the order
    1 to 8, 16, then 10 and 11 or 21, then 13. A refused call writes nothing.
        1 to 8  as for ringlist_resume
-      16  kind is not 0, 1 or 2, or s or t is not 0 for kind 0, or t is not 0
-          for kind 2
-      10  for kind 1, s or t is 0 or above n
-      11  for kind 1, s equals t
+      16  kind is not 0, 1, 2 or 3, or s or t is not 0 for kind 0, or t is not
+          0 for kind 2
+      10  for kinds 1 and 3, s or t is 0 or above n
+      11  for kinds 1 and 3, s equals t
       21  for kind 2, s is below 3 or above 128
       13  the mark output is shorter than 599 bytes
    No other number comes back. Rule 16 of ringlist_resume allows whatever it
@@ -159,6 +163,31 @@ uint32_t ringlist_resume(const uint8_t *sheet, size_t sheet_len,
 uint32_t ringlist_start(const uint8_t *sheet, size_t sheet_len,
                         uint64_t kind, uint64_t s, uint64_t t,
                         uint8_t *next_mark, size_t next_mark_len);
+
+/* The number of shortest paths from atom s to atom t, each bond of length 1: as
+   many as a search of kind 3 with these ends lists. It works by sums along the
+   distances from s, in time that does not grow with the number.
+
+   sheet      the bond sheet, as for ringlist_resume.
+   s, t       the two ends.
+   count      where the number is put.
+
+   Taken on trust, and nothing else: the sheet is real memory of the length
+   given and count that of a real number, aligned as one, readable and writable
+   for as long as the call lasts; they do not overlap, and nobody else writes to
+   either during the call. All else is checked.
+
+   Returned when the number is in *count: 0. It is 0 where t is not joined to s.
+
+   Returned when it was refused, by the first rule that is broken in the order
+   1 to 8, 10, 11, 26. *count is then unchanged.
+       1 to 8  as for ringlist_resume
+      10  s or t is 0 or above n
+      11  s equals t
+      26  the number is above 9,999,999,999,999,999,999
+   No other number comes back. */
+uint32_t ringlist_count_shortest(const uint8_t *sheet, size_t sheet_len,
+                                 uint64_t s, uint64_t t, uint64_t *count);
 
 /* The bytes of the mark at the start of a buffer: 91 + 4 * the number in
    columns 21 to 24 of its first line. 0 where the buffer has fewer bytes than

@@ -8,7 +8,8 @@ Of each header and crate: the header declares exactly the functions marked
 names in the same order; and a C file that declares each function again as the
 code has it, and takes its address, compiles with the header, as C and as C++.
 So a parameter or result of another type is an error of the compiler. A slice is
-two parameters in C, its pointer NAME and its length NAME_len.
+two parameters in C, its pointer NAME and its length NAME_len; a number that is
+lent is its pointer NAME alone.
 
 Last it shows that it finds faults: the headers with a wrong word each must fail.
 FOLDER takes the C files.
@@ -41,9 +42,13 @@ WRONG = [
     ("include/ringlist.h", "size_t ringlist_mark_length", "uint32_t ringlist_mark_length"),
     ("include/ringlist.h", "uint64_t budget", "int64_t budget"),
     ("include/ringlist.h", "uint64_t s, uint64_t t", "uint64_t t, uint64_t s"),             # of the same types
+    ("include/ringlist.h", "uint64_t t, uint64_t *count", "uint64_t t, uint32_t *count"),
+    ("include/ringlist.h", "uint64_t t, uint64_t *count", "uint64_t t, const uint64_t *count"),
+    ("include/ringlist.h", "uint64_t t, uint64_t *count", "uint64_t t, uint64_t *count, size_t count_len"),
     ("include/ringlist.h", 'extern "C" {', 'extern "C++" {'),
     ("include/flat.h", "const uint64_t *numbers", "uint64_t *numbers"),
     ("include/flat.h", "uint64_t flat_read_field", "uint32_t flat_read_field"),
+    ("include/flat.h", "uint64_t *count", "uint64_t count"),
 ]
 
 
@@ -57,6 +62,9 @@ def in_c(name, of):
     if slice_of:
         const = "" if slice_of.group(1) else "const "
         return [(const + TYPES[slice_of.group(2)] + " *", name), ("size_t ", name + "_len")]
+    number = re.fullmatch(r"&(mut )?(\w+)", of)
+    if number and number.group(2) in TYPES:
+        return [(("" if number.group(1) else "const ") + TYPES[number.group(2)] + " *", name)]
     if of not in TYPES:
         raise Fault("%s: %s has no type in C" % (name, of))
     return [(TYPES[of] + " ", name)]

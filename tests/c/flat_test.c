@@ -561,6 +561,11 @@ static uint32_t start_rings_up_to(search *given, uint64_t size) {
                                   PLACES);
 }
 
+static uint32_t start_shortest(search *given, uint64_t s, uint64_t t) {
+    return flat_start_shortest(4, 5, rows, ROWS, s, t, given->numbers, NUMBERS, given->prefix,
+                               PLACES);
+}
+
 /* Runs with an output of exactly `len` bytes, copied into `out` of 16. */
 static uint32_t run(search *given, uint64_t budget, uint8_t out[16], size_t len) {
     memset(out, PATTERN, 16);
@@ -799,6 +804,233 @@ static void refused_up_to(void) {
     CHECK(same(&now, &before));
 }
 
+/* Shortest paths. The bonds 1-2, 2-3, 3-4 make a path from 1 to 4 of four atoms,
+   and 1-5, 5-4 and 1-6, 6-4 two of three: 1 5 4 and 1 6 4. The first has no chord
+   but is longer, so that 1 2 does not open.
+     1: -    1  open     2 to 5: 1 with 1, 2, 3, 4  no     6: 1    5  open
+     7 to 9: 1 5 with 1, 2, 3  no     10: 1 5  4  listed   11, 12: 1 5 with 5, 6
+     no, p becomes 1 and c 6          13: 1    6  open
+    14 to 16: 1 6 with 1, 2, 3  no    17: 1 6  4  listed   18, 19: 1 6 with 5, 6
+     no, p becomes 1, then empty, and c 2
+    20 to 24: - with 2 to 6  no, done: 6 * (3 + 1) = 24 trials
+   A search of kind 1 also opens 1 2 and 1 2 3: 36 trials, three paths. */
+static void shortest(void) {
+    /* 1: 2, 5, 6. 2: 1, 3. 3: 2, 4. 4: 3, 5, 6. 5: 1, 4. 6: 1, 4. */
+    static const uint8_t bits[6] = {0x32, 0x05, 0x0A, 0x34, 0x09, 0x09};
+    search now;
+    uint8_t out[16];
+    memset(rows, 0, ROWS);
+    for (int a = 0; a < 6; a++) {
+        rows[16 * a] = bits[a];
+    }
+    memset(out, PATTERN, 16);
+    memset(&now, PATTERN, sizeof now);
+    EQUAL(flat_start_shortest(6, 7, rows, ROWS, 1, 4, now.numbers, NUMBERS, now.prefix, PLACES), 0);
+    IS(&now, "", 3, 1, 4, 0, 1, 0, 0, 0, 0, 0);
+    EQUAL(flat_run(6, 7, rows, ROWS, now.numbers, NUMBERS, now.prefix, PLACES, 10, out, 16), 103);
+    IS(&now, "\1\5", 3, 1, 4, 2, 5, 10, 2, 1, 4, 10);
+    CHECK(memcmp(out, "\3\1\5\4", 4) == 0 && all_are(out + 4, 12, PATTERN));
+    /* Three bytes are too few for the other; full after trials 11 to 16. */
+    EQUAL(flat_run(6, 7, rows, ROWS, now.numbers, NUMBERS, now.prefix, PLACES, 99, out, 3), 104);
+    IS(&now, "\1\6", 3, 1, 4, 2, 4, 16, 3, 1, 0, 6);
+    EQUAL(flat_run(6, 7, rows, ROWS, now.numbers, NUMBERS, now.prefix, PLACES, 99, out, 4), 101);
+    IS(&now, "", 3, 1, 4, 0, 7, 24, 3, 2, 4, 8);
+    CHECK(memcmp(out, "\3\1\6\4", 4) == 0 && all_are(out + 4, 12, PATTERN));
+    /* The same ends as kind 1. */
+    EQUAL(flat_start_paths(6, 7, rows, ROWS, 1, 4, now.numbers, NUMBERS, now.prefix, PLACES), 0);
+    EQUAL(flat_run(6, 7, rows, ROWS, now.numbers, NUMBERS, now.prefix, PLACES, 99, out, 16), 101);
+    IS(&now, "", 1, 1, 4, 0, 7, 36, 5, 3, 13, 36);
+    CHECK(memcmp(out, "\4\1\2\3\4\3\1\5\4\3\1\6\4", 13) == 0);
+    /* The beginning 1 5 is open, and 1 2 for kind 1 alone. */
+    static const char mark[] =
+        "   3   1   4   6   7   2   6\n"
+        "                   0                   0                   0\n"
+        "   1   5\n";
+    uint8_t changed[100];
+    memcpy(changed, mark, 99);
+    EQUAL(flat_restore(6, 7, rows, ROWS, changed, 99, now.numbers, NUMBERS, now.prefix, PLACES), 0);
+    IS(&now, "\1\5", 3, 1, 4, 2, 6, 0, 0, 0, 0, 0);
+    uint8_t saved[100];
+    memset(saved, PATTERN, 100);
+    EQUAL(flat_save(6, 7, rows, ROWS, now.numbers, NUMBERS, now.prefix, PLACES, saved, 100), 99);
+    CHECK(memcmp(saved, mark, 99) == 0 && saved[99] == PATTERN);
+    search before = now;
+    changed[97] = '2';
+    EQUAL(flat_restore(6, 7, rows, ROWS, changed, 99, now.numbers, NUMBERS, now.prefix, PLACES), 17);
+    CHECK(same(&now, &before));
+    changed[3] = '1';
+    EQUAL(flat_restore(6, 7, rows, ROWS, changed, 99, now.numbers, NUMBERS, now.prefix, PLACES), 0);
+    now.numbers[0] = 3;
+    before = now;
+    EQUAL(flat_run(6, 7, rows, ROWS, now.numbers, NUMBERS, now.prefix, PLACES, 9, out, 16), 12);
+    EQUAL(flat_save(6, 7, rows, ROWS, now.numbers, NUMBERS, now.prefix, PLACES, saved, 100), 12);
+    CHECK(same(&now, &before));
+}
+
+/* The same functions on the document's sheet: what they refuse. */
+static void refused_shortest(void) {
+    static const uint64_t ends[6] = {0, 5, 128, 258, (UINT64_C(1) << 32) + 2, UINT64_MAX};
+    search now, before, full;
+    uint8_t out[16];
+    document_rows(rows);
+    memset(&before, PATTERN, sizeof before);
+    now = before;
+    for (int i = 0; i < 6; i++) {
+        EQUAL(start_shortest(&now, ends[i], 4), 10);
+        EQUAL(start_shortest(&now, 2, ends[i]), 10);
+        EQUAL(start_shortest(&now, ends[i], ends[i]), 10);
+    }
+    EQUAL(start_shortest(&now, 3, 3), 11);
+    CHECK(same(&now, &before));
+    /* 12: of a search at 2 1, whose next atom is 4. The trials: 2 opens, 2 1
+       opens, 2 1 with 1, 2, 3. */
+    EQUAL(start_shortest(&full, 2, 4), 0);
+    EQUAL(run(&full, 6, out, 16), 103);
+    IS(&full, "\2\1", 3, 2, 4, 2, 4, 6, 2, 0, 0, 6);
+    for (int i = 0; i < 6; i++) {
+        SEARCH_REFUSED(numbers[1] = ends[i]);
+        SEARCH_REFUSED(numbers[2] = ends[i]);
+    }
+    SEARCH_REFUSED(numbers[1] = 4);
+    SEARCH_REFUSED(numbers[2] = 2);
+    SEARCH_REFUSED(numbers[0] = 0);
+    SEARCH_REFUSED(numbers[0] = 2);
+    SEARCH_REFUSED(numbers[0] = 4);
+    SEARCH_REFUSED(numbers[0] = (UINT64_C(1) << 32) + 3);
+    SEARCH_REFUSED(prefix[1] = 4);
+    SEARCH_REFUSED(numbers[4] = 5);
+    now = full;
+    EQUAL(run(&now, 99, out, 8), 101);
+    IS(&now, "", 3, 2, 4, 0, 5, 16, 3, 2, 8, 10);
+    CHECK(memcmp(out, "\3\2\1\4\3\2\3\4", 8) == 0);
+    /* 16 in marks, before 17; and 17: no shortest path from 1 to 3 begins 1 2. */
+    MARK_REFUSED("   3   0   0   4   5   2   0\n" LINE_2 LINE_3, 16);
+    MARK_REFUSED("   3   1   0   4   5   2   3\n" LINE_2 LINE_3, 16);
+    MARK_REFUSED("   3   1   5   4   5   2   3\n" LINE_2 LINE_3, 16);
+    MARK_REFUSED("   3   1   1   4   5   2   3\n" LINE_2 LINE_3, 16);
+    MARK_REFUSED("   4   1   3   4   5   2   3\n" LINE_2 LINE_3, 16);
+    MARK_REFUSED("   3   1   3   4   5   2   3\n" LINE_2 LINE_3, 17);
+    MARK_REFUSED("   3   1   3   5   5   2   3\n" LINE_2 LINE_3, 15);
+    MARK_REFUSED("0003   1   3   4   5   2   3\n" LINE_2 LINE_3, 14);
+    /* 9 before 10 and 11: the bond 1-2 has lost one of its bits. And 200 before
+       them all. */
+    rows[0] = 0x0C;
+    now = before;
+    EQUAL(start_shortest(&now, 2, 4), 9);
+    EQUAL(start_shortest(&now, 0, 4), 9);
+    EQUAL(start_shortest(&now, 3, 3), 9);
+    EQUAL(flat_start_shortest(4, 5, rows, ROWS - 1, 0, 0, now.numbers, NUMBERS, now.prefix, PLACES),
+          200);
+    EQUAL(flat_start_shortest(4, 5, rows, ROWS, 0, 0, now.numbers, 9, now.prefix, PLACES), 200);
+    EQUAL(flat_start_shortest(4, 5, rows, ROWS, 0, 0, now.numbers, NUMBERS, now.prefix, 129), 200);
+    CHECK(same(&now, &before));
+}
+
+/* What a number holds before a call that may write it. */
+#define NO_COUNT UINT64_C(0xA5A5A5A5A5A5A5A5)
+
+/* A count, its answer and the number, which is written with the answer 0 alone;
+   the numbers beside it are kept. */
+static void counted(uint64_t atoms, uint64_t bonds, size_t rows_len, uint64_t s, uint64_t t,
+                    uint32_t answer, uint64_t number, int line) {
+    uint64_t around[3] = {NO_COUNT, NO_COUNT, NO_COUNT};
+    uint8_t *given = exact(rows, rows_len);
+    check_number(flat_count_shortest(atoms, bonds, given, rows_len, s, t, &around[1]), answer, line,
+                 "answer of count");
+    check_number(around[1], number, line, "count");
+    check(around[0] == NO_COUNT && around[2] == NO_COUNT, line, "numbers beside the count");
+    check(memcmp(given, rows, rows_len) == 0, line, "rows kept");
+    free(given);
+}
+
+#define COUNTED(n, m, s, t, number) counted((n), (m), ROWS, (s), (t), 0, (number), __LINE__)
+#define NOT_COUNTED(n, m, s, t, rule) counted((n), (m), ROWS, (s), (t), (rule), NO_COUNT, __LINE__)
+
+/* Joins two atoms in the rows. */
+static void join(int a, int b) {
+    rows[16 * (a - 1) + (b - 1) / 8] |= (uint8_t)(1 << (b - 1) % 8);
+    rows[16 * (b - 1) + (a - 1) / 8] |= (uint8_t)(1 << (a - 1) % 8);
+}
+
+/* Atom 1, then `count` layers of three atoms, each bonded to all of the next.
+   Layer k has the atoms 3 * k - 1 to 3 * k + 1. Returns the number of bonds. */
+static uint64_t three_wide(int count) {
+    memset(rows, 0, ROWS);
+    for (int b = 2; b <= 4; b++) {
+        join(1, b);
+    }
+    for (int k = 1; k < count; k++) {
+        for (int a = 3 * k - 1; a <= 3 * k + 1; a++) {
+            for (int b = 3 * k + 2; b <= 3 * k + 4; b++) {
+                join(a, b);
+            }
+        }
+    }
+    return 3 + 9 * (uint64_t)(count - 1);
+}
+
+/* The same with a last atom that is bonded to all of the last layer; 3 to the
+   power of `count` shortest paths go from the first atom to it. */
+static uint64_t three_wide_to_t(int count) {
+    uint64_t bonds = three_wide(count);
+    for (int a = 3 * count - 1; a <= 3 * count + 1; a++) {
+        join(a, 3 * count + 2);
+    }
+    return bonds + 3;
+}
+
+/* The number of shortest paths. */
+static void counts(void) {
+    /* The document's sheet: 2 1 4 and 2 3 4; 1 3; and an atom apart. */
+    document_rows(rows);
+    COUNTED(4, 5, 2, 4, 2);
+    COUNTED(4, 5, 4, 2, 2);
+    COUNTED(4, 5, 1, 3, 1);
+    COUNTED(5, 5, 1, 5, 0);
+    COUNTED(128, 5, 128, 127, 0);
+    /* 10, then 11. */
+    NOT_COUNTED(4, 5, 0, 0, 10);
+    NOT_COUNTED(4, 5, 0, 4, 10);
+    NOT_COUNTED(4, 5, 2, 0, 10);
+    NOT_COUNTED(4, 5, 2, 5, 10);
+    NOT_COUNTED(4, 5, 5, 5, 10);
+    NOT_COUNTED(4, 5, 258, 4, 10);
+    NOT_COUNTED(4, 5, 2, (UINT64_C(1) << 32) + 4, 10);
+    NOT_COUNTED(4, 5, UINT64_MAX, UINT64_MAX, 10);
+    NOT_COUNTED(4, 5, 2, 2, 11);
+    /* 9 before both, and 200 before it. */
+    NOT_COUNTED(4, 6, 2, 4, 9);
+    NOT_COUNTED(4, 6, 0, 0, 9);
+    NOT_COUNTED(129, 5, 2, 2, 9);
+    counted(4, 5, ROWS - 1, 2, 4, 200, NO_COUNT, __LINE__);
+    counted(4, 6, 0, 0, 0, 200, NO_COUNT, __LINE__);
+    /* Layers of three: 3 to the 39th is below the limit, 3 to the 40th and the
+       42nd are above. 42 layers have 128 atoms and 375 bonds. */
+    EQUAL(three_wide_to_t(39), 348);
+    COUNTED(119, 348, 1, 119, UINT64_C(4052555153018976267));
+    COUNTED(119, 348, 119, 1, UINT64_C(4052555153018976267));
+    EQUAL(three_wide_to_t(40), 357);
+    NOT_COUNTED(122, 357, 1, 122, 26);
+    EQUAL(three_wide_to_t(42), 375);
+    NOT_COUNTED(128, 375, 1, 128, 26);
+    NOT_COUNTED(128, 375, 128, 1, 26);
+    NOT_COUNTED(128, 374, 1, 128, 9);
+    NOT_COUNTED(128, 375, 0, 128, 10);
+    NOT_COUNTED(128, 375, 1, 129, 10);
+    NOT_COUNTED(128, 375, 128, 128, 11);
+    /* 41 layers of three, and t on one atom of layer 38 by three others: 3 to the
+       37th paths. It is farther from s than layer 41, whose atoms have 3 to the
+       40th, above the limit, and lie on no path to t. */
+    EQUAL(three_wide(41), 363);
+    join(114, 125);
+    join(125, 126);
+    join(126, 127);
+    join(127, 128);
+    COUNTED(128, 367, 1, 128, UINT64_C(450283905890997363));
+    COUNTED(128, 367, 128, 1, UINT64_C(450283905890997363));
+    NOT_COUNTED(128, 367, 1, 124, 26);
+}
+
 /* The document's sheet has the rings 1 2 3 and 1 3 4. The trials of a fresh
    ring search, with p and the atom tried, 4 for each p (n * (extensions + 1)
    = 4 * 4 = 16):
@@ -1011,6 +1243,9 @@ int main(void) {
     two_rings_up_to();
     three_rings_up_to();
     refused_up_to();
+    shortest();
+    refused_shortest();
+    counts();
     printf("C test: %u checks, %u failed\n", checks, failures);
     return failures == 0 ? 0 : 1;
 }

@@ -285,6 +285,12 @@ static void refusals(void) {
     REFUSED(document, "   2   3   1   4   5   2   3\n" LINE_2 LINE_3, MARK, 16);
     REFUSED(document, "   2   3   0   4   5   2   3\n" LINE_2 "   1   4\n", MARK, 17);
     REFUSED(document, "   2   3   0   4   5   2   3\n" LINE_2 LINE_3, 598, 13);
+    REFUSED(document, "   3   3   0   4   5   2   3\n" LINE_2 LINE_3, MARK, 16);
+    REFUSED(document, "   3   1   1   4   5   2   3\n" LINE_2 LINE_3, MARK, 16);
+    REFUSED(document, "   3   1   5   4   5   2   3\n" LINE_2 LINE_3, MARK, 16);
+    REFUSED(document, "   4   1   3   4   5   2   3\n" LINE_2 LINE_3, MARK, 16);
+    REFUSED(document, "   3   1   3   4   5   2   3\n" LINE_2 LINE_3, MARK, 17);
+    REFUSED(document, "   3   2   4   4   5   2   3\n" LINE_2 "   2   1\n", 598, 13);
     REFUSED(document, "   0   1   0   4   5   2   3\n" LINE_2 LINE_3, MARK, 16);
     REFUSED(document, "   1   1   1   4   5   1   1\n" LINE_2 "   1\n", MARK, 16);
     REFUSED(document, "   1   1   5   4   5   1   1\n" LINE_2 "   1\n", MARK, 16);
@@ -319,6 +325,9 @@ static void zero_lengths(void) {
         CHECK(memcmp(next, full_mark, 99) == 0);
         EQUAL(ringlist_start(any, 0, 0, 0, 0, any, 0), 1);
         EQUAL(ringlist_start((const uint8_t *)SHEET, 0, 0, 0, any, 0), 13);
+        uint64_t number = 7;
+        EQUAL(ringlist_count_shortest(any, 0, 1, 2, &number), 1);
+        EQUAL(number, 7);
         EQUAL(ringlist_mark_length(any, 0), 0);
         EQUAL(ringlist_listed(any, 0), 0);
     }
@@ -357,6 +366,29 @@ static void paths(void) {
         "   1   2   4   4   5   0   5\n"
         "                  16                   3                   2\n\n";
     wrote(call(SHEET, start, 91, 99, 8, MARK), 101, "\3\2\1\4\3\2\3\4", 8, end, 91, __LINE__);
+}
+
+/* A mark of kind 3 on six atoms. The bonds 1-2, 2-3, 3-4 make a path from 1 to 4
+   without a chord, 1-5, 5-4 and 1-6, 6-4 two shorter ones: 1 5 4 and 1 6 4 with
+   the beginnings 1, 1 5 and 1 6; 6 * (3 + 1) = 24 trials. */
+static const char six_atoms[] =
+    "   6   7\n   1   2\n   2   3\n   3   4\n   1   5\n   4   5\n   1   6\n   4   6\n";
+
+static void shortest(void) {
+    static const char start[] =
+        "   3   1   4   6   7   0   1\n"
+        "                   0                   0                   0\n\n";
+    static const char halfway[] =
+        "   3   1   4   6   7   2   5\n"
+        "                  10                   2                   1\n   1   5\n";
+    static const char end[] =
+        "   3   1   4   6   7   0   7\n"
+        "                  24                   3                   2\n\n";
+    const size_t len = sizeof six_atoms - 1;
+    wrote(call(six_atoms, len, start, 91, 99, 8, MARK), 101, "\3\1\5\4\3\1\6\4", 8, end, 91,
+          __LINE__);
+    wrote(call(six_atoms, len, start, 91, 10, 8, MARK), 103, "\3\1\5\4", 4, halfway, 99, __LINE__);
+    wrote(call(six_atoms, len, halfway, 99, 14, 4, MARK), 101, "\3\1\6\4", 4, end, 91, __LINE__);
 }
 
 /* A start, its answer and all that it wrote, in a mark output of `next_len`
@@ -402,6 +434,8 @@ static void starts(void) {
     STARTED(2, 3, 0, "   2   3   0   4   5   0   1");
     STARTED(2, 12, 0, "   2  12   0   4   5   0   1");
     STARTED(2, 128, 0, "   2 128   0   4   5   0   1");
+    STARTED(3, 2, 4, "   3   2   4   4   5   0   1");
+    STARTED(3, 4, 1, "   3   4   1   4   5   0   1");
     /* Zeros may fill the sheet, and blanks fill the mark. */
     started("00040001\n00010002\n", 18, 2, 6, 0, MARK, 0, "   2   6   0   4   1   0   1\n" NO_COUNTS,
             __LINE__);
@@ -415,12 +449,14 @@ static void starts(void) {
     started("   4   1\n   0   0\n", 18, 0, 0, 0, MARK, 6, "", __LINE__);
     started("   4   1\n   3   3\n", 18, 0, 0, 0, MARK, 7, "", __LINE__);
     /* 16: no such kind, or s or t where the kind has none. */
-    NOT_STARTED(3, 0, 0, 16);
-    NOT_STARTED(3, 3, 0, 16);
+    NOT_STARTED(4, 0, 0, 16);
+    NOT_STARTED(4, 2, 4, 16);
     NOT_STARTED(256, 0, 0, 16);
+    NOT_STARTED(259, 2, 4, 16);
     NOT_STARTED(high, 0, 0, 16);
     NOT_STARTED(high + 1, 2, 4, 16);
     NOT_STARTED(high + 2, 3, 0, 16);
+    NOT_STARTED(high + 3, 2, 4, 16);
     NOT_STARTED(UINT64_MAX, 0, 0, 16);
     NOT_STARTED(0, 1, 0, 16);
     NOT_STARTED(0, 0, 1, 16);
@@ -438,6 +474,15 @@ static void starts(void) {
     NOT_STARTED(1, high + 2, 4, 10);
     NOT_STARTED(1, 2, UINT64_MAX, 10);
     NOT_STARTED(1, 3, 3, 11);
+    /* The same of shortest paths. */
+    NOT_STARTED(3, 0, 0, 10);
+    NOT_STARTED(3, 3, 0, 10);
+    NOT_STARTED(3, 0, 4, 10);
+    NOT_STARTED(3, 5, 5, 10);
+    NOT_STARTED(3, 2, 5, 10);
+    NOT_STARTED(3, high + 2, 4, 10);
+    NOT_STARTED(3, 2, UINT64_MAX, 10);
+    NOT_STARTED(3, 3, 3, 11);
     /* 21: the size. */
     NOT_STARTED(2, 0, 0, 21);
     NOT_STARTED(2, 1, 0, 21);
@@ -505,6 +550,16 @@ static void listings_of_each_kind(void) {
     CHECK(memcmp(all, rings, 9) == 0);
     EQUAL(list_all(sheet, 1, 2, 6, all, counts), 10);
     CHECK(memcmp(all, "\4\2\1\4\6\4\2\1\5\6", 10) == 0);
+    /* Both are shortest paths. */
+    EQUAL(list_all(sheet, 3, 2, 6, all, counts), 10);
+    CHECK(memcmp(all, "\4\2\1\4\6\4\2\1\5\6", 10) == 0);
+    /* Of the paths from 1 to 4 on the other sheet two are. */
+    EQUAL(list_all(six_atoms, 1, 1, 4, all,
+                   "                  36                   5                   3"), 13);
+    CHECK(memcmp(all, "\4\1\2\3\4\3\1\5\4\3\1\6\4", 13) == 0);
+    EQUAL(list_all(six_atoms, 3, 1, 4, all,
+                   "                  24                   3                   2"), 8);
+    CHECK(memcmp(all, "\3\1\5\4\3\1\6\4", 8) == 0);
     EQUAL(list_all(sheet, 2, 3, 0, all, fewer), 4);
     CHECK(memcmp(all, rings, 4) == 0);
     for (int i = 0; i < 4; i++) {
@@ -515,6 +570,96 @@ static void listings_of_each_kind(void) {
     EQUAL(list_all(document, 2, 3, 0, all,
                    "                  16                   3                   2"), 8);
     CHECK(memcmp(all, records, 8) == 0);
+}
+
+/* What a number holds before a call that may write it. */
+#define NO_COUNT UINT64_C(0xA5A5A5A5A5A5A5A5)
+
+/* A count of shortest paths, its answer and the number, which is written with the
+   answer 0 alone; the numbers beside it are kept. */
+static void counted(const void *sheet, size_t sheet_len, uint64_t s, uint64_t t, uint32_t answer,
+                    uint64_t number, int line) {
+    uint64_t around[3] = {NO_COUNT, NO_COUNT, NO_COUNT};
+    uint8_t *given = exact(sheet, sheet_len);
+    check_number(ringlist_count_shortest(given, sheet_len, s, t, &around[1]), answer, line,
+                 "answer of count");
+    check_number(around[1], number, line, "count");
+    check(around[0] == NO_COUNT && around[2] == NO_COUNT, line, "numbers beside the count");
+    check(sheet_len == 0 || memcmp(given, sheet, sheet_len) == 0, line, "sheet kept");
+    free(given);
+}
+
+#define COUNTED(s, t, number) counted(SHEET, s, t, 0, number, __LINE__)
+/* A count refused by a rule of its ends, which comes after the sheet's. */
+#define NOT_COUNTED(s, t, rule)                                                          \
+    do {                                                                                 \
+        counted(SHEET, s, t, rule, NO_COUNT, __LINE__);                                  \
+        counted("   4   2\n   1   2\n   2   1\n", 27, s, t, 8, NO_COUNT, __LINE__);     \
+        counted("", 0, s, t, 1, NO_COUNT, __LINE__);                                     \
+    } while (0)
+
+/* The sheet of atom 1, then `count` layers of three atoms, each bonded to all of
+   the next, then a last atom: 3 to the power of `count` shortest paths. Returns
+   its bytes. */
+static size_t three_wide(int count, char sheet[9 * 376 + 1]) {
+    int n = 3 * count + 2;
+    int len = sprintf(sheet, "%4d%4d\n", n, 9 * (count - 1) + 6);
+    for (int a = 1; a < n; a++) {
+        int layer = (a + 1) / 3;
+        for (int b = 3 * layer + 2; b <= 3 * layer + 4 && b <= n; b++) {
+            len += sprintf(sheet + len, "%4d%4d\n", a, b);
+        }
+    }
+    return (size_t)len;
+}
+
+static void counts_of_shortest(void) {
+    static char layers[9 * 376 + 1];
+    const uint64_t high = UINT64_C(1) << 32;
+    /* 2 1 4 and 2 3 4; 1 3. */
+    COUNTED(2, 4, 2);
+    COUNTED(4, 2, 2);
+    COUNTED(1, 3, 1);
+    COUNTED(4, 1, 1);
+    counted(six_atoms, sizeof six_atoms - 1, 1, 4, 0, 2, __LINE__);
+    /* Not joined. */
+    counted("   4   1\n   1   2\n", 18, 1, 4, 0, 0, __LINE__);
+    counted("0004   1\n   10002\n", 18, 4, 3, 0, 0, __LINE__);
+    NOT_COUNTED(0, 0, 10);
+    NOT_COUNTED(0, 4, 10);
+    NOT_COUNTED(2, 0, 10);
+    NOT_COUNTED(5, 5, 10);
+    NOT_COUNTED(2, 5, 10);
+    NOT_COUNTED(258, 4, 10);
+    NOT_COUNTED(2, high + 4, 10);
+    NOT_COUNTED(UINT64_MAX, UINT64_MAX, 10);
+    NOT_COUNTED(3, 3, 11);
+    /* Each rule of the sheet, before those of the ends. */
+    counted("   4   1\n", 8, 0, 0, 1, NO_COUNT, __LINE__);
+    counted("  04   0\n", 9, 0, 0, 2, NO_COUNT, __LINE__);
+    counted(" 1291025\n", 9, 0, 0, 3, NO_COUNT, __LINE__);
+    counted(" 1281025\n", 9, 0, 0, 4, NO_COUNT, __LINE__);
+    counted("   4   1\n", 9, 0, 0, 5, NO_COUNT, __LINE__);
+    counted("   4   1\n   0   0\n", 18, 1, 1, 6, NO_COUNT, __LINE__);
+    counted("   4   1\n   3   3\n", 18, 1, 1, 7, NO_COUNT, __LINE__);
+    counted("   0   0\n", 9, 1, 2, 10, NO_COUNT, __LINE__);
+    /* 3 to the 39th is answered, 3 to the 40th and the 42nd are above the limit;
+       10 and 11 come first. */
+    size_t len = three_wide(39, layers);
+    EQUAL(len, 9 * 349);
+    counted(layers, len, 1, 119, 0, UINT64_C(4052555153018976267), __LINE__);
+    counted(layers, len, 119, 1, 0, UINT64_C(4052555153018976267), __LINE__);
+    len = three_wide(40, layers);
+    counted(layers, len, 1, 122, 26, NO_COUNT, __LINE__);
+    len = three_wide(42, layers);
+    EQUAL(len, 9 * 376);
+    counted(layers, len, 1, 128, 26, NO_COUNT, __LINE__);
+    counted(layers, len, 128, 1, 26, NO_COUNT, __LINE__);
+    counted(layers, len, 0, 128, 10, NO_COUNT, __LINE__);
+    counted(layers, len, 1, 129, 10, NO_COUNT, __LINE__);
+    counted(layers, len, 128, 128, 11, NO_COUNT, __LINE__);
+    counted(layers, len - 9, 1, 128, 5, NO_COUNT, __LINE__);
+    counted(layers, len - 1, 1, 1, 1, NO_COUNT, __LINE__);
 }
 
 /* Counts are taken as they are; at the limit a run stops before its first
@@ -584,11 +729,15 @@ static void mark_readers(void) {
 
 static void *call_in_thread(void *calls) {
     uint8_t rings[8], next[MARK], fresh[MARK];
+    uint64_t number = 0;
     return calls != NULL &&
                    ringlist_resume((const uint8_t *)SHEET, (const uint8_t *)full_mark, 99, 11,
                                    rings, 8, next, MARK) == 101 &&
                    ringlist_start((const uint8_t *)SHEET, 2, 12, 0, fresh, MARK) == 0 &&
-                   ringlist_resume((const uint8_t *)SHEET, fresh, 91, 16, rings, 8, next, MARK) == 101
+                   ringlist_resume((const uint8_t *)SHEET, fresh, 91, 16, rings, 8, next, MARK) == 101 &&
+                   ringlist_start((const uint8_t *)SHEET, 3, 2, 4, fresh, MARK) == 0 &&
+                   ringlist_resume((const uint8_t *)SHEET, fresh, 91, 16, rings, 8, next, MARK) == 101 &&
+                   ringlist_count_shortest((const uint8_t *)SHEET, 2, 4, &number) == 0 && number == 2
                ? calls
                : NULL;
 }
@@ -639,8 +788,10 @@ int main(int words, char **word) {
     zero_lengths();
     overlap();
     paths();
+    shortest();
     starts();
     listings_of_each_kind();
+    counts_of_shortest();
     limit();
     mark_readers();
     if (words == 1) {

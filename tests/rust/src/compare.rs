@@ -152,6 +152,7 @@ impl Calls {
         let answer = match kind {
             0 => ffi::start_rings(*atoms, *bonds, rows, given, places),
             1 => ffi::start_paths(*atoms, *bonds, rows, (s, t), given, places),
+            3 => ffi::start_shortest(*atoms, *bonds, rows, (s, t), given, places),
             _ => ffi::start_rings_up_to(*atoms, *bonds, rows, s, given, places),
         };
         let expected = machine::start(on.record, on.lists.is_some(), [kind, s, t]);
@@ -173,12 +174,44 @@ impl Calls {
         self.start("start_rings_up_to", on, [2, k, 0])
     }
 
+    pub fn start_shortest(&mut self, on: On, s: u64, t: u64) -> Result<Search, u32> {
+        self.start("start_shortest", on, [3, s, t])
+    }
+
+    /// The number of shortest paths. It holds anything before the call, and stands
+    /// between others that are kept.
+    pub fn count_shortest(&mut self, on: On, s: u64, t: u64) -> Result<u64, u32> {
+        let mut number = Guarded::numbers(1, self.seeds.next());
+        let Record { atoms, bonds, rows } = on.record;
+        let count = &mut number.buffer()[0];
+        let answer = ffi::count_shortest(*atoms, *bonds, rows, (s, t), count);
+        let expected = machine::count_shortest(on.record, on.lists.is_some(), s, t);
+        let (code, right) = match expected {
+            Ok(count) => (0, number.holds(&[count])),
+            Err(rule) => (rule, number.is_untouched()),
+        };
+        let now = number.buffer()[0];
+        self.end(
+            "count_shortest",
+            (answer, code),
+            &[("count", right)],
+            || {
+                format!(
+                    "{s} to {t}, now {now}, expected {expected:?}\non {}",
+                    on.describe()
+                )
+            },
+        );
+        expected
+    }
+
     /// The start of a task, by the function of its kind.
     pub fn start_task(&mut self, on: On, task: Task) -> Result<Search, u32> {
         match task {
             Task::Rings => self.start_rings(on),
             Task::Paths { s, t } => self.start_paths(on, s.into(), t.into()),
             Task::RingsUpTo { k } => self.start_rings_up_to(on, k.into()),
+            Task::Shortest { s, t } => self.start_shortest(on, s.into(), t.into()),
         }
     }
 

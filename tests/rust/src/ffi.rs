@@ -63,6 +63,27 @@ mod c {
             prefix: *mut u8,
             prefix_len: usize,
         ) -> u32;
+        pub fn flat_start_shortest(
+            atoms: u64,
+            bonds: u64,
+            rows: *const u8,
+            rows_len: usize,
+            s: u64,
+            t: u64,
+            numbers: *mut u64,
+            numbers_len: usize,
+            prefix: *mut u8,
+            prefix_len: usize,
+        ) -> u32;
+        pub fn flat_count_shortest(
+            atoms: u64,
+            bonds: u64,
+            rows: *const u8,
+            rows_len: usize,
+            s: u64,
+            t: u64,
+            count: *mut u64,
+        ) -> u32;
         pub fn flat_run(
             atoms: u64,
             bonds: u64,
@@ -247,6 +268,44 @@ pub fn start_rings_up_to(
             prefix.len(),
         )
     }
+}
+
+pub fn start_shortest(
+    atoms: u64,
+    bonds: u64,
+    rows: &[u8],
+    (s, t): (u64, u64),
+    numbers: &mut [u64],
+    prefix: &mut [u8],
+) -> u32 {
+    // SAFETY: the pointers come with the lengths of live slices, and only
+    // those borrowed mutably are written.
+    unsafe {
+        c::flat_start_shortest(
+            atoms,
+            bonds,
+            rows.as_ptr(),
+            rows.len(),
+            s,
+            t,
+            numbers.as_mut_ptr(),
+            numbers.len(),
+            prefix.as_mut_ptr(),
+            prefix.len(),
+        )
+    }
+}
+
+pub fn count_shortest(
+    atoms: u64,
+    bonds: u64,
+    rows: &[u8],
+    (s, t): (u64, u64),
+    count: &mut u64,
+) -> u32 {
+    // SAFETY: the first pointer comes with the length of a live slice, only
+    // read, and the second is that of a number borrowed mutably.
+    unsafe { c::flat_count_shortest(atoms, bonds, rows.as_ptr(), rows.len(), s, t, count) }
 }
 
 pub fn run(

@@ -2,6 +2,7 @@
 
 use crate::model::list::{Task, SIZES};
 use crate::model::sheet::LINE;
+use crate::model::shortest::Steps;
 use crate::model::{self, Record, MAX_ATOMS, MAX_BONDS, ROWS};
 use crate::rng::Rng;
 
@@ -169,6 +170,33 @@ pub fn buckminsterfullerene() -> Molecule {
     Molecule {
         atoms: 60,
         bonds: pairs(60).into_iter().filter(near).collect(),
+    }
+}
+
+/// Atom 1, then layers of so many atoms, each bonded to all of the next layer,
+/// then a last atom. From the first to the last atom there are as many shortest
+/// paths as the product of the widths.
+pub fn layers(widths: &[u64]) -> Molecule {
+    let (mut last, mut bonds) = (1..=1, Vec::new());
+    for &width in widths.iter().chain(&[1]) {
+        let next = last.end() + 1..=last.end() + width;
+        bonds.extend(last.flat_map(|a| next.clone().map(move |b| (a, b))));
+        last = next;
+    }
+    Molecule {
+        atoms: *last.end(),
+        bonds,
+    }
+}
+
+/// A grid of so many columns and rows, numbered row by row.
+pub fn grid(columns: u64, rows: u64) -> Molecule {
+    let n = columns * rows;
+    let right = (1..=n).filter(|a| a % columns != 0).map(|a| (a, a + 1));
+    let down = (1..=n - columns).map(|a| (a, a + columns));
+    Molecule {
+        atoms: n,
+        bonds: right.chain(down).collect(),
     }
 }
 
@@ -695,7 +723,7 @@ pub fn any_judged(rng: &mut Rng) -> Molecule {
 /// A lawful molecule to search: mostly of up to 12 atoms, of any density, and
 /// now and then a larger one with few rings.
 pub fn any_searched(rng: &mut Rng) -> Molecule {
-    match rng.below(24) {
+    match rng.below(26) {
         0 => {
             let whole = rng.pick::<fn() -> Molecule>(&[cube, document, two_to_three])();
             renamed(rng, &whole)
@@ -727,12 +755,30 @@ pub fn any_searched(rng: &mut Rng) -> Molecule {
             let m = rng.between(0, pair_count(n));
             random_molecule(rng, n, m)
         }
+        13 | 14 => any_layered(rng, 12),
         _ => {
             let n = rng.between(5, 12);
             let m = rng.between(n - 1, pair_count(n).min(n + 5));
             random_molecule(rng, n, m)
         }
     }
+}
+
+/// Layers of one to four atoms with most of the bonds between each two, a few
+/// bonds elsewhere, up to `most` atoms in all and at least 2, renamed: with many
+/// shortest paths between many atoms.
+pub fn any_layered(rng: &mut Rng, most: u64) -> Molecule {
+    let (mut widths, mut left) = (Vec::new(), rng.between(2, most) - 2);
+    while left > 0 {
+        let width = rng.between(1, left.min(4));
+        widths.push(width);
+        left -= width;
+    }
+    let mut molecule = layers(&widths);
+    let one_in = rng.pick(&[3, 6, 20]);
+    molecule.bonds.retain(|_| !rng.one_in(one_in));
+    let molecule = with_bonds(rng, molecule, 3);
+    renamed(rng, &molecule)
 }
 
 /// Each atom but the first bonded to one before it, then renamed.
@@ -766,6 +812,24 @@ pub fn any_paths(rng: &mut Rng, n: u64) -> Task {
     Task::of(n, 1, s, t).expect("two atoms")
 }
 
+/// The shortest paths between any two different atoms; there are at least two.
+pub fn any_shortest(rng: &mut Rng, n: u64) -> Task {
+    let (s, t) = any_ends(rng, n);
+    Task::of(n, 3, s, t).expect("two atoms")
+}
+
+/// The shortest paths from any atom to one as far from it as any that it is
+/// joined to; there are at least two atoms.
+pub fn far_shortest(rng: &mut Rng, record: &Record) -> Task {
+    let (s, other) = any_ends(rng, record.atoms);
+    let steps = Steps::from(record, s as u8);
+    let t = match steps.farthest() {
+        t if u64::from(t) == s => other,
+        t => t.into(),
+    };
+    Task::of(record.atoms, 3, s, t).expect("two atoms")
+}
+
 /// The rings up to any size: mostly about those that `n` atoms can have, often
 /// small, also the largest and all between.
 pub fn any_up_to(rng: &mut Rng, n: u64) -> Task {
@@ -786,14 +850,18 @@ pub fn any_tasks(rng: &mut Rng, n: u64) -> Vec<Task> {
         tasks.push(any_paths(rng, n));
     }
     tasks.push(any_up_to(rng, n));
+    if n >= 2 {
+        tasks.push(any_shortest(rng, n));
+    }
     tasks
 }
 
 /// A task of any kind that `n` atoms can have.
 pub fn any_task(rng: &mut Rng, n: u64) -> Task {
-    match rng.below(3) {
+    match rng.below(4) {
         0 if n >= 2 => any_paths(rng, n),
         1 => any_up_to(rng, n),
+        2 if n >= 2 => any_shortest(rng, n),
         _ => Task::Rings,
     }
 }

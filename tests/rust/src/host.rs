@@ -7,6 +7,7 @@ use crate::guard::Guarded;
 use crate::model::host::{self, Resumed};
 use crate::model::list::{Lists, Task};
 use crate::model::mark::LONGEST_MARK;
+use crate::model::Record;
 use crate::rng::Rng;
 use crate::sample;
 
@@ -31,6 +32,13 @@ mod c {
             t: u64,
             next_mark: *mut u8,
             next_mark_len: usize,
+        ) -> u32;
+        pub fn ringlist_count_shortest(
+            sheet: *const u8,
+            sheet_len: usize,
+            s: u64,
+            t: u64,
+            count: *mut u64,
         ) -> u32;
         pub fn ringlist_mark_length(mark: *const u8, mark_len: usize) -> usize;
         pub fn ringlist_listed(mark: *const u8, mark_len: usize) -> u64;
@@ -75,6 +83,12 @@ pub fn start(sheet: &[u8], [kind, s, t]: [u64; 3], next_mark: &mut [u8]) -> u32 
             next_mark.len(),
         )
     }
+}
+
+pub fn count_shortest(sheet: &[u8], (s, t): (u64, u64), count: &mut u64) -> u32 {
+    // SAFETY: the first pointer comes with the length of a live slice, only
+    // read, and the second is that of a number borrowed mutably.
+    unsafe { c::ringlist_count_shortest(sheet.as_ptr(), sheet.len(), s, t, count) }
 }
 
 /// The fresh mark of a task that the sheet allows.
@@ -209,6 +223,37 @@ impl Entry {
             assert_eq!(mark_length(next.buffer()), mark.len());
             assert_eq!(listed(next.buffer()), 0);
         }
+        *self.answers.entry(answer).or_default() += 1;
+        expected
+    }
+}
+
+impl Entry {
+    /// The number of shortest paths, compared in the same way: it holds anything
+    /// before the call, and stands between others that are kept. An answer counts
+    /// as a call.
+    pub fn count_shortest(
+        &mut self,
+        (sheet, read): (&[u8], Result<&Record, u32>),
+        s: u64,
+        t: u64,
+    ) -> Result<u64, u32> {
+        let given: Box<[u8]> = sheet.into();
+        let mut number = Guarded::numbers(1, self.seeds.next());
+        let answer = count_shortest(&given, (s, t), &mut number.buffer()[0]);
+        let expected = host::count_shortest(read, s, t);
+        let (code, right) = match expected {
+            Ok(count) => (0, number.holds(&[count])),
+            Err(rule) => (rule, number.is_untouched()),
+        };
+        let now = number.buffer()[0];
+        let call = || {
+            let sheet = sheet.escape_ascii();
+            format!("{s} to {t}, now {now}, expected {expected:?}\nsheet {sheet}")
+        };
+        assert_eq!(answer, code, "answer; {}", call());
+        assert!(right, "count ({answer}); {}", call());
+        assert!(*given == *sheet, "the sheet was written; {}", call());
         *self.answers.entry(answer).or_default() += 1;
         expected
     }

@@ -59,13 +59,13 @@ fn number(rng: &mut Rng, n: u64, value: u64) -> u64 {
 pub fn search(rng: &mut Rng, n: u64, search: &mut Search) {
     let length = search.length as usize;
     match rng.below(18) {
-        0 => search.kind = rng.pick(&[0, 1, 2, 3, 255, 256, 257, 1 << 32, (1 << 32) + 1]),
+        0 => search.kind = rng.pick(&[0, 1, 2, 3, 4, 255, 256, 257, 1 << 32, (1 << 32) + 1]),
         1 => search.kind = alias(rng, search.kind),
         2 => search.s = number(rng, n, search.s),
         3 => search.t = number(rng, n, search.t),
         // Another kind, with ends or a size at random.
         4 => {
-            search.kind = rng.pick(&[0, 1, 2, 3]);
+            search.kind = rng.pick(&[0, 1, 2, 3, 4]);
             search.s = rng.between(0, n + 3);
             search.t = rng.below(2) * rng.between(0, n + 1);
         }
@@ -273,7 +273,7 @@ pub fn mark(rng: &mut Rng, n: u64, kind: u64, mark: &mut Vec<u8>) {
             put(mark, 24, 4, &value.to_string());
         }
         17 => {
-            let kind = rng.pick(&[0, 1, 1, 1, 2, 2, 2, 3, 256, 258]);
+            let kind = rng.pick(&[0, 1, 1, 2, 2, 2, 3, 3, 4, 256, 259]);
             let s = match rng.below(4) {
                 0 => rng.pick(&[2, 3, 128, 129, 259]),
                 _ => rng.between(0, n + 1),

@@ -53,8 +53,8 @@ impl Subject<'_> {
     }
 }
 
-/// The empty beginning and up to 40 others, of rings, of paths and of rings up to
-/// a size.
+/// The empty beginning and up to 40 others, of rings, of paths, of rings up to a
+/// size and of shortest paths.
 fn places(rng: &mut Rng, listed: &Listed) -> Vec<(Task, Vec<u8>)> {
     let record = listed.record();
     let n = record.atoms;
@@ -137,7 +137,7 @@ fn no_mark(rng: &mut Rng, subject: &Subject) -> Vec<u8> {
 fn any_numbers(rng: &mut Rng, n: u64) -> [u64; 3] {
     let mut numbers = generate::any_task(rng, n).numbers();
     match rng.below(8) {
-        0 => numbers[0] = rng.pick(&[0, 1, 2, 3, 4, 256, 1 << 32, u64::MAX]),
+        0 => numbers[0] = rng.pick(&[0, 1, 2, 3, 4, 5, 256, 259, 1 << 32, u64::MAX]),
         1 => numbers[1] = rng.pick(&[0, 1, 2, 3, n, n + 1, 128, 129]),
         2 => numbers[2] = rng.pick(&[0, 1, 2, n, n + 1, 128, u64::MAX]),
         3 => numbers[2] = numbers[1],
@@ -357,6 +357,8 @@ fn order_of_rules() {
         (None, mark("   1   2   4   4   5   1   1", "   2")),
         (None, mark("   2   3   0   4   5   2   3", "   1   2")),
         (None, mark("   2 128   0   4   5   2   3", "   1   2")),
+        (None, mark("   3   2   4   4   5   2   3", "   2   1")),
+        (None, mark("   3   4   1   4   5   0   5", "")),
         (Some(14), line("x")),
         (Some(14), line("\n")),
         (Some(14), mark("   2   0   0   5   5   1   0", "   0   9")),
@@ -372,6 +374,10 @@ fn order_of_rules() {
         (Some(16), mark("   2   3   1   4   5   2   3", "   1   2")),
         (Some(16), mark("   3   0   0   4   5   2   3", "   1   2")),
         (Some(16), mark("   3   3   0   4   5   2   3", "   1   2")),
+        (Some(16), mark("   3   5   3   4   5   1   0", "   5")),
+        (Some(16), mark("   3   3   3   4   5   1   1", "   3")),
+        (Some(16), mark("   4   0   0   4   5   2   3", "   1   2")),
+        (Some(16), mark("   4   2   4   4   5   2   3", "   2   1")),
         (Some(16), mark("   0   0   1   4   5   2   3", "   1   2")),
         (Some(16), mark("   1   0   0   4   5   2   3", "   1   2")),
         (Some(16), mark("   1   3   3   4   5   1   1", "   3")),
@@ -383,6 +389,9 @@ fn order_of_rules() {
         (Some(17), mark("   0   0   0   4   5   0   6", "")),
         (Some(17), mark("   2   3   0   4   5   2   3", "   1   4")),
         (Some(17), mark("   2   3   0   4   5   2   5", "   1   2")),
+        (Some(17), mark("   3   1   3   4   5   2   3", "   1   2")),
+        (Some(17), mark("   3   2   4   4   5   2   5", "   2   1")),
+        (Some(17), mark("   3   2   4   4   5   2   0", "   2   1")),
         (None, mark("   0   0   0   4   5   0   5", "")),
     ];
     for (of_mark, mark) in &marks {
@@ -424,8 +433,18 @@ fn order_of_rules_of_a_start() {
         (Some(16), [2, 3, 1]),
         (Some(16), [2, 2, 1]),
         (Some(16), [2, 0, u64::MAX]),
-        (Some(16), [3, 0, 0]),
-        (Some(16), [3, 1, 4]),
+        (None, [3, 1, 4]),
+        (None, [3, 4, 1]),
+        (None, [3, 1, 3]),
+        (Some(10), [3, 0, 0]),
+        (Some(10), [3, 0, 4]),
+        (Some(10), [3, 5, 5]),
+        (Some(10), [3, 1, 5]),
+        (Some(10), [3, 1, (1 << 32) + 4]),
+        (Some(11), [3, 4, 4]),
+        (Some(16), [4, 0, 0]),
+        (Some(16), [4, 1, 4]),
+        (Some(16), [(1 << 32) + 3, 1, 4]),
         (Some(16), [256, 0, 0]),
         (Some(16), [(1 << 32) + 1, 1, 4]),
         (Some(16), [(1 << 32) + 2, 3, 0]),
@@ -461,6 +480,7 @@ fn order_of_rules_of_a_start() {
     let call = (&sheet[..], Ok(&lists as &dyn Lists));
     assert!(entry.start(call, [2, 12, 0], 599).is_ok());
     assert_eq!(entry.start(call, [1, 0, 0], 599), Err(10));
+    assert_eq!(entry.start(call, [3, 0, 0], 599), Err(10));
 }
 
 /// Every single byte of a mark changed to every other byte, and every length.
@@ -471,8 +491,12 @@ fn every_byte_of_a_mark() {
     let (record, sheet) = (molecule.record(), molecule.sheet());
     let lists = Listed::new(&record);
     let call = (sheet.as_slice(), Ok(&lists as &dyn Lists));
-    for task in [Task::Rings, Task::RingsUpTo { k: 12 }] {
-        let mut search = Search::at(task, &[1, 2], 3);
+    for (task, p) in [
+        (Task::Rings, [1, 2]),
+        (Task::RingsUpTo { k: 12 }, [1, 2]),
+        (Task::Shortest { s: 2, t: 4 }, [2, 1]),
+    ] {
+        let mut search = Search::at(task, &p, 3);
         [search.trials, search.extensions, search.listed] = [5, 2, 0];
         let mark = mark::write(&record, &search);
         for at in 0..mark.len() {
@@ -511,11 +535,13 @@ fn every_budget_and_room() {
             None,
             Some(Task::RingsUpTo { k: 3 }),
             Some(Task::RingsUpTo { k: 4 }),
+            Task::of(record.atoms, 3, 2, 3),
+            Task::of(record.atoms, 3, 4, 2),
         ] {
             // No mark, or the mark of a start.
             let start = match task {
                 None => Vec::new(),
-                Some(task) => entry.start(call, task.numbers(), 599).expect("a size"),
+                Some(task) => entry.start(call, task.numbers(), 599).expect("allowed"),
             };
             let list = lister::list(&record, task.unwrap_or(Task::Rings)).sheet;
             for budget in (0..=record.atoms * 7 + 1).step_by(steps) {
@@ -558,6 +584,16 @@ fn longest() {
             &mark::write(&record, &Search::at(task, &ring[..127], 128)),
         );
     }
+    // The same of a chain from end to end, of paths and of shortest paths.
+    let molecule = generate::chain(128);
+    let (record, sheet) = (molecule.record(), molecule.sheet());
+    let lists = Reached::new(&record);
+    let call = (sheet.as_slice(), Ok(&lists as &dyn Lists));
+    for kind in [1, 3] {
+        let task = Task::of(128, kind, 1, 128).expect("two atoms");
+        let mark = mark::write(&record, &Search::at(task, &ring[..127], 128));
+        longest_of(&mut entry, call, &mark);
+    }
     // A full sheet, the longest accepted: 9 × 1,025 bytes.
     let molecule = generate::random_molecule(&mut Rng::new(5), 128, 1024);
     let (record, sheet) = (molecule.record(), molecule.sheet());
@@ -565,10 +601,12 @@ fn longest() {
     assert_eq!(sheet.len(), 9_225);
     let call = (sheet.as_slice(), Ok(&lists as &dyn Lists));
     entry.resume(call, &[], 10, (500, 599)).expect("accepted");
-    let start = entry.start(call, [2, 12, 0], 599).expect("a size");
-    entry
-        .resume(call, &start, 300, (500, 599))
-        .expect("accepted");
+    for numbers in [[2, 12, 0], [3, 1, 128]] {
+        let start = entry.start(call, numbers, 599).expect("a size, two atoms");
+        entry
+            .resume(call, &start, 300, (500, 599))
+            .expect("accepted");
+    }
 }
 
 /// The longest mark with outputs about the length of the longest record.

@@ -77,7 +77,8 @@ fn sizes_of_the_arrays() {
         }
         // The ring is a member with k at least n, and none with less.
         let k = n as u8;
-        let mut tasks = vec![Task::Paths { s: 2, t: k }];
+        let mut tasks = vec![Task::Paths { s: 2, t: k }, Task::Shortest { s: 2, t: k }];
+        tasks.push(Task::Shortest { s: 1, t: k / 2 + 1 });
         tasks.extend([k - 1, k, (k + 1).min(128)].map(|k| Task::RingsUpTo { k }));
         for task in tasks {
             let fresh = fresh_mark(&ring, task);
@@ -193,12 +194,14 @@ fn references() {
         (2, 4, vec![vec![2, 1, 4], vec![2, 3, 4]], [16, 3, 2]),
         (1, 3, vec![vec![1, 3]], [8, 1, 1]),
     ] {
-        let task = Task::Paths { s, t };
-        let start = fresh_mark(&document, task);
-        let whole = host::list(&document.sheet(), &start, || (u64::MAX, 20));
-        assert_whole(&record, task, &whole);
-        assert_eq!(list_of(&whole.sheet), members);
-        assert_eq!(whole.counts(), counts);
+        // All of these paths are shortest ones.
+        for task in [Task::Paths { s, t }, Task::Shortest { s, t }] {
+            let start = fresh_mark(&document, task);
+            let whole = host::list(&document.sheet(), &start, || (u64::MAX, 20));
+            assert_whole(&record, task, &whole);
+            assert_eq!(list_of(&whole.sheet), members);
+            assert_eq!(whole.counts(), counts);
+        }
     }
 }
 
@@ -377,9 +380,13 @@ fn limit() {
         ];
         *counts.into_iter().nth(which).expect("three counts") = LIMIT - left;
     };
-    for (task, which) in [Task::Rings, Task::RingsUpTo { k: 6 }]
-        .into_iter()
-        .flat_map(|task| (0..3).map(move |which| (task, which)))
+    for (task, which) in [
+        Task::Rings,
+        Task::RingsUpTo { k: 6 },
+        Task::Shortest { s: 1, t: 8 },
+    ]
+    .into_iter()
+    .flat_map(|task| (0..3).map(move |which| (task, which)))
     {
         let all = lister::list(&record, task).members();
         for more in 0..=6 {

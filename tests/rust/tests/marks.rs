@@ -43,8 +43,9 @@ fn marks_of(molecule: &Molecule, tasks: &[Task]) -> (Record, Vec<Vec<u8>>) {
 /// Marks of each kind; the size is the smallest that leaves all rings.
 fn small_marks() -> Vec<(Record, Vec<Vec<u8>>)> {
     let tasks = |k| {
-        let paths = Task::Paths { s: 2, t: 4 };
-        [Task::Rings, paths, Task::RingsUpTo { k }]
+        let (s, t) = (2, 4);
+        let paths = [Task::Paths { s, t }, Task::Shortest { s, t }];
+        [Task::Rings, paths[0], Task::RingsUpTo { k }, paths[1]]
     };
     vec![
         marks_of(&generate::document(), &tasks(3)),
@@ -190,13 +191,13 @@ fn filled_by_zeros() {
             assert_eq!(compare(&mut calls, &lists, &every), Err(14));
         }
     }
-    // 4, 4 and 4, 6, 2 and 6, 12, 12 and 12 marks of ten fields, with 227 atoms
-    // in their beginnings. Kind, s and t are 0 in 22 ring marks, t in 22 of rings
-    // up to a size, the length in one mark of each task; in the first of each
-    // extensions and listed.
+    // 4, 4, 4 and 4, 6, 2, 6 and 2, 12, 12, 12 and 3 marks of ten fields, with 227
+    // atoms in the beginnings of the first three kinds and 9 in those of the last.
+    // Kind, s and t are 0 in 22 ring marks, t in 22 of rings up to a size, the
+    // length in one mark of each task; in the first of each extensions and listed.
     if sample() == 1 {
-        assert_eq!(fields, 620 + 227);
-        assert_eq!(of_zero, [3 * 22 + 22 + 9, 2 * 9]);
+        assert_eq!(fields, 710 + 227 + 9);
+        assert_eq!(of_zero, [3 * 22 + 22 + 12, 2 * 12]);
     }
 }
 
@@ -211,6 +212,7 @@ fn full_columns() {
         Task::Rings,
         Task::Paths { s: 100, t: 127 },
         Task::RingsUpTo { k: 128 },
+        Task::Shortest { s: 128, t: 99 },
     ] {
         let mut search = Search::at(task, &[], 128);
         [search.trials, search.extensions, search.listed] = [LIMIT, 0, LIMIT / 10];
@@ -261,6 +263,7 @@ fn lengths() {
         (generate::ring(128), Task::Rings),
         (generate::ring(128), Task::RingsUpTo { k: 128 }),
         (generate::chain(128), Task::Paths { s: 1, t: 128 }),
+        (generate::chain(128), Task::Shortest { s: 1, t: 128 }),
     ] {
         let record = molecule.record();
         let reached = Reached::new(&record);
@@ -426,6 +429,8 @@ fn not_open() {
             Task::RingsUpTo { k: 4 },
             Task::Paths { s: 2, t: 4 },
             Task::Paths { s: 3, t: 1 },
+            Task::Shortest { s: 2, t: 4 },
+            Task::Shortest { s: 3, t: 1 },
         ] {
             // Every list of up to three atoms, 0 and n + 1 among them.
             let base = n + 2;
@@ -468,20 +473,58 @@ fn not_open() {
         assert_eq!(answer(Task::RingsUpTo { k }, &[1, 3]), Ok(()));
         assert_eq!(answer(Task::RingsUpTo { k }, &[1, 4]), Err(17));
     }
-    let paths = Task::Paths { s: 2, t: 4 };
-    for p in [&[2][..], &[2, 1], &[2, 3]] {
-        assert_eq!(answer(paths, p), Ok(()));
-    }
-    for p in [&[1][..], &[4], &[2, 4], &[2, 1, 3], &[2, 1, 4]] {
-        assert_eq!(answer(paths, p), Err(17));
+    for paths in [Task::Paths { s: 2, t: 4 }, Task::Shortest { s: 2, t: 4 }] {
+        for p in [&[2][..], &[2, 1], &[2, 3]] {
+            assert_eq!(answer(paths, p), Ok(()));
+        }
+        for p in [&[1][..], &[4], &[2, 4], &[2, 1, 3], &[2, 1, 4]] {
+            assert_eq!(answer(paths, p), Err(17));
+        }
     }
     // Two atoms without a path: only the empty beginning is open.
     let record = Molecule::new(4, &[(1, 2), (3, 4)]).record();
     let lists = Listed::new(&record);
-    let apart = Task::Paths { s: 1, t: 4 };
-    for (p, right) in [(&[][..], true), (&[1], false), (&[1, 2], false)] {
-        let mark = mark::write(&record, &Search::at(apart, p, 4));
-        assert_eq!(compare(&mut calls, &lists, &mark).is_ok(), right);
+    for apart in [Task::Paths { s: 1, t: 4 }, Task::Shortest { s: 1, t: 4 }] {
+        for (p, right) in [(&[][..], true), (&[1], false), (&[1, 2], false)] {
+            let mark = mark::write(&record, &Search::at(apart, p, 4));
+            assert_eq!(compare(&mut calls, &lists, &mark).is_ok(), right);
+        }
+    }
+}
+
+/// Beginnings of a path that is longer than the shortest are open for paths, and
+/// not for shortest paths: one ring, in which the way round has no chord.
+#[test]
+fn open_for_shortest() {
+    let mut calls = Calls::new(76);
+    for n in [5, 6, 9, 64, 127, 128] {
+        let record = generate::ring(n).record();
+        let reached = Reached::new(&record);
+        let t = n as u8;
+        let up: Vec<u8> = (1..=t).collect();
+        // From 2 up to n, n - 2 steps, and down, 2 steps.
+        let (s, long) = (2, &up[1..]);
+        let step = 1 + n as usize / 9;
+        for len in (2..long.len()).step_by(step) {
+            let mut answer = |task| {
+                let mark = mark::write(&record, &Search::at(task, &long[..len], n));
+                compare(&mut calls, &reached, &mark).map(|_| ())
+            };
+            assert_eq!(answer(Task::Paths { s, t }), Ok(()));
+            assert_eq!(answer(Task::Shortest { s, t }), Err(17));
+        }
+        for p in [&[2][..], &[2, 1]] {
+            let search = Search::at(Task::Shortest { s, t }, p, n);
+            let mark = mark::write(&record, &search);
+            assert_eq!(compare(&mut calls, &reached, &mark), Ok(search));
+        }
+        // Halfway round an even ring both ways are open.
+        let half = up[n as usize / 2];
+        let both = Task::Shortest { s: 1, t: half };
+        for (p, right) in [(&[1, 2][..], true), (&[1, t], n % 2 == 0)] {
+            let mark = mark::write(&record, &Search::at(both, p, n));
+            assert_eq!(compare(&mut calls, &reached, &mark).is_ok(), right);
+        }
     }
 }
 
@@ -499,12 +542,19 @@ fn next_atoms() {
         let other = [255, 256, 257, 9999];
         let step = sample().min(9) as usize;
         for c in (0..=n + 2).rev().chain(other).step_by(step) {
-            for task in [Task::Rings, Task::RingsUpTo { k: 128 }] {
+            let mut tasks = vec![
+                (Task::Rings, &[1, 2][..]),
+                (Task::RingsUpTo { k: 128 }, &[1, 2]),
+            ];
+            if n >= 3 {
+                tasks.push((Task::Shortest { s: 1, t: 3 }, &[1]));
+            }
+            for (task, p) in tasks {
                 let mark = mark::write(&record, &Search::at(task, &[], c));
                 let right = (1..=n + 1).contains(&c);
                 assert_eq!(compare(&mut calls, &reached, &mark).is_ok(), right);
                 if n >= 3 {
-                    let mark = mark::write(&record, &Search::at(task, &[1, 2], c));
+                    let mark = mark::write(&record, &Search::at(task, p, c));
                     let right = (1..=n).contains(&c);
                     assert_eq!(compare(&mut calls, &reached, &mark).is_ok(), right);
                 }
@@ -524,7 +574,11 @@ fn order_of_rules() {
         ),
         (
             Task::Paths { s: 2, t: 4 },
-            [(0, 4, "3"), (4, 4, "5"), (8, 4, "2"), (0, 4, "9999")],
+            [(0, 4, "4"), (4, 4, "5"), (8, 4, "2"), (0, 4, "9999")],
+        ),
+        (
+            Task::Shortest { s: 2, t: 4 },
+            [(0, 4, "4"), (4, 4, "4"), (8, 4, "0"), (0, 4, "0")],
         ),
         (
             Task::RingsUpTo { k: 4 },
@@ -604,6 +658,40 @@ fn sizes() {
     }
 }
 
+/// Rule 16 on a mark of shortest paths: any two different atoms, and no other s
+/// and t.
+#[test]
+fn ends_of_shortest() {
+    let mut calls = Calls::new(77);
+    for molecule in [
+        Molecule::new(0, &[]),
+        Molecule::new(1, &[]),
+        Molecule::new(2, &[(1, 2)]),
+        generate::document(),
+        generate::chain(128),
+    ] {
+        let record = molecule.record();
+        let n = record.atoms;
+        let reached = Reached::new(&record);
+        let fresh = Search::fresh(Task::Shortest { s: 1, t: 2 });
+        let right = mark::write(&record, &fresh);
+        let ends = || (0..=n + 1).chain([127, 128, 129, 255, 256, 257, 9_999]);
+        for s in ends().step_by(sample().min(5) as usize) {
+            for t in ends().step_by(1 + n as usize / 9) {
+                let mut mark = right.clone();
+                put(&mut mark, 4, 4, &s.to_string());
+                put(&mut mark, 8, 4, &t.to_string());
+                let answer = compare(&mut calls, &reached, &mark);
+                match Task::of(n, 3, s, t) {
+                    Some(task) => assert_eq!(answer, Ok(Search::fresh(task))),
+                    None => assert_eq!(answer, Err(16), "{s} and {t}"),
+                }
+            }
+        }
+    }
+    calls.at_least(200, "restore", &[0, 16]);
+}
+
 /// A beginning is open exactly when a ring of at most k atoms begins so: one
 /// ring, of which each beginning is open with k at least its size.
 #[test]
@@ -653,6 +741,7 @@ fn limits() {
             Task::Rings,
             Task::Paths { s: 2, t: 4 },
             Task::RingsUpTo { k: 5 },
+            Task::Shortest { s: 2, t: 4 },
         ] {
             let mut place = Search::fresh(task);
             loop {

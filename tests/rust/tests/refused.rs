@@ -45,6 +45,24 @@ fn places(record: &Record, task: Task) -> Vec<Search> {
     places
 }
 
+/// The same place in a search of the other kind of paths: a beginning of a
+/// shortest path is one of a path, but not always the other way round.
+fn of_other_kind(calls: &mut Calls, on: On, task: Task, right: &Search) {
+    let mut other = right.clone();
+    match task {
+        Task::Shortest { .. } => {
+            other.kind = 1;
+            accept(calls, on, &other);
+        }
+        Task::Paths { .. } => {
+            other.kind = 3;
+            let ran = calls.run(on, &other, 1, 300);
+            assert_eq!(calls.save(on, &other, 599).is_ok(), ran.is_ok());
+        }
+        _ => {}
+    }
+}
+
 /// Each part of a right search damaged alone.
 #[test]
 fn rule_12() {
@@ -63,6 +81,11 @@ fn rule_12() {
         (Molecule::new(0, &[]), Task::RingsUpTo { k: 12 }),
         (generate::cube(), paths),
         (Molecule::new(4, &[(1, 2)]), paths),
+        (generate::document(), Task::Shortest { s: 2, t: 4 }),
+        (generate::two_to_three(), Task::Shortest { s: 3, t: 5 }),
+        (generate::cube(), Task::Shortest { s: 1, t: 8 }),
+        (generate::ring(9), Task::Shortest { s: 7, t: 3 }),
+        (Molecule::new(4, &[(1, 2)]), Task::Shortest { s: 2, t: 4 }),
         (Molecule::new(0, &[]), Task::Rings),
         (Molecule::new(1, &[]), Task::Rings),
     ];
@@ -77,12 +100,13 @@ fn rule_12() {
                 continue;
             }
             accept(&mut calls, on, &right);
+            of_other_kind(&mut calls, on, task, &right);
             let mut refused = |change: &dyn Fn(&mut Search)| {
                 let mut search = right.clone();
                 change(&mut search);
                 refuse(&mut calls, on, &search);
             };
-            for kind in [3, 4, 255, 9999, 10_000, u64::MAX] {
+            for kind in [4, 5, 255, 9999, 10_000, u64::MAX] {
                 refused(&|search| search.kind = kind);
             }
             for high in high {
@@ -104,6 +128,7 @@ fn rule_12() {
                     // Another kind with the same s and t.
                     refused(&|search| search.kind = 1);
                     refused(&|search| search.kind = 2);
+                    refused(&|search| search.kind = 3);
                     for s in [1, n + 1, n + 2, 128] {
                         refused(&|search| search.s = s);
                     }
@@ -120,6 +145,7 @@ fn rule_12() {
                 Task::RingsUpTo { .. } => {
                     refused(&|search| search.kind = 0);
                     refused(&|search| search.kind = 1);
+                    refused(&|search| search.kind = 3);
                     for s in [0, 1, 2] {
                         refused(&|search| search.s = s);
                     }
@@ -128,7 +154,7 @@ fn rule_12() {
                     }
                     refused(&|search| (search.kind, search.s, search.t) = (1, 0, 0));
                 }
-                Task::Paths { s, t } => {
+                Task::Paths { s, t } | Task::Shortest { s, t } => {
                     refused(&|search| search.kind = 0);
                     refused(&|search| search.kind = 2);
                     for s in [0, n + 1, n + 2, 128] {
@@ -224,6 +250,7 @@ fn every_beginning() {
             Task::Paths { s: 3, t: 1 },
             Task::RingsUpTo { k: 3 },
             Task::RingsUpTo { k: 4 },
+            Task::Shortest { s: 3, t: 1 },
         ] {
             for len in 0..=4u32 {
                 for number in (0..base.pow(len)).step_by(sample().min(60) as usize) {
@@ -252,6 +279,7 @@ fn longest_beginnings() {
         (generate::ring(128), Task::Rings),
         (generate::ring(128), Task::RingsUpTo { k: 128 }),
         (generate::chain(128), Task::Paths { s: 1, t: 128 }),
+        (generate::chain(128), Task::Shortest { s: 1, t: 128 }),
     ] {
         let record = molecule.record();
         let reached = Reached::new(&record);
@@ -305,6 +333,8 @@ fn every_start() {
         for s in ends().step_by(sample().min(7) as usize) {
             for t in ends() {
                 let answer = calls.start_paths(on, s, t).err();
+                assert_eq!(calls.start_shortest(on, s, t).err(), answer);
+                assert_eq!(calls.count_shortest(on, s, t).err(), answer);
                 let expected = match (s, t) {
                     _ if s == 0 || s > n || t == 0 || t > n => Some(10),
                     _ if s == t => Some(11),
@@ -317,6 +347,10 @@ fn every_start() {
     calls.print();
     calls.at_least(200, "start_paths", &[0, 10]);
     calls.at_least(100, "start_paths", &[11]);
+    calls.at_least(200, "start_shortest", &[0, 10]);
+    calls.at_least(100, "start_shortest", &[11]);
+    calls.at_least(200, "count_shortest", &[0, 10]);
+    calls.at_least(100, "count_shortest", &[11]);
     calls.at_least(50, "start_rings_up_to", &[0, 21]);
 }
 
@@ -327,7 +361,7 @@ fn rule_9() {
     let fresh = Search::fresh(Task::Rings);
     let bounded = Search::fresh(Task::RingsUpTo { k: 12 });
     let mut wrong = fresh.clone();
-    wrong.kind = 3;
+    wrong.kind = 4;
     for case in 0..sampled(6_000) {
         let mut rng = Rng::of_case(0x5255_4C45_3953, case);
         let record = generate::any_record(&mut rng, case % generate::RECORD_KINDS);
@@ -341,6 +375,8 @@ fn rule_9() {
         let _ = calls.start_rings(on);
         let _ = calls.start_paths(on, s, t);
         let _ = calls.start_rings_up_to(on, s);
+        let _ = calls.start_shortest(on, s, t);
+        let _ = calls.count_shortest(on, s, t);
         for search in [&fresh, &wrong, &bounded] {
             let _ = calls.run(on, search, rng.below(3), 20);
             let _ = calls.save(on, search, 80 + rng.index(20));
@@ -357,6 +393,10 @@ fn rule_9() {
     calls.at_least(1_500, "start_rings", &[0, 9]);
     calls.at_least(1_500, "start_paths", &[9]);
     calls.at_least(500, "start_rings_up_to", &[0, 9, 21]);
+    calls.at_least(1_500, "start_shortest", &[9]);
+    calls.at_least(1_500, "count_shortest", &[9]);
+    calls.at_least(50, "start_shortest", &[0, 10, 11]);
+    calls.at_least(50, "count_shortest", &[0, 10, 11]);
     calls.at_least(1_500, "run", &[9, 12]);
     calls.at_least(500, "save", &[0, 9, 12, 13]);
     calls.at_least(1_000, "restore", &[0, 9, 14]);
@@ -370,7 +410,7 @@ fn wrong_lengths() {
     unlawful.bonds = 4;
     let fresh = Search::fresh(Task::Rings);
     let mark = mark::write(&document, &fresh);
-    let mut tried = 0;
+    let (mut tried, mut counted) = (0, 0);
     for case in 0..sampled(4_000) {
         let mut rng = Rng::of_case(0x4C45_4E47_5448, case);
         let record = if rng.one_in(4) { &unlawful } else { &document };
@@ -391,11 +431,11 @@ fn wrong_lengths() {
         let mut before = fresh.numbers(0, 0).to_vec();
         before.resize(numbers_len, 0);
         let (n, m) = (record.atoms, record.bonds);
-        for function in 0..6 {
+        for function in 0..7 {
             let mut numbers = Guarded::numbers(numbers_len, case);
             let mut prefix = Guarded::new(prefix_len, case);
             let mut out = Guarded::new(rng.pick(&[0, 99, 599]), case);
-            if function >= 3 {
+            if (3..6).contains(&function) {
                 numbers = numbers.holding(&before);
                 prefix = prefix.holding(&vec![0; prefix_len]);
             }
@@ -404,6 +444,7 @@ fn wrong_lengths() {
                 0 => ffi::start_rings(n, m, &rows, given, places),
                 1 => ffi::start_paths(n, m, &rows, (rng.below(6), 4), given, places),
                 2 => ffi::start_rings_up_to(n, m, &rows, rng.below(6), given, places),
+                6 => ffi::start_shortest(n, m, &rows, (rng.below(6), 4), given, places),
                 3 => ffi::run(n, m, &rows, given, places, rng.below(9), out.buffer()),
                 4 => ffi::save(n, m, &rows, given, places, out.buffer()),
                 _ => {
@@ -415,6 +456,16 @@ fn wrong_lengths() {
             assert!(numbers.is_untouched() && prefix.is_untouched() && out.is_untouched());
             tried += 1;
         }
+        // The count has rows alone.
+        if wrong & 1 == 1 {
+            let mut count = Guarded::numbers(1, case);
+            let ends = (rng.below(6), 4);
+            let answer = ffi::count_shortest(n, m, &rows, ends, &mut count.buffer()[0]);
+            assert_eq!(answer, ffi::WRONG_LENGTH);
+            assert!(count.is_untouched());
+            counted += 1;
+        }
     }
-    assert_eq!(tried, 6 * sampled(4_000));
+    assert_eq!(tried, 7 * sampled(4_000));
+    assert!(counted >= sampled(1_500));
 }

@@ -18,7 +18,7 @@ use flat_tests::rng::Rng;
 use flat_tests::{sample, sampled, spoil, sum_of_parts};
 
 /// Schedules of each of the four parts.
-const SCHEDULES: u64 = 5_000;
+const SCHEDULES: u64 = 7_000;
 
 /// Up to this many atoms the list is made by brute force.
 const BRUTE: u64 = 7;
@@ -82,7 +82,7 @@ fn any_molecule(rng: &mut Rng) -> Molecule {
         let m = rng.between((n - 1).min(pairs), pairs.min(n + most));
         generate::random_molecule(rng, n, m)
     };
-    match rng.below(64) {
+    match rng.below(69) {
         0..=7 => random(rng, 1, 7, 21),
         8..=17 => random(rng, 5, 12, 6),
         18..=21 => random(rng, 8, 13, 70),
@@ -115,8 +115,17 @@ fn any_molecule(rng: &mut Rng) -> Molecule {
             let whole = generate::ring(n);
             generate::renamed(rng, &whole)
         }
-        _ => random(rng, 66, 128, 4),
+        62 => random(rng, 66, 128, 4),
+        63..=66 => generate::any_layered(rng, 24),
+        _ => layers(rng),
     }
+}
+
+/// A few layers of two or three atoms, each bonded to all of the next, renamed:
+/// up to some hundred shortest paths between the ends.
+fn layers(rng: &mut Rng) -> Molecule {
+    let widths: Vec<u64> = (0..rng.between(2, 5)).map(|_| rng.between(2, 3)).collect();
+    generate::renamed(rng, &generate::layers(&widths))
 }
 
 /// An example with its atoms numbered in another way.
@@ -131,11 +140,15 @@ fn renumbered(rng: &mut Rng, name: &str) -> Molecule {
     generate::renamed(rng, &whole)
 }
 
-/// Rings, rings up to a size, that often some ring has, or paths.
-fn any_task(rng: &mut Rng, n: u64) -> Task {
-    match rng.below(10) {
+/// Rings, rings up to a size, that often some ring has, paths or shortest paths,
+/// these in one case of two to an atom far away.
+fn any_task(rng: &mut Rng, record: &Record) -> Task {
+    let n = record.atoms;
+    match rng.below(14) {
         0..=3 => Task::Rings,
         4..=6 if n >= 2 => generate::any_paths(rng, n),
+        7..=8 if n >= 2 => generate::any_shortest(rng, n),
+        9..=10 if n >= 2 => generate::far_shortest(rng, record),
         _ => generate::any_up_to(rng, n),
     }
 }
@@ -598,6 +611,7 @@ fn finish(tools: &mut Tools, subject: &Subject, begin: &Search, course: &Course,
         Task::Rings => "rings",
         Task::Paths { .. } => "paths",
         Task::RingsUpTo { .. } => "rings up to a size",
+        Task::Shortest { .. } => "shortest paths",
     };
     tools.seen.add(format!("schedules of {kind} to {stop:?}"));
     if stop == Stop::Limit {
@@ -611,7 +625,7 @@ fn finish(tools: &mut Tools, subject: &Subject, begin: &Search, course: &Course,
     }
 }
 
-/// Four parts side by side, 20,000 schedules.
+/// Four parts side by side, 28,000 schedules.
 #[test]
 fn every_kind_of_place() {
     let parts = [
@@ -622,7 +636,7 @@ fn every_kind_of_place() {
     ];
     let schedules = sum_of_parts(&parts, schedules_of);
     println!("{schedules} schedules in all");
-    assert!(sample() > 1 || schedules >= 20_000, "only {schedules}");
+    assert!(sample() > 1 || schedules >= 28_000, "only {schedules}");
 }
 
 /// The schedules of one seed.
@@ -638,7 +652,7 @@ fn schedules_of(name: &'static str, seed: u64) -> u64 {
         let mut rng = Rng::of_case(seed, case);
         let molecule = any_molecule(&mut rng);
         let (record, sheet) = (molecule.record(), molecule.sheet());
-        let task = any_task(&mut rng, record.atoms);
+        let task = any_task(&mut rng, &record);
         let listed = Listed::new(&record);
         let fast = lister::list(&record, task);
         let (members, open) = if record.atoms <= BRUTE {
@@ -723,7 +737,7 @@ fn check(seen: &Seen) {
     for records in ["no", "some"] {
         some(500, format!("Full after {records} records"));
     }
-    for kind in ["rings", "paths", "rings up to a size"] {
+    for kind in ["rings", "paths", "rings up to a size", "shortest paths"] {
         some(1_000, format!("schedules of {kind} to Done"));
         some(100, format!("schedules of {kind} to Limit"));
     }

@@ -7,6 +7,7 @@ use flat_tests::model::field::LIMIT;
 use flat_tests::model::list::{self, Listed, Lists, Reached, Task};
 use flat_tests::model::machine::{Search, Stop};
 use flat_tests::model::mark::{self, LONGEST_MARK};
+use flat_tests::model::shortest::Steps;
 use flat_tests::model::{lister, Record};
 use flat_tests::rng::Rng;
 use flat_tests::{sample, sampled, spoil, sum_of_parts};
@@ -142,12 +143,14 @@ impl Course {
                 } else {
                     On::unlawful(&record)
                 };
-                match rng.below(6) {
+                match rng.below(8) {
                     0 => drop(calls.run(on, &search, budget, room)),
                     1 => drop(calls.save(on, &search, LONGEST_MARK)),
                     2 => drop(calls.restore(on, &mark)),
                     3 => drop(calls.start_rings(on)),
                     4 => drop(calls.start_paths(on, search.s, search.t)),
+                    5 => drop(calls.start_shortest(on, search.s, search.t)),
+                    6 => drop(calls.count_shortest(on, search.s, search.t)),
                     _ => drop(calls.start_rings_up_to(on, search.s)),
                 }
             }
@@ -171,6 +174,8 @@ impl Course {
             4 => {
                 let (s, t) = (rng.between(0, n + 1), rng.between(0, n + 1));
                 let _ = calls.start_paths(on, s, t);
+                let _ = calls.start_shortest(on, s, t);
+                let _ = calls.count_shortest(on, s, t);
             }
             _ => {
                 let kind = rng.below(spoil::MARK_KINDS);
@@ -363,7 +368,11 @@ fn random_schedules_of(name: &'static str, seed: u64) -> u64 {
     calls.at_least(5_000, "start_rings", &[0]);
     calls.at_least(5_000, "start_paths", &[0]);
     calls.at_least(5_000, "start_rings_up_to", &[0]);
+    calls.at_least(5_000, "start_shortest", &[0]);
+    calls.at_least(500, "count_shortest", &[0]);
     calls.at_least(150, "start_paths", &[9, 10, 11]);
+    calls.at_least(150, "start_shortest", &[9, 10, 11]);
+    calls.at_least(150, "count_shortest", &[9, 10, 11]);
     calls.at_least(150, "start_rings_up_to", &[9, 21]);
     assert!(members >= sampled(20_000));
     assert!(sample() > 1 || longest >= 15);
@@ -390,6 +399,8 @@ fn every_budget_and_room() {
         if record.atoms >= 3 {
             tasks.push(Task::Paths { s: 2, t: 3 });
             tasks.push(Task::Paths { s: 3, t: 1 });
+            tasks.push(Task::Shortest { s: 2, t: 3 });
+            tasks.push(Task::Shortest { s: 3, t: 1 });
         }
         for task in tasks {
             let subject = Subject {
@@ -425,12 +436,15 @@ fn every_place() {
     ] {
         let record = molecule.record();
         let lists = Listed::new(&record);
+        let far = Steps::from(&record, 1).farthest();
         for task in [
             Task::Rings,
             Task::Paths { s: 2, t: 4 },
             Task::RingsUpTo { k: 3 },
             Task::RingsUpTo { k: 4 },
             Task::RingsUpTo { k: 12 },
+            Task::Shortest { s: 2, t: 4 },
+            Task::Shortest { s: 1, t: far },
         ] {
             let subject = Subject {
                 lists: &lists,
@@ -483,6 +497,17 @@ fn references() {
     let (counts, paths) = whole(&generate::document(), Task::Paths { s: 1, t: 3 });
     assert_eq!(paths, [[1, 3]]);
     assert_eq!(counts, [8, 1, 1]);
+    let (counts, paths) = whole(&generate::document(), Task::Shortest { s: 2, t: 4 });
+    assert_eq!(paths, [[2, 1, 4], [2, 3, 4]]);
+    assert_eq!(counts, [16, 3, 2]);
+    let (counts, paths) = whole(&generate::two_to_three(), Task::Shortest { s: 3, t: 5 });
+    assert_eq!(paths, [[3, 1, 5], [3, 2, 5]]);
+    assert_eq!(counts, [20, 3, 2]);
+    // From corner to corner, and between neighbours.
+    let (counts, _) = whole(&generate::cube(), Task::Shortest { s: 1, t: 8 });
+    assert_eq!(counts, [88, 10, 6]);
+    let (counts, _) = whole(&generate::cube(), Task::Shortest { s: 1, t: 5 });
+    assert_eq!(counts, [16, 1, 1]);
     for (k, squares, hexagons) in [(3, 0, 0), (4, 6, 0), (5, 6, 0), (6, 6, 4), (128, 6, 4)] {
         let (counts, rings) = whole(&generate::cube(), Task::RingsUpTo { k });
         let long = |len| rings.iter().filter(|ring| ring.len() == len).count();
@@ -550,6 +575,10 @@ fn longest() {
         (generate::ring(128), Task::RingsUpTo { k: 128 }),
         (generate::ring(128), Task::RingsUpTo { k: 127 }),
         (generate::ring(127), Task::RingsUpTo { k: 127 }),
+        (generate::chain(128), Task::Shortest { s: 1, t: 128 }),
+        (generate::chain(128), Task::Shortest { s: 128, t: 1 }),
+        (generate::ring(128), Task::Shortest { s: 1, t: 64 }),
+        (generate::ring(128), Task::Shortest { s: 65, t: 1 }),
     ] {
         let record = molecule.record();
         let reached = Reached::new(&record);
@@ -582,6 +611,8 @@ fn longest_places() {
         (generate::ring(128), Task::RingsUpTo { k: 128 }, &up),
         (generate::chain(128), Task::Paths { s: 1, t: 128 }, &up),
         (generate::chain(128), Task::Paths { s: 128, t: 1 }, &down),
+        (generate::chain(128), Task::Shortest { s: 1, t: 128 }, &up),
+        (generate::chain(128), Task::Shortest { s: 128, t: 1 }, &down),
     ] {
         let record = molecule.record();
         let reached = Reached::new(&record);

@@ -11,13 +11,18 @@
 //!
 //! A second table has the rings up to a size, of a few larger molecules: the
 //! entry beside `best` with the same bound, and beside itself without one.
+//!
+//! A third has shortest paths: the entry beside a plain lister of them, which
+//! makes the steps to t once and then goes along neighbours that are nearer; and
+//! their number, by the counting entry and by plain sums.
 
 use std::path::PathBuf;
 use std::time::Instant;
 
 use flat_tests::model::list::Task;
 use flat_tests::model::machine::Stop;
-use flat_tests::model::{best, lister, sheet, Record};
+use flat_tests::model::shortest::Steps;
+use flat_tests::model::{best, field, lister, sheet, Record};
 use flat_tests::plot::bars::{BarPanel, Series};
 use flat_tests::plot::lines::{Line, LinePanel};
 use flat_tests::plot::Picture;
@@ -38,6 +43,9 @@ const MOST_CALLS: u64 = 20_000;
 const SIZES: [u8; 4] = [6, 8, 12, 128];
 const ALL: u8 = 128;
 const LARGER: u64 = 30;
+/// The most trials of a listing of shortest paths, of which some molecules have
+/// more than can be listed.
+const TRIALS: u64 = 20_000_000;
 /// The ratio to the first lister that no molecule is to exceed.
 const AIM: f64 = 1.0;
 /// The place of `best` among the listers.
@@ -141,6 +149,78 @@ struct Bounded {
 struct Group<'a> {
     row: &'a Row,
     sizes: Vec<Bounded>,
+}
+
+/// Two atoms of a molecule.
+struct Ends {
+    name: String,
+    sheet: Vec<u8>,
+    record: Record,
+    s: u8,
+    t: u8,
+}
+
+/// What was measured of the shortest paths between two atoms, in seconds: of a
+/// listing, or of the number.
+struct Linked<'a> {
+    ends: &'a Ends,
+    /// Paths listed, or their number.
+    paths: u128,
+    trials: u64,
+    entry: f64,
+    plain: f64,
+}
+
+impl Ends {
+    fn new(name: &str, sheet: Vec<u8>, s: u8, t: Option<u8>) -> Ends {
+        let record = sheet::read(&sheet).expect("a sheet");
+        let t = t.unwrap_or_else(|| Steps::from(&record, s).farthest());
+        let name = format!("{name}, {s} to {t}");
+        Ends {
+            name,
+            sheet,
+            record,
+            s,
+            t,
+        }
+    }
+
+    /// The ends of layers of one width, from the first atom to the last.
+    fn of_layers(number: usize, width: u64) -> Ends {
+        let molecule = generate::layers(&vec![width; number]);
+        let name = format!("{number} layers of {width}");
+        Ends::new(&name, molecule.sheet(), 1, Some(molecule.atoms as u8))
+    }
+
+    fn of_grid(columns: u64) -> Ends {
+        let grid = generate::grid(columns, columns);
+        let name = format!("grid of {columns} × {columns}");
+        Ends::new(&name, grid.sheet(), 1, Some(grid.atoms as u8))
+    }
+
+    fn task(&self) -> Task {
+        let (s, t) = (self.s, self.t);
+        Task::Shortest { s, t }
+    }
+}
+
+/// Cages between far atoms, grids from corner to corner and layers, of which the
+/// last ones have more paths than can be listed.
+fn ends() -> Vec<Ends> {
+    let cage = |name| Ends::new(name, examples::bytes(name), 1, None);
+    vec![
+        cage("dodecahedrane"),
+        cage("buckminsterfullerene"),
+        Ends::of_grid(6),
+        Ends::of_grid(8),
+        Ends::of_grid(11),
+        Ends::of_layers(9, 3),
+        Ends::of_layers(5, 8),
+        Ends::of_layers(39, 3),
+        Ends::of_layers(42, 3),
+        Ends::of_layers(63, 2),
+        Ends::of_layers(7, 12),
+    ]
 }
 
 fn molecules() -> Vec<Molecule> {
@@ -355,6 +435,74 @@ fn measure_up_to(sheet: &[u8], k: u8) -> Bounded {
     bounded
 }
 
+/// The timed calls of a listing of shortest paths: the entry from the mark of a
+/// start with so many trials, and the plain lister up to as many paths.
+fn measure_listing(ends: &Ends) -> Linked<'_> {
+    let (sheet, task) = (&ends.sheet, ends.task());
+    let mark = host::fresh_mark(sheet, task);
+    let (mut out, mut next) = (vec![0; 1 << 24], [0; MARK]);
+    let stop = host::resume(sheet, &mark, TRIALS, &mut out, &mut next);
+    assert!(stop == DONE || stop == 103, "stop {stop}");
+    let paths = host::listed(&next);
+    let expected = best::list_some(&ends.record, task, paths);
+    assert_eq!(expected.listed, paths);
+    assert!(out.starts_with(&expected.sheet), "the entry's records");
+    out.truncate(expected.sheet.len());
+    let counts = std::str::from_utf8(&next[29..49]).expect("a mark is text");
+    let mut linked = Linked {
+        ends,
+        paths: paths.into(),
+        trials: counts.trim_start().parse().expect("a count"),
+        entry: f64::MAX,
+        plain: f64::MAX,
+    };
+    let mut entry = |times| {
+        time(times, || {
+            let again = host::resume(black_box(sheet), &mark, TRIALS, &mut out, &mut next);
+            assert_eq!(again, stop);
+        })
+    };
+    rounds(entry(1), |times| {
+        linked.entry = linked.entry.min(entry(times));
+        linked.plain = linked.plain.min(time(times, || {
+            let record = sheet::read(black_box(sheet)).expect("a sheet");
+            black_box(best::list_some(&record, task, paths));
+        }));
+    });
+    linked
+}
+
+/// The timed calls of the number.
+fn measure_number(ends: &Ends) -> Linked<'_> {
+    let (sheet, s, t) = (&ends.sheet, ends.s, ends.t);
+    let number = best::number(&ends.record, s, t);
+    let mut count = 0;
+    let mut entry = |times| {
+        time(times, || {
+            let answer = host::count_shortest(black_box(sheet), (s.into(), t.into()), &mut count);
+            match number > field::LIMIT.into() {
+                true => assert_eq!(answer, 26),
+                false => assert_eq!((answer, u128::from(count)), (0, number)),
+            }
+        })
+    };
+    let mut linked = Linked {
+        ends,
+        paths: number,
+        trials: 0,
+        entry: f64::MAX,
+        plain: f64::MAX,
+    };
+    rounds(entry(1), |times| {
+        linked.entry = linked.entry.min(entry(times));
+        linked.plain = linked.plain.min(time(times, || {
+            let record = sheet::read(black_box(sheet)).expect("a sheet");
+            black_box(best::number(&record, s, t));
+        }));
+    });
+    linked
+}
+
 /// The second table has buckminsterfullerene and the larger random molecules.
 fn has_sizes(row: &Row) -> bool {
     let random = row.name.starts_with("random") && row.atoms >= LARGER;
@@ -566,6 +714,74 @@ fn size_summary(groups: &[Group]) -> String {
     )
 }
 
+/// Listings of shortest paths: the entry over the plain lister.
+fn shortest_table(listings: &[Linked]) -> String {
+    let mut text = format!(
+        "\n## Shortest paths\n\n\
+         A listing by one call of the entry of at most {TRIALS} trials from the mark of `ringlist_start`, and by a plain lister \
+         of as many: the steps to t are made once, then it goes along the neighbours that are nearer. It counts no trials.\n\n",
+    );
+    let heads = [
+        "molecule",
+        "atoms",
+        "paths",
+        "trials",
+        "entry",
+        "plain",
+        "entry / plain",
+    ];
+    text += &(table_line(&heads.map(String::from)) + &table_rule(heads.len()));
+    for linked in listings {
+        text += &table_line(&[
+            linked.ends.name.clone(),
+            linked.ends.record.atoms.to_string(),
+            linked.paths.to_string(),
+            linked.trials.to_string(),
+            shown(linked.entry),
+            shown(linked.plain),
+            format!("{:.2}", linked.entry / linked.plain),
+        ]);
+    }
+    text + &linked_summary(listings)
+}
+
+/// The number of shortest paths: the counting entry over plain sums.
+fn number_table(numbers: &[Linked]) -> String {
+    let mut text = String::from("\nTheir number by `ringlist_count_shortest`, which refuses those above the limit of the counts by rule 26, and by \
+             plain sums over layers.\n\n");
+    let heads = [
+        "molecule",
+        "atoms",
+        "number",
+        "entry",
+        "plain",
+        "entry / plain",
+    ];
+    text += &(table_line(&heads.map(String::from)) + &table_rule(heads.len()));
+    for linked in numbers {
+        text += &table_line(&[
+            linked.ends.name.clone(),
+            linked.ends.record.atoms.to_string(),
+            linked.paths.to_string(),
+            shown(linked.entry),
+            shown(linked.plain),
+            format!("{:.2}", linked.entry / linked.plain),
+        ]);
+    }
+    text + &linked_summary(numbers)
+}
+
+/// The ratios of the third table.
+fn linked_summary(rows: &[Linked]) -> String {
+    let entry: f64 = rows.iter().map(|row| row.entry).sum();
+    let plain: f64 = rows.iter().map(|row| row.plain).sum();
+    let mean = geometric_mean(rows.iter().map(|row| row.entry / row.plain));
+    format!(
+        "\nAs the geometric mean of the ratios and with all times added, entry / plain: {mean:.2} and {:.2}.\n",
+        entry / plain
+    )
+}
+
 /// The line of equal times and those of the aims, from the lowest.
 fn marks() -> Vec<(f64, String)> {
     let first = LISTERS[0].name;
@@ -637,10 +853,15 @@ fn main() {
         eprintln!("{:21} with the sizes {SIZES:?}", row.name);
         groups.push(Group { row, sizes });
     }
+    let ends = ends();
+    let listings: Vec<Linked> = ends.iter().map(measure_listing).collect();
+    let numbers: Vec<Linked> = ends.iter().map(measure_number).collect();
+    eprintln!("shortest paths between {} ends", ends.len());
     let folder = PathBuf::from(concat!(env!("CARGO_MANIFEST_DIR"), "/../../target/bench"));
     std::fs::create_dir_all(&folder).expect("a folder for the results");
     let mut table = head() + &ratio_table(&rows) + &summary(&rows) + &above_aim(&rows);
     table += &(length_table(&rows) + &size_table(&groups));
+    table += &(shortest_table(&listings) + &number_table(&numbers));
     std::fs::write(folder.join("table.md"), &table).expect("a table");
     std::fs::write(folder.join("plot.svg"), picture(&rows).draw().svg()).expect("a plot");
     print!("{table}");

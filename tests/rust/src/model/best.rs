@@ -7,6 +7,9 @@
 //! parameter BOUNDED, so that each has code of its own without the bound. A round
 //! of a sweep is one atom more in the ring, so a sweep has as many rounds as the
 //! ring may still have atoms after the next one.
+//!
+//! Shortest paths: the steps from t are made once, and then each atom is followed
+//! by its neighbours that are nearer to t, without a sweep.
 
 use super::list::Task;
 use super::lister::Listing;
@@ -40,6 +43,8 @@ struct Lister {
     listing: Listing,
     /// The most atoms of a ring; of use with a bound alone.
     longest: usize,
+    /// The most shortest paths that are listed.
+    most: u64,
 }
 
 impl Lister {
@@ -219,24 +224,120 @@ impl Lister {
             self.extend::<false>(1, s, goal, free);
         }
     }
+
+    /// Of each atom that is as near to t as s or nearer, the neighbours that are
+    /// one step nearer, in place of all its neighbours; of others none. Says
+    /// whether s is reached.
+    fn lead(&mut self, s: usize, t: usize) -> bool {
+        let mut leads = [0; 128];
+        let (mut seen, mut new) = (single(t), single(t));
+        while new != 0 && seen & single(s) == 0 {
+            let next = self.near_any(new) & !seen;
+            let mut rest = next;
+            while rest != 0 {
+                let v = lowest(rest);
+                leads[v - 1] = self.near(v) & new;
+                rest &= rest - 1;
+            }
+            seen |= next;
+            new = next;
+        }
+        self.bonded = leads;
+        seen & single(s) != 0
+    }
+
+    /// Lists all shortest paths that begin with the `len` atoms at hand, of which
+    /// the last is x, until there are enough.
+    fn follow(&mut self, mut len: usize, mut x: usize, t: usize) {
+        let mut rest = self.near(x);
+        while rest & (rest - 1) == 0 {
+            // One way on.
+            x = lowest(rest);
+            if x == t {
+                return self.member(len, t);
+            }
+            self.open(len, x);
+            len += 1;
+            rest = self.near(x);
+        }
+        while rest != 0 && self.listing.listed < self.most {
+            let v = lowest(rest);
+            self.open(len, v);
+            self.follow(len + 1, v, t);
+            rest &= rest - 1;
+        }
+    }
+
+    /// All shortest paths from s to t.
+    fn shortest(&mut self, s: usize, t: usize) {
+        if self.lead(s, t) {
+            self.open(0, s);
+            self.follow(1, s, t);
+        }
+    }
+}
+
+/// The neighbours of each atom as a set; those of atom v at place v - 1.
+fn sets(record: &Record) -> [Set; 128] {
+    let mut bonded = [0; 128];
+    for (row, set) in record.rows.chunks_exact(16).zip(&mut bonded) {
+        *set = Set::from_le_bytes(row.try_into().expect("16 bytes"));
+    }
+    bonded
+}
+
+/// The number of shortest paths from s to t of a lawful record: from one layer of
+/// atoms as far from s to the next, each atom has the sum of its neighbours in
+/// the layer before.
+pub fn number(record: &Record, s: u8, t: u8) -> u128 {
+    let (bonded, goal) = (sets(record), single(t.into()));
+    let mut numbers = [0; 128];
+    numbers[usize::from(s) - 1] = 1;
+    let (mut seen, mut layer) = (single(s.into()), single(s.into()));
+    while layer != 0 && seen & goal == 0 {
+        let mut near = 0;
+        let mut rest = layer;
+        while rest != 0 {
+            near |= bonded[lowest(rest) - 1];
+            rest &= rest - 1;
+        }
+        near &= !seen;
+        rest = near;
+        while rest != 0 {
+            let v = lowest(rest) - 1;
+            let mut before = bonded[v] & layer;
+            while before != 0 {
+                numbers[v] += numbers[lowest(before) - 1];
+                before &= before - 1;
+            }
+            rest &= rest - 1;
+        }
+        seen |= near;
+        layer = near;
+    }
+    numbers[usize::from(t) - 1]
 }
 
 /// All members in dictionary order, and the number of open beginnings but the
 /// empty one, of a lawful record.
 pub fn list(record: &Record, task: Task) -> Listing {
+    list_some(record, task, u64::MAX)
+}
+
+/// The same, but of shortest paths the first `most` alone.
+pub fn list_some(record: &Record, task: Task, most: u64) -> Listing {
     let mut lister = Lister {
-        bonded: [0; 128],
+        bonded: sets(record),
         list: [0; 129],
         listing: Listing::default(),
         longest: task.longest(),
+        most,
     };
-    for (row, set) in record.rows.chunks_exact(16).zip(&mut lister.bonded) {
-        *set = Set::from_le_bytes(row.try_into().expect("16 bytes"));
-    }
     match task {
         Task::Rings => lister.rings::<false>(record.atoms as usize),
         Task::RingsUpTo { .. } => lister.rings::<true>(record.atoms as usize),
         Task::Paths { s, t } => lister.paths(s.into(), t.into()),
+        Task::Shortest { s, t } => lister.shortest(s.into(), t.into()),
     }
     lister.listing
 }
@@ -318,7 +419,7 @@ mod tests {
         }
     }
 
-    /// The same as the lister, on rings and on paths.
+    /// The same as the lister, on rings, on paths and on shortest paths.
     #[test]
     fn agrees_with_the_lister() {
         for name in examples::NAMES {
@@ -327,6 +428,7 @@ mod tests {
                 agree(&record, Task::Rings);
                 agree(&record, Task::Paths { s: 1, t: 4 });
                 agree(&record, Task::Paths { s: 5, t: 2 });
+                agree(&record, Task::Shortest { s: 1, t: 6 });
             }
         }
         for case in 0..sampled(10_000) {
@@ -335,8 +437,27 @@ mod tests {
             agree(&record, Task::Rings);
             if record.atoms >= 2 {
                 let (s, t) = generate::any_ends(&mut rng, record.atoms);
-                agree(&record, Task::of(record.atoms, 1, s, t).expect("two atoms"));
+                for kind in [1, 3] {
+                    agree(
+                        &record,
+                        Task::of(record.atoms, kind, s, t).expect("two atoms"),
+                    );
+                }
             }
+        }
+    }
+
+    /// The first shortest paths are as many as asked for, and those of all.
+    #[test]
+    fn lists_some() {
+        let record = generate::layers(&[3; 5]).record();
+        let task = Task::Shortest { s: 1, t: 17 };
+        let all = list(&record, task);
+        assert_eq!(all.listed, 243);
+        for most in [0, 1, 2, 3, 100, 242, 243, 244] {
+            let some = list_some(&record, task, most);
+            assert_eq!(some.listed, most.min(243));
+            assert!(all.sheet.starts_with(&some.sheet));
         }
     }
 }

@@ -4,6 +4,7 @@ use super::field;
 use super::list::{Lists, Task};
 use super::machine::{self, Search, Stop};
 use super::mark::{self, LONGEST_MARK};
+use super::Record;
 
 /// Bytes of the shortest mark.
 const SHORTEST_MARK: usize = 91;
@@ -57,6 +58,12 @@ pub fn start(
         return Err(13);
     }
     Ok(mark::write(record, &Search::fresh(task)))
+}
+
+/// The number of shortest paths from s to t, on a sheet that reads as `read`
+/// says, or a refusal.
+pub fn count_shortest(read: Result<&Record, u32>, s: u64, t: u64) -> Result<u64, u32> {
+    machine::count_shortest(read?, true, s, t)
 }
 
 /// The bytes of the mark at the start of a buffer, or 0.
@@ -146,6 +153,7 @@ mod tests {
             ([1, 2, 4], "   1   2   4   4   5   0   1"),
             ([2, 12, 0], "   2  12   0   4   5   0   1"),
             ([2, 128, 0], "   2 128   0   4   5   0   1"),
+            ([3, 2, 4], "   3   2   4   4   5   0   1"),
         ] {
             let line_2 = "                   0                   0                   0";
             let expected = format!("{line_1}\n{line_2}\n\n").into_bytes();
@@ -154,7 +162,10 @@ mod tests {
             assert_eq!(start(Err(8), numbers, 599), Err(8));
         }
         for (numbers, rule) in [
-            ([3, 0, 0], 16),
+            ([4, 0, 0], 16),
+            ([4, 2, 4], 16),
+            ([3, 0, 0], 10),
+            ([3, 4, 4], 11),
             ([0, 3, 0], 16),
             ([2, 2, 1], 16),
             ([1, 0, 0], 10),
@@ -164,6 +175,14 @@ mod tests {
             assert_eq!(go(numbers, 0), Err(rule));
             assert_eq!(start(Err(1), numbers, 0), Err(1));
         }
+    }
+
+    #[test]
+    fn counts_by_hand() {
+        let record = generate::document().record();
+        assert_eq!(count_shortest(Ok(&record), 2, 4), Ok(2));
+        assert_eq!(count_shortest(Ok(&record), 2, 2), Err(11));
+        assert_eq!(count_shortest(Err(8), 2, 2), Err(8));
     }
 
     /// A field that zeros fill is no number in a mark.

@@ -7,6 +7,7 @@ use std::ops::RangeInclusive;
 use std::rc::Rc;
 
 use super::judge::{is_path, is_ring};
+use super::shortest::{self, Steps};
 use super::Record;
 
 /// What a search lists.
@@ -21,6 +22,11 @@ pub enum Task {
     RingsUpTo {
         k: u8,
     },
+    /// The shortest paths.
+    Shortest {
+        s: u8,
+        t: u8,
+    },
 }
 
 /// The sizes that bound a ring search.
@@ -34,9 +40,13 @@ impl Task {
         let named = |v| (1..=n).contains(&v);
         match kind {
             0 if s == 0 && t == 0 => Ok(Task::Rings),
-            1 if !named(s) || !named(t) => Err(10),
-            1 if s == t => Err(11),
+            1 | 3 if !named(s) || !named(t) => Err(10),
+            1 | 3 if s == t => Err(11),
             1 => Ok(Task::Paths {
+                s: s as u8,
+                t: t as u8,
+            }),
+            3 => Ok(Task::Shortest {
                 s: s as u8,
                 t: t as u8,
             }),
@@ -58,6 +68,7 @@ impl Task {
             Task::Rings => [0, 0, 0],
             Task::Paths { s, t } => [1, s.into(), t.into()],
             Task::RingsUpTo { k } => [2, k.into(), 0],
+            Task::Shortest { s, t } => [3, s.into(), t.into()],
         }
     }
 
@@ -70,12 +81,13 @@ impl Task {
         }
     }
 
-    /// The list is a member, by the definitions of ring and path.
+    /// The list is a member, by the definitions of ring, path and shortest path.
     pub fn has(self, record: &Record, list: &[u8]) -> bool {
         match self {
             Task::Rings => is_ring(record, list),
             Task::Paths { s, t } => is_path(record, s.into(), t.into(), list),
             Task::RingsUpTo { k } => list.len() <= k.into() && is_ring(record, list),
+            Task::Shortest { s, t } => shortest::is_shortest(record, s, t, list),
         }
     }
 }
@@ -90,10 +102,20 @@ pub trait Lists {
 /// Up to this many atoms all lists of different atoms are looked at.
 const ALL_WORDS: u64 = 6;
 
+/// Up to this many atoms shortest paths are those of all lists, and beyond they
+/// are made by breadth-first search.
+const ALL_WAYS: u64 = 10;
+
 /// All members, in dictionary order. Every list of different atoms is looked
 /// at; above six atoms only those that add one atom to a list without chords,
 /// as no other begins a member.
 pub fn members(record: &Record, task: Task) -> Vec<Vec<u8>> {
+    if let Task::Shortest { s, t } = task {
+        return match record.atoms {
+            0..=ALL_WAYS => shortest::of_all_ways(record, s, t),
+            _ => shortest::OneByOne::new(record, s, t).collect(),
+        };
+    }
     fn grow(record: &Record, task: Task, list: &mut Vec<u8>, members: &mut Vec<Vec<u8>>) {
         if task.has(record, list) {
             members.push(list.clone());
@@ -212,11 +234,22 @@ impl Lists for Listed<'_> {
 /// Answers from the definitions and from reachability.
 pub struct Reached<'a> {
     record: &'a Record,
+    /// The steps from each t of shortest paths, made when first asked for.
+    steps_from: RefCell<HashMap<u8, Rc<Steps>>>,
 }
 
 impl<'a> Reached<'a> {
     pub fn new(record: &'a Record) -> Reached<'a> {
-        Reached { record }
+        Reached {
+            record,
+            steps_from: RefCell::default(),
+        }
+    }
+
+    fn steps_from(&self, t: u8) -> Rc<Steps> {
+        let mut made = self.steps_from.borrow_mut();
+        let steps = made.entry(t);
+        Rc::clone(steps.or_insert_with(|| Rc::new(Steps::from(self.record, t))))
     }
 
     /// The last two atoms of the list, if it has two, are bonded; if not, it is
@@ -281,7 +314,13 @@ impl Lists for Reached<'_> {
     }
 
     fn is_member(&self, task: Task, list: &[u8]) -> bool {
-        self.goes_on(list) && task.has(self.record, list)
+        self.goes_on(list)
+            && match task {
+                Task::Shortest { s, t } => {
+                    shortest::links(self.record, s, t, list) && self.steps_from(t).fit(list)
+                }
+                _ => task.has(self.record, list),
+            }
     }
 
     /// A shortest path that completes a list without chords brings none in.
@@ -290,6 +329,10 @@ impl Lists for Reached<'_> {
             (Some(&first), Some(&last)) => (first, last),
             _ => return true,
         };
+        if let Task::Shortest { s, t } = task {
+            let walk = first == s && shortest::is_walk(self.record, beginning);
+            return walk && self.steps_from(t).open(beginning);
+        }
         let mut atoms = 1..=self.record.atoms as u8;
         if !beginning.iter().all(|v| atoms.contains(v))
             || !self.goes_on(beginning)
@@ -298,6 +341,7 @@ impl Lists for Reached<'_> {
             return false;
         }
         match task {
+            Task::Shortest { .. } => unreachable!("answered above"),
             Task::Paths { s, t } => {
                 first == s && self.completes((beginning, task.longest()), t, 1, None)
             }

@@ -1,6 +1,7 @@
 //! A fast lister: the method of document 003 over sets of atoms, with one
 //! reachability search for each open beginning. Of a bounded search it lists all
-//! rings and keeps the short ones.
+//! rings and keeps the short ones. Shortest paths go from one layer of atoms as
+//! near to t to the next.
 
 use super::list::{open_beginnings, record_of, up_to, Task};
 use super::Record;
@@ -125,6 +126,51 @@ impl Lister {
             self.listing.extensions += u64::from(open);
         }
     }
+
+    /// The atoms at 0 steps from t, at 1 and so on, up to those with s; none where
+    /// s is not reached.
+    fn layers(&self, s: u8, t: u8) -> Vec<Set> {
+        let (mut layers, mut seen) = (vec![single(t)], single(t));
+        while seen & single(s) == 0 {
+            let last = layers[layers.len() - 1];
+            let near = atoms(last).fold(0, |near, v| near | self.bonded[v as usize]);
+            if near & !seen == 0 {
+                return Vec::new();
+            }
+            layers.push(near & !seen);
+            seen |= near;
+        }
+        layers
+    }
+
+    /// Lists all shortest paths that begin with the list; `layers` are those
+    /// nearer to t than its last atom.
+    fn nearer(&mut self, layers: &[Set]) {
+        let x = *self.list.last().expect("an atom");
+        let (&next, rest) = match layers.split_last() {
+            Some(parts) => parts,
+            None => {
+                self.listing.sheet.push(self.list.len() as u8);
+                self.listing.sheet.extend_from_slice(&self.list);
+                self.listing.listed += 1;
+                return;
+            }
+        };
+        self.listing.extensions += 1;
+        for v in atoms(next & self.bonded[x as usize]) {
+            self.list.push(v);
+            self.nearer(rest);
+            self.list.pop();
+        }
+    }
+
+    fn shortest(&mut self, s: u8, t: u8) {
+        let layers = self.layers(s, t);
+        if let Some((_, nearer)) = layers.split_last() {
+            self.list = vec![s];
+            self.nearer(nearer);
+        }
+    }
 }
 
 /// All members in dictionary order, and the number of open beginnings but the
@@ -149,6 +195,7 @@ pub fn list(record: &Record, task: Task) -> Listing {
             let through = all & !single(s) & !single(t);
             lister.begin(&[s], through, single(t));
         }
+        Task::Shortest { s, t } => lister.shortest(s, t),
     }
     lister.listing
 }
@@ -171,6 +218,9 @@ mod tests {
         let paths = |s, t| counts(&generate::document(), Task::Paths { s, t });
         assert_eq!(paths(2, 4), (2, 3));
         assert_eq!(paths(1, 3), (1, 1));
+        let shortest = |s, t| counts(&generate::cube(), Task::Shortest { s, t });
+        assert_eq!(shortest(1, 8), (6, 1 + 3 + 6));
+        assert_eq!(shortest(2, 1), (1, 1));
         for (k, rings) in [(3, 0), (4, 6), (5, 6), (6, 10), (8, 10), (128, 10)] {
             assert_eq!(counts(&generate::cube(), Task::RingsUpTo { k }).0, rings);
         }

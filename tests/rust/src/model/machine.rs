@@ -2,7 +2,7 @@
 
 use super::field::LIMIT;
 use super::list::{record_of, Lists, Task};
-use super::{mark, Record};
+use super::{mark, shortest, Record};
 
 /// Places of the beginning.
 pub const PLACES: usize = 128;
@@ -108,6 +108,17 @@ pub fn start(record: &Record, lawful: bool, [kind, s, t]: [u64; 3]) -> Result<Se
         return Err(9);
     }
     Task::start(record.atoms, kind, s, t).map(Search::fresh)
+}
+
+/// The number of shortest paths from s to t, or a refusal.
+pub fn count_shortest(record: &Record, lawful: bool, s: u64, t: u64) -> Result<u64, u32> {
+    if !lawful {
+        return Err(9);
+    }
+    match Task::start(record.atoms, 3, s, t)? {
+        Task::Shortest { s, t } => shortest::count(record, s, t),
+        _ => unreachable!("kind 3"),
+    }
 }
 
 #[derive(Clone, Copy, Debug, PartialEq, Eq)]
@@ -246,6 +257,50 @@ mod tests {
         }
     }
 
+    /// The cube from corner to corner: six shortest paths of four atoms, and no
+    /// beginning that only a longer path has.
+    #[test]
+    fn shortest_runs() {
+        let record = generate::cube().record();
+        let (listed, reached) = (Listed::new(&record), Reached::new(&record));
+        for lists in [&listed as &dyn Lists, &reached] {
+            let fresh = start(&record, true, [3, 1, 8]).expect("two atoms");
+            let done = run(lists, &fresh, u64::MAX, 30).expect("accepted");
+            assert_eq!((done.stop, done.search.counts()), (Stop::Done, [88, 10, 6]));
+            assert_eq!(done.records[..10], [4, 1, 2, 4, 8, 4, 1, 2, 6, 8]);
+            let at = |kind, t, p: &[u8]| {
+                let task = Task::of(8, kind, 1, t).expect("two atoms");
+                Search::at(task, p, 1).is_restorable(lists)
+            };
+            for p in [&[1][..], &[1, 2], &[1, 5, 7]] {
+                assert!(at(1, 8, p) && at(3, 8, p));
+            }
+            for p in [&[2][..], &[1, 8], &[1, 2, 3], &[1, 2, 4, 8]] {
+                assert!(!at(1, 8, p) && !at(3, 8, p));
+            }
+            // 1 5 7 8 4 has no chord, and is longer than 1 2 4 and 1 3 4.
+            assert!(at(1, 4, &[1, 5, 7]) && !at(3, 4, &[1, 5, 7]));
+            assert!(at(1, 4, &[1, 5]) && !at(3, 4, &[1, 5]) && at(3, 4, &[1, 3]));
+        }
+    }
+
+    /// 9, 10, 11, then the number.
+    #[test]
+    fn counts_by_hand() {
+        let record = generate::document().record();
+        let count = |s, t| count_shortest(&record, true, s, t);
+        assert_eq!((count(2, 4), count(1, 3)), (Ok(2), Ok(1)));
+        assert_eq!(
+            (count(0, 0), count(5, 5), count(1, 5)),
+            (Err(10), Err(10), Err(10))
+        );
+        assert_eq!(count(4, 4), Err(11));
+        assert_eq!(count_shortest(&record, false, 0, 0), Err(9));
+        let many = generate::layers(&[3; 42]).record();
+        assert_eq!(count_shortest(&many, true, 1, 128), Err(26));
+        assert_eq!(count_shortest(&many, true, 128, 128), Err(11));
+    }
+
     /// 9, then the rule of the kind.
     #[test]
     fn starts_by_hand() {
@@ -266,7 +321,13 @@ mod tests {
             ([2, (1 << 32) + 3, 0], Some(21)),
             ([2, 2, 1], Some(16)),
             ([2, 3, 1], Some(16)),
-            ([3, 0, 0], Some(16)),
+            ([3, 0, 4], Some(10)),
+            ([3, 5, 5], Some(10)),
+            ([3, 4, 4], Some(11)),
+            ([3, 2, 4], None),
+            ([3, 4, 1], None),
+            ([4, 0, 0], Some(16)),
+            ([4, 2, 4], Some(16)),
             ([u64::MAX, 3, 0], Some(16)),
         ] {
             assert_eq!(answer(true, numbers), rule, "{numbers:?}");
@@ -290,6 +351,11 @@ mod tests {
         assert!(!accepted(&|search| search.kind = 1));
         assert!(!accepted(&|search| search.kind = 10_000));
         assert!(!accepted(&|search| search.kind = 2));
+        assert!(!accepted(&|search| search.kind = 3));
+        let ends =
+            |kind| move |search: &mut Search| (search.kind, search.s, search.t) = (kind, 1, 4);
+        // 1 2 begins no path from 1 to 4 without chords, and no shortest one.
+        assert!(!accepted(&ends(1)) && !accepted(&ends(3)));
         assert!(accepted(&|search| (search.kind, search.s) = (2, 3)));
         assert!(!accepted(
             &|search| (search.kind, search.s, search.t) = (2, 3, 1)

@@ -12,6 +12,7 @@ pub mod mark;
 pub mod record;
 pub mod search;
 pub mod sheet;
+pub mod shortest;
 
 pub use record::Record;
 
