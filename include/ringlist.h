@@ -3,13 +3,13 @@
    in slices; and counts the shortest paths.
 
    Link with libhost.a. ringlist_start starts a search of any kind: it writes
-   its first mark. Each call of ringlist_resume reads a bond sheet, takes up the
-   search where a mark left it, makes at most `budget` trials, and writes the
-   rings that it found and the mark to go on from. A search for all rings may
-   also start without a mark. ringlist_count_shortest works out the number of
-   shortest paths without listing them. examples/minimal.c is a whole host in twenty
-   lines; examples/host.c keeps its mark in a file and goes on after being
-   killed. */
+   its first mark. Each call of ringlist_resume reads a bond sheet, takes up
+   the search where a mark left it, makes at most `budget` trials, and writes
+   the rings that it found and the mark to go on from. A search for all rings
+   may also start without a mark. ringlist_count_shortest works out the number
+   of shortest paths without listing them. examples/minimal.c is a whole host
+   in twenty lines; examples/host.c keeps its mark in a file and goes on after
+   being killed. */
 #ifndef RINGLIST_H
 #define RINGLIST_H
 
@@ -62,13 +62,14 @@ extern "C" {
    Next mark. It stands at the start of the output, 91 + 4 * (atoms in the
    present beginning) bytes, that is ringlist_mark_length(next_mark,
    next_mark_len); the bytes past it keep their values. It is text of three
-   lines. Line 1: kind (0 rings, 1 paths, 2 rings of at most s atoms, 3 shortest
-   paths), s and t (0 and 0 for kind 0, the two ends for kinds 1 and 3, the
-   largest size and 0 for kind 2), n, m, the number of atoms in the present
-   beginning, and the next atom, 4 columns each. Line 2: trials, extensions and rings listed so far, 20
-   columns each. Line 3: the atoms of the beginning, 4 columns each. Blanks fill
-   the fields of a mark, whatever fills those of the sheet; a mark with a field
-   that zeros fill, also "0000" for 0, is refused (14).
+   lines. Line 1: kind (0 rings, 1 paths, 2 rings of at most s atoms, 3
+   shortest paths), s and t (0 and 0 for kind 0, the two ends for kinds 1 and
+   3, the largest size and 0 for kind 2), n, m, the number of atoms in the
+   present beginning, and the next atom, 4 columns each. Line 2: trials,
+   extensions and rings listed so far, 20 columns each. Line 3: the atoms of
+   the beginning, 4 columns each. Blanks fill the fields of a mark, whatever
+   fills those of the sheet; a mark with a field that zeros fill, also "0000"
+   for 0, is refused (14).
 
    Returned when the call was accepted:
      101  done: all rings that follow the mark have been listed; from a fresh
@@ -173,9 +174,9 @@ uint32_t ringlist_start(const uint8_t *sheet, size_t sheet_len,
    count      where the number is put.
 
    Taken on trust, and nothing else: the sheet is real memory of the length
-   given and count that of a real number, aligned as one, readable and writable
-   for as long as the call lasts; they do not overlap, and nobody else writes to
-   either during the call. All else is checked.
+   given, and count the place of a real number, aligned as one, that may be read
+   and written for as long as the call lasts; the two do not overlap, and nobody
+   else writes to either during the call. All else is checked.
 
    Returned when the number is in *count: 0. It is 0 where t is not joined to s.
 

@@ -72,7 +72,8 @@ module _ {n : ℕ} {table : List ℕ} {q : Search} {at : Spot} {first : FirstPla
       Steered family (linkedBy table) (mostAtoms (q .kind) (q .s)) (take (at .len) prefix)
       (getD prefix (at .len - 1) 0) aim →
       kept ≡ keptAim levels (at .len) aim → x ≡ getD prefix (at .len - 1) 0 →
-      steps ≡ stepsLeft (q .kind) (q .s) (at .len) → LevelPlanned (linkedBy table) (q .kind) x (at .len) steps kept planned →
+      steps ≡ stepsLeft (q .kind) (q .s) (at .len) →
+      LevelPlanned (linkedBy table) (q .kind) x (at .len) steps kept planned →
       FirstStage n table (q .kind) (q .s) (q .t) prefix planned (at .len)
   starts-steered {aim} {kept} {planned} {steps = steps} long steered kept-is last-is left given =
       let plan : LevelPlanned (linkedBy table) (q .kind) (getD prefix (at .len - 1) 0) (at .len) steps

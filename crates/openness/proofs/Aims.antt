@@ -212,7 +212,13 @@ module _ {n : ℕ} {table : List ℕ} {kind s t : ℕ} {prefix : List ℕ} {len 
     first-path k =
         let long = one in
         steered-here (omega arith)
-        (rw (family-paths n table kind s t path (b .words), most-paths n table kind s t path, one-read, one-last, one-is) k)
+        (rw (
+          family-paths n table kind s t path (b .words),
+          most-paths n table kind s t path,
+          one-read,
+          one-last,
+          one-is,
+        ) k)
 
 -- ---- the loop over the places
 

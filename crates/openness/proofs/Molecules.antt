@@ -23,7 +23,7 @@ use Rattle.openness.specs.declared.Plan.{Plan}
 use Rattle.openness.specs.declared.FirstPlan.{FirstPlan}
 use Rattle.openness.specs.Plan.{familyBy, Words, SearchTable, Tells, Planned, FirstTells, Beginning, Planning}
 use Rattle.distance.specs.Layers.{Measured}
-use Rattle.search.proofs.Readings.{ends-facts}
+use Rattle.search.proofs.Readings.{Ends, ends-facts}
 use Rattle.openness.proofs.Arrays.{taken-length}
 use Rattle.openness.proofs.Plans.{kind-ends}
 
@@ -41,7 +41,8 @@ module _ {n : ℕ} {table : List ℕ} {kind t : ℕ} where
       }
 
   -- of shortest paths the bonds that lead one nearer to t
-  pub near-table : {adj : Adjacency} → n ≤ 128 → kind ≡ 3 → Nearing n adj t (linkedBy table) → SearchTable n table kind t
+  pub near-table :
+      {adj : Adjacency} → n ≤ 128 → kind ≡ 3 → Nearing n adj t (linkedBy table) → SearchTable n table kind t
   near-table few three k =
       record {
         few = few;
@@ -58,11 +59,16 @@ unfolding familyIn
 near-family kind s three k = rw three (sym (nearing-same k s))
 
 module _ (n : ℕ) (words : List ℕ) (kind s t : ℕ) (three : kind ≡ 3) where
-  -- they are found where rule 16 allows the search
-  pub near-measured : Words n words → kindKept n kind s t ≡ true → Measured n (linkedBy words) t
-  near-measured k kept =
-      let ends = ends-facts n s t (kind-ends n words kind s t (rw three) kept) in
-      record { few = k .few; both-ways = k .symmetric; atom = record { low = ends .t-low; high = ends .t-high } }
+  -- distances to either end are measured where rule 16 allows the search
+  pub near-measured :
+      Words n words → kindKept n kind s t ≡ true → Measured n (linkedBy words) s × Measured n (linkedBy words) t
+  near-measured k kept = (
+    record { few = k .few; both-ways = k .symmetric; atom = record { low = ends .s-low; high = ends .s-high } },
+    record { few = k .few; both-ways = k .symmetric; atom = record { low = ends .t-low; high = ends .t-high } },
+  )
+    where
+      ends : Ends n s t
+      ends = ends-facts n s t (kind-ends n words kind s t (rw three) kept)
 
   pub near-open :
       (near p : List ℕ) → Nearing n (linkedBy words) t (linkedBy near) →
@@ -108,7 +114,9 @@ module _ (mol : Molecule) (kind t : ℕ) (words : List ℕ) where
   plain-of other k = record { plain = λ d. k; near = λ three. absurd (other three) }
 
   module _ (ok : wellFormed mol ≡ true) (three : kind ≡ 3) (k : WordsOf (mol .rows) words) where
-    pub measured-of : (s : ℕ) → kindKept (mol .atoms) kind s t ≡ true → Measured (mol .atoms) (linkedBy words) t
+    pub measured-of :
+        (s : ℕ) → kindKept (mol .atoms) kind s t ≡ true →
+        Measured (mol .atoms) (linkedBy words) s × Measured (mol .atoms) (linkedBy words) t
     measured-of s kept = near-measured (mol .atoms) words kind s t three (table-words mol ok words k) kept
 
     pub near-of :
@@ -116,7 +124,8 @@ module _ (mol : Molecule) (kind t : ℕ) (words : List ℕ) where
     near-of near found =
         record { plain = λ other. absurd (other three); near = λ e. rw (linked-same mol ok words k) at found }
 
-module _ {mol : Molecule} (ok : wellFormed mol ≡ true) {kind t : ℕ} {table : List ℕ} (k : TableOf mol kind t table) where
+module _ {mol : Molecule} (ok : wellFormed mol ≡ true) {kind t : ℕ} {table : List ℕ} (k : TableOf mol kind t table)
+    where
   pub table-of : SearchTable (mol .atoms) table kind t
   table-of = elim (ℕ-discrete kind 3) [
     | yes three ↦ near-table (rule9 mol ok .atoms-high) three (k .near three)

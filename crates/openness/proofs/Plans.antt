@@ -73,12 +73,13 @@ module _ (n : ℕ) (table : List ℕ) (kind s t : ℕ) where
           rw (ne-eqb kind 0 other, ne-eqb kind 1 no-path, ne-eqb kind 3 no-shortest, lt-leb kind 1 (omega arith))
 
   -- of the others, paths: where every bond leads nearer to t, the shortest paths are all paths
-  pub family-paths : listsPaths kind ≡ true → SearchTable n table kind t → familyBy n table kind s t ≡ pathsBy n table s t
+  pub family-paths :
+      listsPaths kind ≡ true → SearchTable n table kind t → familyBy n table kind s t ≡ pathsBy n table s t
   unfolding familyBy familyIn
-  family-paths path words = go (path-kinds kind path) ∙ sym (upto-all 128 _ (paths-lawful n (linkedBy table) s t) (words .few))
+  family-paths path words =
+      go (path-kinds kind path) ∙ sym (upto-all 128 _ (paths-lawful n (linkedBy table) s t) (words .few))
     where
-      go :
-          (kind ≡ 1) ⊎ (kind ≡ 3) → familyIn n (linkedBy table) kind s t ≡ paths n (linkedBy table) s t
+      go : (kind ≡ 1) ⊎ (kind ≡ 3) → familyIn n (linkedBy table) kind s t ≡ paths n (linkedBy table) s t
       go (inl one) = rw one
       go (inr three) = rw three (leading-paths (words .leading three) s)
 

@@ -48,8 +48,8 @@ pub record Words (n : ℕ) (table : List ℕ) : Type 0 where
 abbrev pub BothWays : ℕ → Adjacency → Type 0
 BothWays kind adj = (kind ≡ 3 → ⊥) → Symmetric adj
 
--- The table of a search of a kind to t: a word table of n atoms; of shortest paths it has the bonds that lead one nearer
--- to t, and only these
+-- The table of a search of a kind to t: a word table of n atoms; of shortest paths every bond of it leads one nearer
+-- to t
 pub record SearchTable (n : ℕ) (table : List ℕ) (kind t : ℕ) : Type 0 where
   pub few : n ≤ 128
   pub irreflexive : Irreflexive n (linkedBy table)

@@ -88,7 +88,8 @@ returns c =
           (steered-at _ (pre .last-is) first (first-aim .ensures)) (levels ∙ keep-aim .ensures)
           (plan .plan-level .ensures)
       | inr (if1, levels) ↦
-          added-later (each (search)) (left (search)) (pre .long) (λ e. if1 .left (e ∙ sym (length .first-length .ensures)))
+          added-later (each (search)) (left (search)) (pre .long)
+          (λ e. if1 .left (e ∙ sym (length .first-length .ensures)))
           (rw levels at (plan .plan-level .ensures))
     ]
 

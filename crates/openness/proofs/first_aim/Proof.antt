@@ -41,5 +41,5 @@ pub first-aim-spec : {M : Type 1} → statement M
 first-aim-spec =
     tie.close
     (tie.spec
-    (λ c κs. search needs) path-aim-requires returns (λ c. search needs) (λ c κs. search needs) (λ c. search needs) (λ c κs. search needs)
-    ring-aim-requires returns-2)
+    (λ c κs. search needs) path-aim-requires returns (λ c. search needs) (λ c κs. search needs) (λ c. search needs)
+    (λ c κs. search needs) ring-aim-requires returns-2)

@@ -104,6 +104,6 @@ pub first-opens-spec : {M : Type 1} → statement M
 first-opens-spec =
     tie.close
     (tie.spec
-    (λ c. search needs) (λ c κs. search needs) (λ c κs. search needs) path-starts-requires returns (λ c κs. search needs) returns-2
-    (λ c. search needs) (λ c κs. search needs) (λ c κs. search needs) returns-3 (λ c κs. search needs)
-    pair-opens-requires returns-4)
+    (λ c. search needs) (λ c κs. search needs) (λ c κs. search needs) path-starts-requires returns
+    (λ c κs. search needs) returns-2 (λ c. search needs) (λ c κs. search needs) (λ c κs. search needs) returns-3
+    (λ c κs. search needs) pair-opens-requires returns-4)

@@ -12,7 +12,8 @@ nearing-requires : tie.Need-nearing-requires
 nearing-requires c κs =
     let start : tie.Start = search in
     let (words, kinds, size, short) = start .pre in
-    near-measured _ _ _ _ _ (c .if1 .taken) words kinds
+    let (to-s, to-t) = near-measured _ _ _ _ _ (c .if1 .taken) words kinds in
+    search
 
 is-open-by-requires : tie.Need-is-open-by-requires
 is-open-by-requires c κs =

@@ -1,5 +1,5 @@
--- `openness::is_open_by` meets its contract: a beginning too short for two sets is tested by itself; of a longer one first
--- its first atoms, which are open where the whole is, then the further ones.
+-- `openness::is_open_by` meets its contract: a beginning too short for two sets is tested by itself; of a longer one
+-- first its first atoms, which are open where the whole is, then the further ones.
 use Prim.Native.Nat.{_≤_, _<_}
 use native.Mathlib.Omega.{arith}
 use mathlib.Core.Path.{_≡_, sym}
@@ -27,7 +27,8 @@ ring : (c : tie.Then2) → listsPaths (c .before .before .before .args .kind) �
 ring c =
     let some : tie.Else1 = search in
     let start : tie.Start = search in
-    short-ring-kind (start .args .kind) (omega (arith, some .if1 .left, c .if2 .taken, c .before .first-length .ensures))
+    short-ring-kind (start .args .kind)
+    (omega (arith, some .if1 .left, c .if2 .taken, c .before .first-length .ensures))
 
 -- ---- the needs (`search` finds a place in c by its type)
 
@@ -38,7 +39,11 @@ one-opens-requires : tie.Need-one-opens-requires
 one-opens-requires c κs =
     let start : tie.Start = search in
     let (words, kinds, size, few) = start .pre in
-    (ring-words words (ring (search)), rw (c .most-atoms .ensures) (most-room _ (start .args .table .now) _ _ _ kinds), size)
+    (
+      ring-words words (ring (search)),
+      rw (c .most-atoms .ensures) (most-room _ (start .args .table .now) _ _ _ kinds),
+      size,
+    )
 
 returns-2 : tie.Need-returns-2
 returns-2 c =

@@ -31,7 +31,8 @@ short-ring-requires : tie.Need-short-ring-requires
 short-ring-requires c κs =
     let start : tie.Start = search in
     let ring : tie.Then2 = search in
-    ring-asked (start .pre) (refuted (ring .before .lists-paths .ensures) (ring .if2 .taken)) (c .most-atoms .ensures) (short (search))
+    let told = refuted (ring .before .lists-paths .ensures) (ring .if2 .taken) in
+    ring-asked (start .pre) told (c .most-atoms .ensures) (short (search))
 
 returns-2 : tie.Need-returns-2
 returns-2 c =

@@ -47,8 +47,9 @@ nearing-requires c κs =
     let made : tie.After-words-of = search in
     let three : tie.Then1 = search in
     let (formed, kept) = start .pre in
-    measured-of _ _ _ _ formed (three .if1 .taken) (made .words-of .ensures) _
-    (restorable-facts _ _ kept .kind-kept)
+    let (to-s, to-t) = measured-of _ _ _ _ formed (three .if1 .taken) (made .words-of .ensures) _
+    (restorable-facts _ _ kept .kind-kept) in
+    search
 
 run-over-requires : tie.Need-run-over-requires
 run-over-requires c κs =

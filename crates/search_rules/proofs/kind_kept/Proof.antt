@@ -38,4 +38,6 @@ returns-6 c =
 pub kind-kept-spec : {M : Type 1} → statement M
 kind-kept-spec =
     tie.close
-    (tie.spec returns returns-2 (λ c κs. search needs) (λ c κs. search needs) returns-3 returns-4 returns-5 (λ c κs. search needs) returns-6)
+    (tie.spec
+    returns returns-2 (λ c κs. search needs) (λ c κs. search needs) returns-3 returns-4 returns-5
+    (λ c κs. search needs) returns-6)
