@@ -15,6 +15,9 @@ use Rattle.judge.specs.declared.Verdict.{Verdict}
 use Rattle.judge.specs.declared.Verdict.the-variants as verdict
 use Rattle.judge.specs.Verdict.{judgeRing, judgePath}
 use Rattle.sheet.specs.Read.{readSheet}
+use Rattle.count.specs.declared.Counted.{Counted}
+use Rattle.count.specs.declared.Counted.the-variants as counted
+use Rattle.count.specs.Count.{countShortest}
 
 -- a buffer or rows of the wrong length
 abbrev pub wrongLength : ℕ
@@ -71,3 +74,20 @@ ringCode atoms bonds rows list =
 unfoldable pub pathCode : ℕ → ℕ → List ℕ → ℕ → ℕ → List ℕ → ℕ
 pathCode atoms bonds rows s t list =
     cond (eqb (length rows) 2048) (verdictCode (judgePath (molecule atoms bonds rows) s t list)) wrongLength
+
+abbrev pub countedCode : Counted → ℕ
+countedCode (counted.Number k) = 0
+countedCode (counted.Refused r) = numberOf r
+
+-- the number where the count answers one; nothing changes otherwise
+abbrev pub ifCounted : Counted → ℕ → ℕ
+ifCounted (counted.Number k) old = k
+ifCounted (counted.Refused r) old = old
+
+unfoldable pub countCode : ℕ → ℕ → List ℕ → ℕ → ℕ → ℕ
+countCode atoms bonds rows s t =
+    cond (eqb (length rows) 2048) (countedCode (countShortest (molecule atoms bonds rows) s t)) wrongLength
+
+unfoldable pub countOutput : ℕ → ℕ → List ℕ → ℕ → ℕ → ℕ → ℕ
+countOutput atoms bonds rows s t old =
+    cond (eqb (length rows) 2048) (ifCounted (countShortest (molecule atoms bonds rows) s t) old) old

@@ -4,12 +4,14 @@ ghost use Prim.Native.Nat.{_≤_};
 ghost use mathlib.Core.List.{_++_};
 ghost use lib.ListN.{length, drop};
 ghost use Rattle.fields.specs.Field.{readField, fieldText};
-ghost use Rattle.search.specs.Entries.{startRings, startPaths, startRingsUpTo};
+ghost use Rattle.search.specs.Entries.{startRings, startPaths, startShortest, startRingsUpTo};
 ghost use Rattle.search.specs.Mark.{restoreMark};
 ghost use Rattle.flat.specs.Codes.{verdictCode, fieldCode, zerosCode, headBytes, flatBytes, molecule};
 ghost use Rattle.flat.specs.Codes.{readCode, readOutput, checkCode, ringCode, pathCode};
+ghost use Rattle.flat.specs.Codes.{countCode, countOutput};
 ghost use Rattle.flat.specs.Searches.{SizesTold, SearchSize, searchFrom, Packed, MadeStored, RanStored};
 ghost use Rattle.flat.specs.Searches.{MadeLeft, RunLeft, SaveLeft};
+use count::Counted;
 use fields::Number;
 use judge::Verdict;
 use molecule::Molecule;
@@ -127,6 +129,32 @@ pub extern "C" fn flat_judge_path(
         return 200;
     }
     verdict_code(judge::judge_path(assemble(atoms, bonds, rows), s, t, list))
+}
+
+// The number of shortest paths from s to t.
+#[no_mangle]
+pub extern "C" fn flat_count_shortest(
+    atoms: usize,
+    bonds: usize,
+    rows: &[u8],
+    s: usize,
+    t: usize,
+    count: &mut u64,
+) -> u32
+    ensures { λ r. ⌜ r ≡ countCode atoms bonds (now (rows .entry)) s t ⌝ }
+    ensures { λ _. ⌜ now (count .exit) ≡ countOutput atoms bonds (now (rows .entry)) s t (now (count .entry)) ⌝ }
+{
+    if rows.len() != 2048 {
+        return 200;
+    }
+    let counted = count::count_shortest(assemble(atoms, bonds, rows), s, t);
+    match counted {
+        Counted::Number(k) => {
+            *count = k;
+            0
+        }
+        Counted::Refused(r) => refusal::number(r),
+    }
 }
 
 // A number field; the largest number where it is none.
@@ -314,6 +342,29 @@ pub extern "C" fn flat_start_paths(
         return 200;
     }
     let made = start::start_paths(assemble(atoms, bonds, rows), s, t);
+    store_made(made, numbers, prefix)
+}
+
+// A fresh search for the shortest paths from s to t.
+#[no_mangle]
+pub extern "C" fn flat_start_shortest(
+    atoms: usize,
+    bonds: usize,
+    rows: &[u8],
+    s: usize,
+    t: usize,
+    numbers: &mut [u64],
+    prefix: &mut [u8],
+) -> u32
+    ensures { λ r. ⌜
+        MadeLeft (now (rows .entry)) (now (numbers .entry)) (now (prefix .entry))
+        (startShortest (molecule atoms bonds (now (rows .entry))) s t)
+        r (now (numbers .exit)) (now (prefix .exit)) ⌝ }
+{
+    if !sizes_kept(rows, numbers, prefix) {
+        return 200;
+    }
+    let made = start::start_shortest(assemble(atoms, bonds, rows), s, t);
     store_made(made, numbers, prefix)
 }
 

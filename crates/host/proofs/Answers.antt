@@ -11,8 +11,12 @@ use lib.Dec.{leb}
 use borrow.Author.Tests.{eq-eqb, ne-eqb, le-leb, lt-leb}
 use Rattle.fields.specs.declared.Number.the-variants.{Value}
 use Rattle.fields.proofs.Laws.{read-fits}
+use Rattle.refusal.specs.declared.Refusal.{Refusal}
+use Rattle.refusal.specs.declared.Answer.the-variants.{Refused}
 use Rattle.molecule.specs.declared.Molecule.{Molecule}
 use Rattle.molecule.specs.Record.{wellFormed}
+use Rattle.sheet.specs.declared.SheetAnswer.{SheetAnswer}
+use Rattle.sheet.specs.Read.{readSheet}
 use Rattle.search.specs.declared.Search.{Search}
 use Rattle.search.specs.declared.Ran.{Ran}
 use Rattle.search.specs.Place.{freshSearch}
@@ -21,8 +25,12 @@ use Rattle.search.specs.Mark.{fieldAt, fieldKept, valueAt, markLength, markText
 use Rattle.search.proofs.Starts.{rings-started}
 use Rattle.mark_writer.specs.Parts.{spliced}
 use Rattle.mark_writer.proofs.Splices.{splice-start}
+use Rattle.count.specs.declared.Counted.{Counted}
+use Rattle.count.specs.Count.{countShortest}
 use Rattle.host.specs.Resume.{Resumed, searchFor, runAndSave, markSize, listedIn}
 use Rattle.host.specs.Start.{Started, wroteMark}
+use Rattle.host.specs.Count.{CountedSheet, refusedCount, wroteCount, countSheet}
+use Rattle.host.proofs.Gate.{SheetTaken}
 
 module _ (mol : Molecule) (mark : List ℕ) where
   pub search-fresh : wellFormed mol ≡ true → length mark ≡ 0 → acceptedSearch (freshSearch 0 0 0) ≡ searchFor mol mark
@@ -66,6 +74,28 @@ pub mark-put :
     (mol : Molecule) (q : Search) (next last : List ℕ) → last ≡ spliced 0 (markText mol q) next →
     LeavesMark 0 last (wroteMark mol q next)
 mark-put mol q next last put = (refl, put ∙ splice-start next (markText mol q))
+
+-- the same of the entry that counts
+abbrev pub LeavesCount : ℕ → ℕ → CountedSheet → Type 0
+LeavesCount number count x = (number ≡ x .number) × (count ≡ x .count)
+
+pub leaves-count :
+    {x y : CountedSheet} → x ≡ y → (number count : ℕ) → LeavesCount number count x → LeavesCount number count y
+leaves-count e number count h = rw (← e) h
+
+-- its two ways: the sheet is refused, or what the count on its record answers is written
+module _ (sheet : List ℕ) {read : SheetAnswer} (s t count : ℕ) where
+  pub count-unread :
+      {r : Refusal} → read ≡ readSheet sheet → read .answer ≡ Refused r →
+      refusedCount r count ≡ countSheet sheet s t count
+  unfolding countSheet
+  count-unread is-read e = rw (← is-read, e)
+
+  pub count-read :
+      {counted : Counted} → SheetTaken sheet read → counted ≡ countShortest (read .molecule) s t →
+      wroteCount counted count ≡ countSheet sheet s t count
+  unfolding countSheet
+  count-read taken is-counted = rw (← taken .is-read, taken .accepted, ← is-counted)
 
 -- ---- what a host reads off a mark
 

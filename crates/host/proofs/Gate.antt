@@ -1,10 +1,10 @@
--- The ways through what both entries for C do first: a refusal of the sheet, of the search or for the room, or none.
+-- The ways through what the entries that resume and start do first: a refusal of sheet, search or room, or none.
 -- From the definition, at the tests that were made on the way; a sheet is refused by rules 1 to 8.
 use Prim.Native.Nat.{ℕ, _≤_, _<_}
 use native.Mathlib.Decide.{decLt}
 use native.Mathlib.Omega.{arith}
 use mathlib.Core.Path.{_≡_, refl}
-use mathlib.Core.Bool.{Bool, true, false, cond}
+use mathlib.Core.Bool.{Bool, true, false, _&&_, cond}
 use mathlib.Core.List.{List}
 use mathlib.Core.Logic.{_⊎_, inl, inr}
 use lib.ListN.{length}
@@ -16,7 +16,8 @@ use Rattle.refusal.specs.declared.Answer.{Answer}
 use Rattle.refusal.specs.declared.Answer.the-variants.{Accepted, Refused}
 use Rattle.refusal.specs.Number.{numberOf}
 use Rattle.molecule.specs.declared.Molecule.{Molecule}
-use Rattle.molecule.specs.Record.{wellFormed}
+use Rattle.molecule.specs.Record.{isAtom, wellFormed}
+use Rattle.molecule.specs.Ends.{withEnds}
 use Rattle.sheet.specs.declared.SheetAnswer.{SheetAnswer}
 use Rattle.sheet.specs.Bonds.{atomsKept, noneToItself, noneTwice}
 use Rattle.sheet.specs.Read.{lengthKept, linesKept, atomsOf, bondsOf, bondOf, readBonds, readSheet}
@@ -36,6 +37,14 @@ Within a b (Refused r) = (a ≤ numberOf r) × (numberOf r ≤ b)
 pub by-test : {A : Type 0} (P : A → Type 0) (t : Bool) (x y : A) → P y → P x → P (cond t x y)
 by-test P true x y failed passed = passed
 by-test P false x y failed passed = failed
+
+-- the same of rules 10 and 11
+pub by-ends :
+    {A : Type 0} (P : A → Type 0) (n s t : ℕ) (refuse : Refusal → A) (goes : A) →
+    P (refuse refusal.PathEnd) → P (refuse refusal.SameEnds) → P goes → P (withEnds n s t refuse goes)
+unfolding withEnds
+by-ends P n s t refuse goes no-atom same passed =
+    by-test P (isAtom n s && isAtom n t) _ _ no-atom (by-test P (eqb s t) _ _ passed same)
 
 pub within-refused :
     (a b : ℕ) (x : Answer) (r : Refusal) → x ≡ Refused r → Within a b x → (a ≤ numberOf r) × (numberOf r ≤ b)

@@ -216,6 +216,12 @@ module _
           done-whole = λ e. l .stands .records-kept ∙ d .done-whole (l .finished e) .whole-sheet;
         }
 
+    -- a call that returned 101 left a search that is done
+    fresh-done :
+        (calls : List HostCall) → HostHistory sheet (keeping first) calls → returnedDone calls ≡ true →
+        isDone (R .atoms) (stateOf (standing (start kind s t) (allCallsIn calls) .search)) ≡ true
+    fresh-done calls h = host-listed fresh-agrees calls h .finished
+
   -- ---- calls from a mark
 
   module _ (mark : List ℕ) (q : Search) (e : restoreMark R mark ≡ acceptedSearch q) where
@@ -263,6 +269,14 @@ pub host-demand3 :
     HostDemand sheet (readSheet sheet .molecule) kind s t first calls
     (keptBy (keeping first) calls) (standing (start kind s t) (allCallsIn calls))
 host-demand3 sheet read = fresh-demand sheet read (readSheet sheet .molecule) refl
+
+-- After a call that returned 101 the search as it stands is done
+pub host-done :
+    (sheet : List ℕ) → readSheet sheet .answer ≡ Accepted →
+    (kind s t : ℕ) (first : List ℕ) → FirstMark (readSheet sheet .molecule) kind s t first →
+    (calls : List HostCall) → HostHistory sheet (keeping first) calls → returnedDone calls ≡ true →
+    isDone (readSheet sheet .molecule .atoms) (stateOf (standing (start kind s t) (allCallsIn calls) .search)) ≡ true
+host-done sheet read = fresh-done sheet read (readSheet sheet .molecule) refl
 
 -- Over every accepted sheet, every mark that its record restores, and every list of calls from C that begins with it
 pub host-from-mark :

@@ -6,3 +6,4 @@ pub mod Fresh
 pub mod OneCall
 pub mod History
 pub mod StartLaws
+pub mod CountLaws

@@ -16,11 +16,11 @@ use Rattle.refusal.specs.declared.Answer.{Answer}
 use Rattle.refusal.specs.declared.Answer.the-variants.{Accepted, Refused}
 use Rattle.refusal.specs.Number.{numberOf}
 use Rattle.molecule.specs.declared.Molecule.{Molecule}
-use Rattle.molecule.specs.Record.{wellFormed, isAtom}
+use Rattle.molecule.specs.Record.{wellFormed}
 use Rattle.sheet.specs.Read.{readSheet}
 use Rattle.sheet.proofs.Accepted.{accepted-well-formed}
 use Rattle.search.specs.declared.Made.{Made}
-use Rattle.search.specs.Place.{beginning, searchAt, freshSearch, boundKept, kindKept}
+use Rattle.search.specs.Place.{listsPaths, beginning, searchAt, freshSearch, boundKept, kindKept}
 use Rattle.search.specs.Entries.{freshPaths, freshRingsUpTo, freshOfKind, startSearch}
 use Rattle.search.specs.Mark.{markText}
 use Rattle.search.proofs.MarkLaws.{mark-length, fresh-restorable}
@@ -29,15 +29,15 @@ use Rattle.search.proofs.Accepts.{started-fresh, started-kept, kept-starts}
 use Rattle.history.specs.Calls.{start, standing}
 use Rattle.host.specs.Resume.{markSize}
 use Rattle.host.specs.Start.{Started, refusedStart, startMark}
-use Rattle.host.specs.Calls.{HostCall, keeping, keptBy, HostHistory, allCallsIn, HostDemand}
-use Rattle.host.proofs.Gate.{by-test, went-on, ways}
+use Rattle.host.specs.Calls.{HostCall, keeping, keptBy, HostHistory, allCallsIn, FirstMark, HostDemand}
+use Rattle.host.proofs.Gate.{by-test, by-ends, went-on, ways}
 use Rattle.host.proofs.Sizes.{mark-size}
 use Rattle.host.proofs.Fresh.{fresh-full}
 use Rattle.host.proofs.History.{host-demand3}
 
 -- ---- the numbers of its refusals
 
--- rule 16, 10, 11 or 21
+-- rule 16, 10 or 11 of paths and shortest paths, or 21 of rings up to a size
 abbrev KindNumber : ℕ → Type 0
 KindNumber k = (k ≡ 16) ⊎ ((k ≡ 10) ⊎ ((k ≡ 11) ⊎ (k ≡ 21)))
 
@@ -55,11 +55,10 @@ kind-rules : (n kind s t : ℕ) → OfKind (freshOfKind n kind s t)
 unfolding freshOfKind freshPaths freshRingsUpTo
 kind-rules n kind s t =
     by-test OfKind (eqb kind 0 && eqb s 0 && eqb t 0) _ _
-    (by-test OfKind (eqb kind 1) _ _
+    (by-test OfKind (listsPaths kind) _ _
     (by-test OfKind (eqb kind 2 && eqb t 0) _ _ (inl refl)
     (by-test OfKind (boundKept s) _ _ (inr (inr (inr refl))) tt))
-    (by-test OfKind (isAtom n s && isAtom n t) _ _ (inr (inl refl))
-    (by-test OfKind (eqb s t) _ _ tt (inr (inr (inl refl))))))
+    (by-ends OfKind n s t _ _ (inr (inl refl)) (inr (inr (inl refl))) tt))
     tt
 
 -- on a molecule that rule 9 allows, a start is refused by rules 16, 10, 11 and 21
@@ -199,6 +198,10 @@ module _ (sheet : List ℕ) (kind s t : ℕ) (next : List ℕ) where
         (fresh-full kind s t) (drop 91 next)
         ∙ fresh-size mol kind s t
 
+    -- the mark that it wrote is a first mark
+    pub start-first : FirstMark mol kind s t (take 91 (answer .nextMark))
+    start-first = (start-kind, inl start-mark)
+
     -- Demand 3 over every sheet, kind, s, t and buffer of a start that returned 0, and every list of calls that
     -- begins with the mark that it wrote
     pub start-demand3 :
@@ -207,4 +210,4 @@ module _ (sheet : List ℕ) (kind s t : ℕ) (next : List ℕ) where
         HostDemand sheet mol kind s t first calls
         (keptBy (keeping first) calls) (standing (start kind s t) (allCallsIn calls))
     start-demand3 =
-        host-demand3 sheet (start-began zero .read) kind s t (take 91 (answer .nextMark)) (start-kind, inl start-mark)
+        host-demand3 sheet (start-began zero .read) kind s t (take 91 (answer .nextMark)) start-first

@@ -1,5 +1,5 @@
--- What both entries for C do first (document 01, "Judge, host entry and `ringlist`"; document 02, F-4): the rules by
--- which they turn a call back, in their order.
+-- What the entries for C that resume and start a search do first (document 01, "Judge, host entry and `ringlist`";
+-- document 02, F-4): the rules by which they turn a call back, in their order.
 use Prim.Native.Nat.{ℕ}
 use mathlib.Core.Bool.{cond}
 use mathlib.Core.List.{List}

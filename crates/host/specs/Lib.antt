@@ -1,4 +1,5 @@
 pub mod Gate
 pub mod Resume
 pub mod Start
+pub mod Count
 pub mod Calls

@@ -6,6 +6,8 @@ ghost use Rattle.molecule.specs.Record.{wellFormed};
 ghost use Rattle.search.specs.Place.{restorable};
 ghost use Rattle.host.specs.Resume.{searchFor, runAndSave, resume, markSize, listedIn};
 ghost use Rattle.host.specs.Start.{startMark};
+ghost use Rattle.host.specs.Count.{countSheet};
+use count::Counted;
 use fields::Number;
 use molecule::Molecule;
 use refusal::Answer;
@@ -112,6 +114,30 @@ pub extern "C" fn ringlist_start(
                         return refusal::number(Refusal::MarkRoom);
                     }
                     mark_writer::put_mark(read.molecule, q, next_mark);
+                    0
+                }
+            }
+        }
+    }
+}
+
+// Reads a sheet and writes the number of shortest paths from s to t: rules 1 to 8, 10, 11, 26.
+#[no_mangle]
+pub extern "C" fn ringlist_count_shortest(sheet: &[u8], s: u64, t: u64, count: &mut u64) -> u32
+    ensures { λ r.
+        let x = countSheet (now (sheet .entry)) s t (now (count .entry)) in
+        ⌜ (r ≡ x .number) × (now (count .exit) ≡ x .count) ⌝ }
+{
+    let read = sheet::read_sheet(sheet);
+    let read_answer = read.answer;
+    match read_answer {
+        Answer::Refused(r) => refusal::number(r),
+        Answer::Accepted => {
+            let counted = count::count_shortest(read.molecule, s as usize, t as usize);
+            match counted {
+                Counted::Refused(r) => refusal::number(r),
+                Counted::Number(k) => {
+                    *count = k;
                     0
                 }
             }

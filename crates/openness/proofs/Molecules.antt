@@ -125,20 +125,20 @@ module _ (mol : Molecule) (kind t : ℕ) (words : List ℕ) where
         record { plain = λ other. absurd (other three); near = λ e. rw (linked-same mol ok words k) at found }
 
 module _ {mol : Molecule} (ok : wellFormed mol ≡ true) {kind t : ℕ} {table : List ℕ} (k : TableOf mol kind t table)
-    where
-  pub table-of : SearchTable (mol .atoms) table kind t
-  table-of = elim (ℕ-discrete kind 3) [
-    | yes three ↦ near-table (rule9 mol ok .atoms-high) three (k .near three)
-    | no other ↦ words-table (table-words mol ok table (k .plain other)) other
-  ]
+  where
+    pub table-of : SearchTable (mol .atoms) table kind t
+    table-of = elim (ℕ-discrete kind 3) [
+      | yes three ↦ near-table (rule9 mol ok .atoms-high) three (k .near three)
+      | no other ↦ words-table (table-words mol ok table (k .plain other)) other
+    ]
 
-  -- Its families are the record's
-  pub family-of : (s : ℕ) → familyBy (mol .atoms) table kind s t ≡ familyOf mol kind s t
-  unfolding familyBy familyOf
-  family-of s = elim (ℕ-discrete kind 3) [
-    | yes three ↦ near-family kind s three (k .near three)
-    | no other ↦ family-same mol ok table (k .plain other) kind s t
-  ]
+    -- Its families are the record's
+    pub family-of : (s : ℕ) → familyBy (mol .atoms) table kind s t ≡ familyOf mol kind s t
+    unfolding familyBy familyOf
+    family-of s = elim (ℕ-discrete kind 3) [
+      | yes three ↦ near-family kind s three (k .near three)
+      | no other ↦ family-same mol ok table (k .plain other) kind s t
+    ]
 
 -- ---- from a record to the answer
 

@@ -250,14 +250,7 @@ fn beside_last(table: &[u64; 256], aim: Aim, x: usize) -> Beside
 
 // The plan of an open beginning that the sets steer, with the last atom x; `next` are the sets handed on, and `steps`
 // are left past an atom added.
-pub fn plan_by(
-    table: &[u64; 256],
-    kind: usize,
-    aim: Aim,
-    next: Aim,
-    x: usize,
-    steps: usize,
-) -> Plan
+pub fn plan_by(table: &[u64; 256], kind: usize, aim: Aim, next: Aim, x: usize, steps: usize) -> Plan
     requires { ⌜
         BothWays kind (linkedBy (now table)) × HandedOn (linkedBy (now table)) x aim next × (1 ≤ x) × (x ≤ 128) ⌝ }
     ensures { λ r. ⌜ PlansBy (linkedBy (now (table .entry))) kind x aim steps r ⌝ }
@@ -274,14 +267,7 @@ pub fn plan_by(
 
 // The same plan by one sweep, whatever the candidates: for the places where single beginnings are planned. The fast
 // loop alone calls `plan_by`, so that it is compiled into the loop.
-fn swept_plan(
-    table: &[u64; 256],
-    kind: usize,
-    aim: Aim,
-    next: Aim,
-    x: usize,
-    steps: usize,
-) -> Plan
+fn swept_plan(table: &[u64; 256], kind: usize, aim: Aim, next: Aim, x: usize, steps: usize) -> Plan
     requires { ⌜
         BothWays kind (linkedBy (now table)) × HandedOn (linkedBy (now table)) x aim next × (1 ≤ x) × (x ≤ 128) ⌝ }
     ensures { λ r. ⌜ PlansBy (linkedBy (now (table .entry))) kind x aim steps r ⌝ }
@@ -629,7 +615,10 @@ fn goes_on_open(
         let x = u8_usize(prefix[i - 1]);
         let next = aim_after(table, aim, x);
         let steps = steps_left(kind, s, i);
-        if !opens_by(swept_plan(table, kind, aim, next, x, steps), u8_usize(prefix[i])) {
+        if !opens_by(
+            swept_plan(table, kind, aim, next, x, steps),
+            u8_usize(prefix[i]),
+        ) {
             return false;
         }
         aim = next;

@@ -22,12 +22,14 @@ path-starts-requires : tie.Need-path-starts-requires
 path-starts-requires c κs =
     let start : tie.Start = search in
     let (words, kinds, size) = start .pre in
-    let path = sym (c .before .lists-paths .ensures) ∙ c .if1 .taken in
-    (record {
-      few = words .few;
-      irreflexive = words .irreflexive;
-      ends = kind-ends _ (start .args .table .now) _ _ _ path kinds;
-    }, words)
+    let path = sym (c .before .lists-paths .ensures) ∙ c .if1 .taken in (
+      record {
+        few = words .few;
+        irreflexive = words .irreflexive;
+        ends = kind-ends _ (start .args .table .now) _ _ _ path kinds;
+      },
+      words,
+    )
 
 returns : tie.Need-returns
 returns c =

@@ -38,8 +38,7 @@ returns c = sym (rw (c .if1 .taken) (none (c .before) .isOpened))
 one-opens-requires : tie.Need-one-opens-requires
 one-opens-requires c κs =
     let start : tie.Start = search in
-    let (words, kinds, size, few) = start .pre in
-    (
+    let (words, kinds, size, few) = start .pre in (
       ring-words words (ring (search)),
       rw (c .most-atoms .ensures) (most-room _ (start .args .table .now) _ _ _ kinds),
       size,
