@@ -2,7 +2,7 @@
 -- Rows and bits beyond n are zero by the rule, and no number above 128 is in a set.
 use Prim.Native.Nat.{ℕ, _+_, _-_, _*_, _/_, _%_, _≤_}
 use native.Mathlib.Omega.{arith}
-use mathlib.Core.Path.{_≡_, sym, _∙_}
+use mathlib.Core.Path.{_≡_, sym, fun-ext, _∙_}
 use mathlib.Core.Bool.{true, _&&_}
 use mathlib.Core.List.{List}
 use lib.ListN.{getD}
@@ -58,6 +58,9 @@ module _ (mol : Molecule) (ok : wellFormed mol ≡ true) (table : List ℕ) (wor
   pub linked-bonded : (a b : ℕ) → linkedBy table a b ≡ bonded (mol .atoms) (mol .rows) a b
   linked-bonded a b =
       same-test (linkedBy table a b) (bonded (mol .atoms) (mol .rows) a b) (to-bonded a b) (to-linked a b)
+
+  pub linked-same : linkedBy table ≡ bonded (mol .atoms) (mol .rows)
+  linked-same = fun-ext (λ a. fun-ext (λ b. linked-bonded a b))
 
   -- and they hold both ways
   pub linked-symmetric : (a b : ℕ) → linkedBy table a b ≡ linkedBy table b a

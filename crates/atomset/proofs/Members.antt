@@ -16,6 +16,7 @@ use lib.Count.{trailingZeros}
 use borrow.Author.Tests.{le-leb, leb-true, leb-false, lt-leb, lt-ltb, le-ltb, ltb-true, ltb-false, eq-eqb, ne-eqb, eqb-true, eqb-false}
 use Rattle.graph.proofs.Below.{apart, clash, either, and-parts, and-both, same-test, false-of, not-of}
 use Rattle.molecule.specs.Record.{bit, isAtom}
+use Rattle.molecule.proofs.Bonds.{atom-of}
 use Rattle.atomset.specs.Set.{has, holdsNone, Emptiness, Lowest, LowestBit, LowestLeft, AtMostOne}
 use Rattle.atomset.proofs.Digits.{bit-none, bit-and, bit-or, bit-less, bit-power, bit-ones, bit-cleared, trailing-below, trailing-set, trailing-least}
 
@@ -25,9 +26,6 @@ data Zone (a : ℕ) : Type 0 where
   outside : isAtom 128 a ≡ false → (1 ≤ a → 128 < a) → Zone a
   first : 1 ≤ a → a ≤ 64 → Zone a
   second : 65 ≤ a → a ≤ 128 → Zone a
-
-pub is-atom : (n a : ℕ) → 1 ≤ a → a ≤ n → isAtom n a ≡ true
-is-atom n a l h = rw (le-leb 1 a l, le-leb a n h)
 
 zone : (a : ℕ) → Zone a
 zone a = split (either (leb 1 a)) (either (leb a 128)) (either (leb a 64))
@@ -47,7 +45,7 @@ has-outside words a e = rw e
 pub has-first : (words : List ℕ) (a : ℕ) → 1 ≤ a → a ≤ 64 → has words a ≡ bit (getD words 0 0) (a - 1)
 unfolding has
 has-first words a l h =
-    let atom = is-atom 128 a l (omega arith) in
+    let atom = atom-of 128 a l (omega arith) in
     let word : (a - 1) / 64 ≡ 0 = omega arith in
     let place : (a - 1) % 64 ≡ a - 1 = omega arith in
     rw (atom, word, place)
@@ -55,7 +53,7 @@ has-first words a l h =
 pub has-second : (words : List ℕ) (a : ℕ) → 65 ≤ a → a ≤ 128 → has words a ≡ bit (getD words 1 0) (a - 65)
 unfolding has
 has-second words a l h =
-    let atom = is-atom 128 a (omega arith) h in
+    let atom = atom-of 128 a (omega arith) h in
     let word : (a - 1) / 64 ≡ 1 = omega arith in
     let place : (a - 1) % 64 ≡ a - 65 = omega arith in
     rw (atom, word, place)
@@ -63,13 +61,13 @@ has-second words a l h =
 pub has-atom :
     (words : List ℕ) (a : ℕ) → 1 ≤ a → a ≤ 128 → bit (getD words ((a - 1) / 64) 0) ((a - 1) % 64) ≡ has words a
 unfolding has
-has-atom words a l h = rw (is-atom 128 a l h)
+has-atom words a l h = rw (atom-of 128 a l h)
 
 -- the atom of bit j of word k
 pub has-word : (words : List ℕ) (k j : ℕ) → k < 2 → j < 64 → has words (64 * k + j + 1) ≡ bit (getD words k 0) j
 unfolding has
 has-word words k j hk hj =
-    let atom = is-atom 128 (64 * k + j + 1) (omega arith) (omega arith) in
+    let atom = atom-of 128 (64 * k + j + 1) (omega arith) (omega arith) in
     let word : (64 * k + j + 1 - 1) / 64 ≡ k = omega arith in
     let place : (64 * k + j + 1 - 1) % 64 ≡ j = omega arith in
     rw (atom, word, place)
@@ -196,7 +194,7 @@ pub has-up-to-second :
     (n : ℕ) → 64 ≤ n → n ≤ 128 → (a : ℕ) → has ((2 ^ 64 - 1) ∷ (2 ^ (n - 64) - 1) ∷ []) a ≡ isAtom n a
 has-up-to-second n l h a =
     by-zone ((2 ^ 64 - 1) ∷ (2 ^ (n - 64) - 1) ∷ []) a (isAtom n a) (λ o. not-atom n a h o)
-    (λ la ha. bit-ones 64 (a - 1) ∙ ltb-less a 64 0 64 la refl ∙ le-leb a 64 ha ∙ sym (is-atom n a la (omega arith)))
+    (λ la ha. bit-ones 64 (a - 1) ∙ ltb-less a 64 0 64 la refl ∙ le-leb a 64 ha ∙ sym (atom-of n a la (omega arith)))
     (λ la ha. let upper = atom-upper n a (omega arith) in
     bit-ones (n - 64) (a - 65) ∙ ltb-less a n 64 (n - 64) la (omega arith) ∙ sym upper)
 

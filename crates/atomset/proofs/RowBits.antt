@@ -9,7 +9,7 @@ use lib.ListN.{getD}
 use Rattle.molecule.specs.declared.Molecule.{Molecule}
 use Rattle.molecule.specs.Record.{bit, bonded, wellFormed}
 use Rattle.atomset.specs.Set.{linkedBy, WordsOf}
-use Rattle.atomset.proofs.Members.{is-atom}
+use Rattle.molecule.proofs.Bonds.{atom-of}
 use Rattle.atomset.proofs.Bonds.{linked-bonded}
 
 -- bit j of word w of the row of atom a, in the word table
@@ -18,8 +18,8 @@ linked-word :
     linkedBy table a (64 * w + j + 1) ≡ bit (getD table (2 * (a - 1) + w) 0) j
 unfolding linkedBy
 linked-word table a w j l h hw hj =
-    let row = is-atom 128 a l h in
-    let other = is-atom 128 (64 * w + j + 1) (omega arith) (omega arith) in
+    let row = atom-of 128 a l h in
+    let other = atom-of 128 (64 * w + j + 1) (omega arith) (omega arith) in
     let word : (64 * w + j + 1 - 1) / 64 ≡ w = omega arith in
     let place : (64 * w + j + 1 - 1) % 64 ≡ j = omega arith in
     rw (row, other, word, place)

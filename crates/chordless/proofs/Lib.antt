@@ -9,8 +9,9 @@ pub mod Sweep
 pub mod Lawful
 pub mod Tests
 pub mod Steers
+pub mod Sums
 pub mod Routes
+pub mod Distances
 pub mod ShortestPaths
 pub mod Nearer
-pub mod Sums
 pub mod Number

@@ -18,7 +18,8 @@ use Rattle.chordless.specs.Distance.{Atom, ways, Far, Nearing, Leading}
 use Rattle.chordless.proofs.Members.{open-has, open-of}
 use Rattle.chordless.proofs.Bounds.{paths-bounded}
 use Rattle.chordless.proofs.Routes.{none-of, Route, here, step, route-length, route-ways, ways-here, ways-route, route-splice, Joins, joins-cons, joins-route, shortest-route, route-shortest}
-use Rattle.chordless.proofs.ShortestPaths.{far-same, far-next, shortest-path}
+use Rattle.chordless.proofs.Distances.{far-same, far-next}
+use Rattle.chordless.proofs.ShortestPaths.{shortest-path}
 
 -- a path joins its ends
 pub path-joins : (n : ℕ) (adj : Adjacency) (s t : ℕ) (w : List ℕ) → isPath n adj s t w ≡ true → Joins n adj t s w
@@ -44,7 +45,7 @@ nearer-far {n} {adj} {t} nearer (here e) = record {
 }
 nearer-far {n} {adj} {t} nearer (step {v = v} {a = a} atom bond r) =
     let (d, from, to) = nearer v a bond in
-    let same = far-same n adj t to (nearer-far nearer r) in
+    let same = far-same to (nearer-far nearer r) in
     rw same at from
 
 module _ {n t : ℕ} {near : Adjacency} (leading : Leading n t near) where
@@ -73,7 +74,7 @@ module _ {n t : ℕ} {near : Adjacency} (leading : Leading n t near) where
   pub leading-irreflexive : Irreflexive n near
   leading-irreflexive u low high = false-of (near u u) (λ bond.
       let (d, from, to) = leading .nearer u u bond in
-      let same : suc d ≡ d = far-same n near t from to in
+      let same : suc d ≡ d = far-same from to in
       omega arith)
 
   -- ---- beginnings
@@ -150,7 +151,7 @@ module _ {n : ℕ} {adj : Adjacency} {t : ℕ} {near : Adjacency} (nearing : Nea
       {d v : ℕ} {w : List ℕ} → Atom n v → Far n adj t d v → Route n adj t d v w → Route n near t d v w
   far-route atom far (here e) = here e
   far-route atom far (step {d} {v} {a} next bond r) =
-      let nearer = far-next n adj t far next bond (route-ways n adj t r) in
+      let nearer = far-next far next bond (route-ways n adj t r) in
       step next (nearing .every v a d atom next bond far nearer) (far-route next nearer r)
 
   near-route : {d v : ℕ} {w : List ℕ} → Route n near t d v w → Route n adj t d v w

@@ -17,7 +17,8 @@ use Rattle.chordless.specs.Families.{isShortest, shortestPaths}
 use Rattle.chordless.specs.Reach.{Symmetric}
 use Rattle.chordless.specs.Distance.{Atom, leadsTo, total, ways, Far}
 use Rattle.chordless.proofs.Routes.{leads-length, ways-leads, shortest-leads}
-use Rattle.chordless.proofs.ShortestPaths.{far-same, shortest-lawful}
+use Rattle.chordless.proofs.Distances.{far-same}
+use Rattle.chordless.proofs.ShortestPaths.{shortest-lawful}
 use Rattle.chordless.proofs.Sums.{total-same, total-zero, total-one, total-swap, total-if, keep-words}
 
 -- where no word passes, none is kept
@@ -39,7 +40,7 @@ module _ (n : ℕ) (adj : Adjacency) where
   ways-counts t zero (suc k) v h = omega (arith, keep-words n k (leadsTo n adj t 0 v), none)
     where
       none : total n (λ a. length (keep (λ w. leadsTo n adj t 0 v (a ∷ w)) (words n k))) ≡ 0
-      none = total-zero n _ (λ a low high. keep-no (λ w. leadsTo n adj t 0 v (a ∷ w)) (words n k) (λ w. refl))
+      none = total-zero n _ (λ a at. keep-no (λ w. leadsTo n adj t 0 v (a ∷ w)) (words n k) (λ w. refl))
   ways-counts t (suc d) zero v h = absurd (not-suc-le-zero h)
   ways-counts t (suc d) (suc k) v h =
       let each = every (λ a. ways-counts t d k a (le-of-suc-le-suc h)) in
@@ -56,7 +57,7 @@ module _ (n : ℕ) (adj : Adjacency) where
           total n (λ a. length (keep (λ w. leadsTo n adj t (suc d) v (a ∷ w)) (words n k))) ≡
           total n (λ a. cond (adj v a) (ways n adj t d a) 0)
       every ih =
-          total-same n _ _ (λ a low high. rw (le-leb 1 a low, le-leb a n high) (go a (adj v a) (ih a)))
+          total-same n _ _ (λ a at. rw (le-leb 1 a (at .low), le-leb a n (at .high)) (go a (adj v a) (ih a)))
 
   -- ---- by the last atom
 
@@ -73,17 +74,17 @@ module _ (n : ℕ) (adj : Adjacency) where
 
       to-b : total n (λ c. cond (adj a c) (cond (eqb c b) 1 0) 0) ≡ cond (adj a b) 1 0
       to-b =
-          total-one n _ b (B .low) (B .high) (λ c low high q. rw (ne-eqb c b q) (only (adj a c)))
+          total-one n _ B (λ c at q. rw (ne-eqb c b q) (only (adj a c)))
           ∙ rw (eq-eqb b b refl)
 
       from-a : total n (λ c. cond (adj c b) (cond (eqb a c) 1 0) 0) ≡ cond (adj a b) 1 0
       from-a =
-          total-one n _ a (A .low) (A .high) (λ c low high q. rw (ne-eqb a c (λ e. q (sym e))) (only (adj c b)))
+          total-one n _ A (λ c at q. rw (ne-eqb a c (λ e. q (sym e))) (only (adj c b)))
           ∙ rw (eq-eqb a a refl)
   ways-last {a} {b} (suc d) A B =
-      total-same n _ _ (λ e low high. by-last e (ways-last d (record { low = low; high = high }) B))
+      total-same n _ _ (λ e at. by-last e (ways-last d at B))
       ∙ total-swap n n (λ e c. cond (adj c b) (cond (adj a e) (ways n adj c d e) 0) 0)
-      ∙ sym (total-same n _ _ (λ c low high. total-if (adj c b) n (λ e. cond (adj a e) (ways n adj c d e) 0)))
+      ∙ sym (total-same n _ _ (λ c at. total-if (adj c b) n (λ e. cond (adj a e) (ways n adj c d e) 0)))
     where
       either-first : (x y : Bool) (k : ℕ) → cond x (cond y k 0) 0 ≡ cond y (cond x k 0) 0
       either-first true true k = refl
@@ -98,7 +99,7 @@ module _ (n : ℕ) (adj : Adjacency) where
       by-last e ih =
           ap (λ x. cond (adj a e) x 0) ih
           ∙ total-if (adj a e) n (λ c. cond (adj c b) (ways n adj c d e) 0)
-          ∙ total-same n _ _ (λ c low high. either-first (adj a e) (adj c b) (ways n adj c d e))
+          ∙ total-same n _ _ (λ c at. either-first (adj a e) (adj c b) (ways n adj c d e))
 
   module _ (both : Symmetric adj) where
     -- as many lead back
@@ -110,7 +111,7 @@ module _ (n : ℕ) (adj : Adjacency) where
         other x y e = eq-eqb y x (sym (eqb-true x y e))
     ways-both {a} {b} (suc d) A B =
         ways-last d A B
-        ∙ total-same n _ _ (λ c low high. rw (both c b, ways-both {b = c} d A (record { low = low; high = high })))
+        ∙ total-same n _ _ (λ c at. rw (both c b, ways-both d A at))
 
     pub far-both : {a b d : ℕ} → Atom n a → Atom n b → Far n adj b d a → Far n adj a d b
     far-both {a} {b} {d} A B far = record {
@@ -138,7 +139,7 @@ module _ (n : ℕ) (adj : Adjacency) (s t : ℕ) where
     member-leads w e =
         let (r, shape, s-atom, leads, r-far) = shortest-leads n adj t s (s ∷ w) .0 e in
         let q : w ≡ r = cc in
-        rw (q, far-same n adj t far r-far) leads
+        rw (q, far-same far r-far) leads
 
     -- they have at most n atoms, so t is fewer than n bonds away
     pub far-below : d < n
@@ -162,8 +163,8 @@ module _ (n : ℕ) (adj : Adjacency) (s t : ℕ) where
             total n (λ a. length (keep (λ w. isShortest n adj s t (a ∷ w)) (words n (n - 1)))) ≡
             length (keep (leadsTo n adj t d s) (words n (n - 1)))
         from-s =
-            total-one n _ s (atom .low) (atom .high)
-            (λ a l h q. keep-no _ (words n (n - 1)) (λ w. starts (a ∷ w) (λ r e. q (cc))))
+            total-one n _ atom
+            (λ a at q. keep-no _ (words n (n - 1)) (λ w. starts (a ∷ w) (λ r e. q (cc))))
             ∙ ap (λ (l : List (List ℕ)). length l)
             (keep-cong _ _ (words n (n - 1)) (λ w m. same-test _ _ (member-leads w) (leads-member w)))
 

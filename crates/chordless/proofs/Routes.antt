@@ -7,7 +7,7 @@ use mathlib.Core.List.{List, [], _∷_, _++_, List·Memᴰ, List·Memᴰ·not-ni
 use mathlib.Core.Logic.{inl, inr, _↔_}
 use native.Mathlib.Omega.{arith}
 use native.Mathlib.Nat.{not-suc-le-zero, le-of-suc-le-suc}
-use native.Mathlib.Decide.{ℕ-discrete, decLt}
+use native.Mathlib.Decide.{decLt}
 use lib.ListN.{length}
 use lib.Dec.{leb, eqb}
 use borrow.Author.Tests.{leb-true, le-leb, eqb-true, eq-eqb, not-true}
@@ -18,31 +18,8 @@ use Rattle.enumeration.specs.Words.{any, words, joined, numbersFrom}
 use Rattle.enumeration.proofs.Basics.{starting, any-mem, mem-any, joined-mem}
 use Rattle.enumeration.proofs.Order.{map-mem, range-at, words-complete}
 use Rattle.chordless.specs.Families.{joins, isShortest}
-use Rattle.chordless.specs.Distance.{Atom, leadsTo, total, ways, Far}
-
--- ---- sums over the atoms
-
-pub total-of : {n : ℕ} (f : ℕ → ℕ) {a : ℕ} → Atom n a → 1 ≤ f a → 1 ≤ total n f
-unfolding total
-total-of {n = zero} f a h = absurd (let low = a .low in let high = a .high in omega arith)
-total-of {n = suc n} f {a} atom h = elim (ℕ-discrete a (suc n)) [
-  | yes e ↦ let last : 1 ≤ f (suc n) = rw e at h in omega arith
-  | no e ↦
-      let high = atom .high in
-      let before = total-of {n = n} f (record { low = atom .low; high = omega arith }) h in
-      omega arith
-]
-
-pub total-has : (n : ℕ) (f : ℕ → ℕ) → 1 ≤ total n f → (a : ℕ) × Atom n a × (1 ≤ f a)
-unfolding total
-total-has zero f h = absurd (not-suc-le-zero h)
-total-has (suc n) f h = elim (ℕ-discrete (f (suc n)) 0) [
-  | yes e ↦
-      let (a, atom, one) = total-has n f (omega arith) in
-      let high = atom .high in
-      (a, record { low = atom .low; high = omega arith }, one)
-  | no e ↦ (suc n, record { low = omega arith; high = omega arith }, omega arith)
-]
+use Rattle.chordless.specs.Distance.{Atom, leadsTo, ways, Far}
+use Rattle.chordless.proofs.Sums.{total-of, total-has}
 
 -- a number that is not at least 1 is 0
 pub none-of : (k : ℕ) → (1 ≤ k → ⊥) → k ≡ 0

@@ -5,7 +5,6 @@ use mathlib.Core.Path.{_≡_}
 use mathlib.Core.Bool.{true}
 use mathlib.Core.List.{List, _∷_}
 use native.Mathlib.Omega.{arith}
-use native.Mathlib.Decide.{decLe}
 use Rattle.graph.specs.Chordless.{Adjacency, isPath}
 use Rattle.graph.proofs.Below.{false-of}
 use Rattle.graph.proofs.All.{All, none, _◁_, all-map}
@@ -15,32 +14,10 @@ use Rattle.enumeration.specs.Lawful.{Lawful}
 use Rattle.chordless.specs.Families.{isShortest, shortestPaths}
 use Rattle.chordless.specs.Distance.{Atom, ways, Far}
 use Rattle.chordless.proofs.Lawful.{paths-lawful}
-use Rattle.chordless.proofs.Routes.{none-of, Route, here, step, route-ways, ways-step, route-joins, shortest-route}
+use Rattle.chordless.proofs.Routes.{Route, here, step, route-ways, ways-step, route-joins, shortest-route}
+use Rattle.chordless.proofs.Distances.{far-least, far-next}
 
 module _ (n : ℕ) (adj : Adjacency) (t : ℕ) where
-  -- nothing leads to t by fewer bonds than the distance
-  pub far-least : {d : ℕ} (e : ℕ) {v : ℕ} → Far n adj t d v → 1 ≤ ways n adj t e v → d ≤ e
-  far-least {d} e far h = elim (decLe d e) [
-    | yes l ↦ l
-    | no l ↦ let none = far .no-nearer e (omega arith) in absurd (omega arith)
-  ]
-
-  -- an atom has one distance
-  pub far-same : {d e v : ℕ} → Far n adj t d v → Far n adj t e v → d ≡ e
-  far-same {d} {e} far other =
-      let up : d ≤ e = far-least e far (other .joined) in
-      let down : e ≤ d = far-least d other (far .joined) in
-      omega arith
-
-  -- the next atom of a shortest list is one bond nearer
-  pub far-next :
-      {d v a : ℕ} → Far n adj t (suc d) v → Atom n a → adj v a ≡ true → 1 ≤ ways n adj t d a → Far n adj t d a
-  far-next {d} {v} {a} far atom bond h = record {
-    joined = h;
-    no-nearer = λ e l. none-of (ways n adj t e a)
-        (λ m. let up : suc d ≤ suc e = far-least (suc e) far (ways-step n adj t e v atom bond m) in omega arith);
-  }
-
   -- an atom that leads to t by fewer than d bonds
   abbrev Ahead : ℕ → ℕ → Type 0
   Ahead d u = (e : ℕ) × (e < d) × Atom n u × (1 ≤ ways n adj t e u)

@@ -1,50 +1,73 @@
 -- Laws of the sum over the atoms from 1 to n: of equal terms, of two terms, of one term that is not 0, of sums in
 -- either order; and the words that pass a test, by their first atom. By induction on n, and on the lists.
-use Prim.Native.Nat.{ℕ, zero, suc, _+_, _≤_}
+use Prim.Native.Nat.{ℕ, zero, suc, _+_, _≤_, _<_}
 use mathlib.Core.Path.{_≡_, refl, sym, ap}
 use mathlib.Core.Bool.{Bool, true, false, cond}
 use mathlib.Core.List.{List, [], _∷_, map}
 use mathlib.Core.Logic.{_≢_}
 use native.Mathlib.Omega.{arith}
+use native.Mathlib.Nat.{not-suc-le-zero}
 use native.Mathlib.Decide.{ℕ-discrete}
 use lib.ListN.{length, length-append}
 use Rattle.enumeration.specs.Words.{numbersFrom, joined, words, keep}
 use Rattle.enumeration.proofs.Basics.{keep-append, starting}
-use Rattle.chordless.specs.Distance.{total}
+use Rattle.chordless.specs.Distance.{Atom, total}
+
+-- ---- atoms from 1 to n + 1: those from 1 to n, and the last
+
+more : {n a : ℕ} → Atom n a → Atom (suc n) a
+more at = record { low = at .low; high = omega (arith, at .high) }
+
+last : (n : ℕ) → Atom (suc n) (suc n)
+last n = record { low = omega arith; high = omega arith }
+
+earlier : {n a : ℕ} → Atom (suc n) a → a ≢ suc n → Atom n a
+earlier at other = record { low = at .low; high = omega (arith, at .high) }
 
 -- ---- sums
 
 -- equal terms
-pub total-same : (n : ℕ) (f g : ℕ → ℕ) → ((a : ℕ) → 1 ≤ a → a ≤ n → f a ≡ g a) → total n f ≡ total n g
+pub total-same : (n : ℕ) (f g : ℕ → ℕ) → ((a : ℕ) → Atom n a → f a ≡ g a) → total n f ≡ total n g
 unfolding total
 total-same zero f g h = refl
-total-same (suc n) f g h =
-    let others = total-same n f g (λ a low high. h a low (omega arith)) in
-    let last = h (suc n) (omega arith) (omega arith) in
-    omega arith
+total-same (suc n) f g h = omega (arith, total-same n f g (λ a at. h a (more at)), h (suc n) (last n))
 
-pub total-zero : (n : ℕ) (f : ℕ → ℕ) → ((a : ℕ) → 1 ≤ a → a ≤ n → f a ≡ 0) → total n f ≡ 0
+pub total-zero : (n : ℕ) (f : ℕ → ℕ) → ((a : ℕ) → Atom n a → f a ≡ 0) → total n f ≡ 0
 unfolding total
 total-zero zero f h = refl
-total-zero (suc n) f h =
-    let others = total-zero n f (λ a low high. h a low (omega arith)) in
-    let last = h (suc n) (omega arith) (omega arith) in
-    omega arith
+total-zero (suc n) f h = omega (arith, total-zero n f (λ a at. h a (more at)), h (suc n) (last n))
+
+-- a sum that an atom adds to is not 0
+pub total-of : {n : ℕ} (f : ℕ → ℕ) {a : ℕ} → Atom n a → 1 ≤ f a → 1 ≤ total n f
+unfolding total
+total-of {n = zero} f at h = absurd (omega (arith, at .low, at .high))
+total-of {n = suc n} f {a} at h = elim (ℕ-discrete a (suc n)) [
+  | yes e ↦ let here : 1 ≤ f (suc n) = rw e at h in omega arith
+  | no e ↦ omega (arith, total-of f (earlier at e) h)
+]
+
+-- and one that is not 0 has such an atom
+pub total-has : (n : ℕ) (f : ℕ → ℕ) → 1 ≤ total n f → (a : ℕ) × Atom n a × (1 ≤ f a)
+unfolding total
+total-has zero f h = absurd (not-suc-le-zero h)
+total-has (suc n) f h = elim (ℕ-discrete (f (suc n)) 0) [
+  | yes e ↦ let (a, at, one) = total-has n f (omega arith) in (a, more at, one)
+  | no e ↦ (suc n, last n, omega arith)
+]
 
 -- every term but that of c is 0
 pub total-one :
-    (n : ℕ) (f : ℕ → ℕ) (c : ℕ) → 1 ≤ c → c ≤ n →
-    ((a : ℕ) → 1 ≤ a → a ≤ n → a ≢ c → f a ≡ 0) → total n f ≡ f c
+    (n : ℕ) (f : ℕ → ℕ) {c : ℕ} → Atom n c → ((a : ℕ) → Atom n a → a ≢ c → f a ≡ 0) → total n f ≡ f c
 unfolding total
-total-one zero f c low high h = absurd (omega arith)
-total-one (suc n) f c low high h = elim (ℕ-discrete c (suc n)) [
+total-one zero f at h = absurd (omega (arith, at .low, at .high))
+total-one (suc n) f {c} at h = elim (ℕ-discrete c (suc n)) [
   | yes e ↦
-      let others = total-zero n f (λ a low′ high′. h a low′ (omega arith) (omega arith)) in
-      let last = ap f e in
+      let others = total-zero n f (λ a below. h a (more below) (λ q. absurd (omega (arith, below .high)))) in
+      let here = ap f e in
       omega arith
   | no e ↦
-      let others = total-one n f c low (omega arith) (λ a low′ high′. h a low′ (omega arith)) in
-      let last = h (suc n) (omega arith) (omega arith) (λ q. e (sym q)) in
+      let others = total-one n f (earlier at e) (λ a below. h a (more below)) in
+      let none = h (suc n) (last n) (λ q. e (sym q)) in
       omega arith
 ]
 
@@ -59,7 +82,7 @@ total-add (suc n) f g =
 pub total-swap :
     (m n : ℕ) (f : ℕ → ℕ → ℕ) → total m (λ a. total n (λ b. f a b)) ≡ total n (λ b. total m (λ a. f a b))
 unfolding total
-total-swap zero n f = sym (total-zero n (λ b. 0) (λ b low high. refl))
+total-swap zero n f = sym (total-zero n (λ b. 0) (λ b at. refl))
 total-swap (suc m) n f =
     let others = total-swap m n f in
     let both = total-add n (λ b. total m (λ a. f a b)) (λ b. f (suc m) b) in
@@ -68,7 +91,17 @@ total-swap (suc m) n f =
 -- a test that is the same for every term
 pub total-if : (b : Bool) (n : ℕ) (f : ℕ → ℕ) → cond b (total n f) 0 ≡ total n (λ a. cond b (f a) 0)
 total-if true n f = refl
-total-if false n f = sym (total-zero n (λ a. 0) (λ a low high. refl))
+total-if false n f = sym (total-zero n (λ a. 0) (λ a at. refl))
+
+-- the atoms above n add nothing
+pub total-beyond : (n m : ℕ) (f : ℕ → ℕ) → n ≤ m → ((a : ℕ) → n < a → f a ≡ 0) → total m f ≡ total n f
+unfolding total
+total-beyond zero zero f h none = refl
+total-beyond (suc n) zero f h none = absurd (omega arith)
+total-beyond n (suc m) f h none = elim (ℕ-discrete n (suc m)) [
+  | yes q ↦ rw q
+  | no q ↦ omega (arith, total-beyond n m f (omega arith) none, none (suc m) (omega arith))
+]
 
 -- ---- words by their first atom
 
@@ -122,7 +155,7 @@ keep-later n k t =
     rw (keep-joins t (starting n k) (numbersFrom 1 n)) (omega (arith, summed, same))
   where
     same : total n (λ a. length (keep t (starting n k a))) ≡ total n (λ a. length (keep (λ w. t (a ∷ w)) (words n k)))
-    same = total-same n _ _ (λ a low high. keep-starting t a (words n k))
+    same = total-same n _ _ (λ a at. keep-starting t a (words n k))
 
 -- of the words of at most k + 1 atoms: the empty one, and those that start with each atom
 pub keep-words :

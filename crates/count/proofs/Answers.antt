@@ -15,9 +15,9 @@ use Rattle.refusal.specs.declared.Answer.the-variants as answer-of
 use Rattle.molecule.specs.declared.Molecule.{Molecule}
 use Rattle.molecule.specs.Record.{wellFormed}
 use Rattle.molecule.specs.Ends.{endsAnswer}
-use Rattle.molecule.proofs.Ends.{ends-refused, ends-accepted, ends-differ}
+use Rattle.molecule.proofs.Ends.{ends-refused}
 use Rattle.search.specs.Place.{endsKept}
-use Rattle.search.proofs.Readings.{ends-facts, atom-of}
+use Rattle.search.proofs.Readings.{ends-facts, ends-go}
 use Rattle.distance.specs.Capped.{capped}
 use Rattle.count.specs.declared.Counted.the-variants.{Number, Refused}
 use Rattle.count.specs.Count.{shortestNumber, countShortest}
@@ -37,11 +37,6 @@ module _ (x : ℕ) {r : ℕ} (told : r ≡ capped x) where
     | inl e ↦ let same : r ≡ x = rw e at told in omega arith
     | inr e ↦ leb-false x limit e
   ]
-
--- ends that rules 10 and 11 accept keep them
-pub accepted-kept : (n s t : ℕ) → endsAnswer n s t ≡ answer-of.Accepted → endsKept n s t ≡ true
-unfolding endsKept
-accepted-kept n s t e = ends-accepted n s t _ true e
 
 module _ (mol : Molecule) (s t : ℕ) where
   -- rule 9 comes first
@@ -63,10 +58,7 @@ module _ (mol : Molecule) (s t : ℕ) where
           cond (leb (shortestNumber mol s t) limit) (Number (shortestNumber mol s t)) (Refused TooManyPaths)
       unfolding countShortest
       count-by =
-          let f = ends-facts (mol .atoms) s t kept in
-          rw formed
-          (ends-differ (mol .atoms) s t Refused _ (atom-of (mol .atoms) s (f .s-low) (f .s-high))
-          (atom-of (mol .atoms) t (f .t-low) (f .t-high)) (f .differ))
+          rw formed (ends-go (ends-facts (mol .atoms) s t kept) Refused _)
 
       pub count-within : shortestNumber mol s t ≤ limit → countShortest mol s t ≡ Number (shortestNumber mol s t)
       count-within h = rw (count-by, le-leb (shortestNumber mol s t) limit h)

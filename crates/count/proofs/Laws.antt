@@ -2,7 +2,7 @@
 -- By the number of lists that lead from t to s, over the bonds of the record.
 use Prim.Native.Nat.{ℕ, _<_}
 use native.Mathlib.Omega.{arith}
-use mathlib.Core.Path.{_≡_, refl, sym, ap, fun-ext, _∙_}
+use mathlib.Core.Path.{_≡_, refl, sym, ap, _∙_}
 use mathlib.Core.Bool.{Bool, true, false, _&&_, cond}
 use mathlib.Core.List.{List}
 use mathlib.Core.Logic.{inl, inr, _↔_}
@@ -22,7 +22,7 @@ use Rattle.molecule.specs.Record.{isAtom, bonded, wellFormed}
 use Rattle.molecule.specs.Ends.{withEnds}
 use Rattle.molecule.proofs.Bonds.{rule9, bonded-symmetric}
 use Rattle.atomset.specs.Set.{linkedBy, WordsOf}
-use Rattle.atomset.proofs.Bonds.{linked-bonded, linked-symmetric}
+use Rattle.atomset.proofs.Bonds.{linked-same, linked-symmetric}
 use Rattle.search.specs.Place.{familyIn, familyOf, endsKept}
 use Rattle.search.proofs.Readings.{ends-facts}
 use Rattle.distance.specs.Capped.{capped, Joined, Numbered}
@@ -82,11 +82,8 @@ module _ (mol : Molecule) (s t : ℕ) where
         end = end-atom;
       }
 
-      same-bonds : linkedBy table ≡ bonds
-      same-bonds = fun-ext (λ a. fun-ext (λ b. linked-bonded mol formed table words a b))
-
       pub table-capped : {r : ℕ} → Numbered (mol .atoms) (linkedBy table) s t r → r ≡ capped (shortestNumber mol s t)
-      table-capped {r} told = number-capped (rw same-bonds at told)
+      table-capped {r} told = number-capped (rw (linked-same mol formed table words) at told)
 
 -- ---- the answer
 

@@ -1,20 +1,22 @@
 -- Layers around an atom t: `front` are the atoms at distance d, and `unseen` those that no list of d bonds or fewer
 -- leads from. By the next layer one round more; an empty layer is the last.
-use Prim.Native.Nat.{ℕ, zero, suc, _+_, _≤_, _<_}
+use Prim.Native.Nat.{ℕ, zero, suc, _≤_, _<_}
 use native.Mathlib.Decide.{ℕ-discrete}
 use native.Mathlib.Omega.{arith}
 use mathlib.Core.Path.{_≡_, sym, _∙_}
-use mathlib.Core.Bool.{Bool, true, false, _&&_, not, cond}
+use mathlib.Core.Bool.{Bool, true, false, _&&_, _||_, not}
 use mathlib.Core.Logic.{inl, inr}
 use lib.Dec.{leb, eqb}
-use borrow.Author.Tests.{le-leb, leb-true, eqb-true, not-true}
+use borrow.Author.Tests.{le-leb, leb-true, eq-eqb, eqb-true, eqb-false, not-true}
 use Rattle.graph.specs.Chordless.{Adjacency}
-use Rattle.graph.proofs.Below.{clash, either, false-of, not-of, and-parts, and-both}
+use Rattle.graph.proofs.Below.{clash, false-of, not-of, and-parts, and-both}
+use Rattle.enumeration.proofs.Basics.{or-either, or-left, or-right}
 use Rattle.chordless.specs.Distance.{Atom, Far, ways}
 use Rattle.chordless.specs.Reach.{Symmetric}
+use Rattle.chordless.proofs.Routes.{none-of, ways-here, here-ways, ways-step}
+use Rattle.chordless.proofs.Distances.{far-has, nearest}
+use Rattle.atomset.proofs.Size.{size, smaller}
 use Rattle.distance.specs.Layers.{Measured, NextLayer}
-use Rattle.distance.proofs.Totals.{atom-wider, total-at, total-parts, over, size}
-use Rattle.distance.proofs.Ways.{ways-of, nearest, nearer-atom}
 
 -- no list of d bonds or fewer leads from v to t
 abbrev pub Beyond : ℕ → Adjacency → ℕ → ℕ → ℕ → Type 0
@@ -38,25 +40,23 @@ module _ {n : ℕ} {adj : Adjacency} {t : ℕ} {all front unseen : ℕ → Bool}
   pub layers-start :
       Atom n t → ((a : ℕ) → all a ≡ (leb 1 a && leb a n)) → ((a : ℕ) → unseen a ≡ (all a && not (eqb a t))) →
       ((a : ℕ) → front a ≡ eqb a t) → Layers n adj t 0 front unseen
-  unfolding ways
   layers-start atom all-is unseen-is front-is = record {
     front-atom = λ v e. let same : v ≡ t = eqb-true v t (sym (front-is v) ∙ e) in rw same atom;
     front-far = λ v e.
-        let same : eqb v t ≡ true = sym (front-is v) ∙ e in
-        record { joined = rw same (omega arith); no-nearer = λ d h. absurd (omega arith) };
-    front-every = λ v at far. elim (either (eqb v t)) [
-      | inl q ↦ front-is v ∙ q
-      | inr q ↦ let none : _≡_ {A = ℕ} (cond (eqb v t) 1 0) 0 = rw q in absurd (omega (arith, far .joined))
-    ];
+        let same : v ≡ t = eqb-true v t (sym (front-is v) ∙ e) in
+        record { joined = ways-here n adj t same; no-nearer = λ d h. absurd (omega arith) };
+    front-every = λ v at far. front-is v ∙ eq-eqb v t (here-ways n adj t (far .joined));
     unseen-atom = λ v e.
         let (low, high) = and-parts (leb 1 v) (leb v n) (sym (all-is v) ∙ parts v e .0) in
         record { low = leb-true 1 v low; high = leb-true v n high };
     unseen-far = λ v e d h.
-        let same : d ≡ 0 = omega arith in rw (same, not-true (eqb v t) (parts v e .1));
-    unseen-every = λ v at none. elim (either (eqb v t)) [
-      | inl q ↦ let some : _≡_ {A = ℕ} (cond (eqb v t) 1 0) 1 = rw q in absurd (omega (arith, none 0 (omega arith)))
-      | inr q ↦ rw (unseen-is v, all-is v, le-leb 1 v (at .low), le-leb v n (at .high), q)
-    ];
+        let same : d ≡ 0 = omega arith in
+        let other = eqb-false v t (not-true (eqb v t) (parts v e .1)) in
+        rw same (none-of (ways n adj t 0 v) (λ some. other (here-ways n adj t some)));
+    unseen-every = λ v at none.
+        let other =
+        false-of (eqb v t) (λ e. omega (arith, none 0 (omega arith), ways-here n adj t (eqb-true v t e))) in
+        rw (unseen-is v, all-is v, le-leb 1 v (at .low), le-leb v n (at .high), other);
   }
     where
       parts : (v : ℕ) → unseen v ≡ true → (all v ≡ true) × (not (eqb v t) ≡ true)
@@ -71,13 +71,13 @@ module _
   found-far v e =
       let (x, here, bond) = next .from v e in
       record {
-        joined = ways-of n adj t d (l .front-atom x here) (both-ways v x ∙ bond) (l .front-far x here .joined);
+        joined = ways-step n adj t d v (l .front-atom x here) (both-ways v x ∙ bond) (l .front-far x here .joined);
         no-nearer = λ k h. l .unseen-far v (next .fresh v e) k (omega arith);
       }
 
   pub found-every : (v : ℕ) → Atom n v → Far n adj t (suc d) v → found v ≡ true
   found-every v at far =
-      let (x, x-at, bond, x-far) = nearer-atom far in
+      let (x, x-at, bond, x-far) = far-has far in
       next .every x v (l .front-every x x-at x-far) (both-ways x v ∙ bond)
       (l .unseen-every v at (λ e h. far .no-nearer e (omega arith)))
 
@@ -114,12 +114,27 @@ module _
 
   -- fewer atoms are left
   pub layers-fewer :
-      n ≤ 128 → {further : ℕ → Bool} → ((a : ℕ) → further a ≡ (unseen a && not (found a))) →
-      {x : ℕ} → front x ≡ true → size further + size found < size unseen + size front
+      n ≤ 128 → {further : ℕ → Bool} → ((a : ℕ) → further a ≡ (unseen a && not (found a))) → {x : ℕ} → front x ≡ true →
+      size (λ a. further a || found a) 128 < size (λ a. unseen a || front a) 128
   layers-fewer few {further} further-is {x} here =
-      let parts = total-parts 128 (λ a. 1) (next .fresh) further-is in
-      let one : over front (λ a. 1) x ≡ 1 = rw here in
-      omega (arith, total-at 128 (over front (λ a. 1)) x (atom-wider few (l .front-atom x here)))
+      smaller inside (λ a e. or-left (unseen a) (front a) (was-unseen a e)) (or-right (unseen x) (front x) here) gone
+    where
+      inside : (a : ℕ) → unseen a || front a ≡ true → (1 ≤ a) × (a ≤ 128)
+      inside a e = elim (or-either (unseen a) (front a) e) [
+        | inl h ↦ let at = l .unseen-atom a h in (at .low, omega (arith, at .high))
+        | inr h ↦ let at = l .front-atom a h in (at .low, omega (arith, at .high))
+      ]
+
+      was-unseen : (a : ℕ) → further a || found a ≡ true → unseen a ≡ true
+      was-unseen a e = elim (or-either (further a) (found a) e) [
+        | inl h ↦ and-parts (unseen a) (not (found a)) (sym (further-is a) ∙ h) .0
+        | inr h ↦ next .fresh a h
+      ]
+
+      gone : further x || found x ≡ false
+      gone =
+          false-of (further x || found x)
+          (λ e. omega (arith, l .front-far x here .joined, l .unseen-far x (was-unseen x e) d (omega arith)))
 
 -- ---- an empty layer
 
@@ -135,6 +150,6 @@ module _
   none-farther (suc e) v h at far = elim (ℕ-discrete (suc e) d) [
     | yes q ↦ no-last q at far
     | no q ↦
-        let (a, a-at, bond, a-far) = nearer-atom far in
+        let (a, a-at, bond, a-far) = far-has far in
         none-farther e a (omega arith) a-at a-far
   ]

@@ -1,5 +1,3 @@
-pub mod Totals
-pub mod Ways
 pub mod Near
 pub mod Layers
 pub mod Replaced

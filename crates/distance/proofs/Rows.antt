@@ -1,22 +1,22 @@
 -- A row stored into a word table: the bonds of its atom become those of the row, the others stay.
 -- A row is two words, and a place of the table is one word of one row.
 use Prim.Native.Nat.{ℕ, _+_, _-_, _*_, _/_, _%_, _≤_, _<_}
-use native.Mathlib.Decide.{ℕ-discrete, decLt}
+use native.Mathlib.Decide.{ℕ-discrete}
 use native.Mathlib.Omega.{arith}
-use mathlib.Core.Path.{_≡_, refl, sym, _∙_}
-use mathlib.Core.Bool.{Bool, true, false, _&&_, not}
+use mathlib.Core.Path.{_≡_, _∙_}
+use mathlib.Core.Bool.{Bool, true, false, _&&_, and-false}
 use mathlib.Core.List.{List}
 use mathlib.Core.Logic.{_⊎_, inl, inr}
-use lib.ListN.{length, getD, set, replicate, length-set, length-replicate, getD-replicate, List·getD-eq-default}
+use lib.ListN.{length, getD, set, replicate, length-set}
 use lib.Seq.{getD-set-same, getD-set-other}
-use lib.Dec.{eqb}
 use Rattle.graph.specs.Chordless.{Adjacency}
 use Rattle.graph.proofs.Below.{either, and-parts}
+use Rattle.graph.proofs.Places.{zeros-at}
 use Rattle.molecule.specs.Record.{bit, isAtom}
-use Rattle.molecule.proofs.Bonds.{atom-bounds}
+use Rattle.molecule.proofs.Bonds.{atom-bounds, atom-of}
 use Rattle.atomset.specs.Set.{has, linkedBy, Lowest, LowestLeft}
 use Rattle.atomset.proofs.Digits.{bit-none}
-use Rattle.atomset.proofs.Members.{is-atom}
+use Rattle.atomset.proofs.Size.{rest-within}
 use Rattle.distance.specs.Layers.{RowsKept}
 use Rattle.distance.proofs.Replaced.{Replaced, replaced-start, replaced-more, replaced-end}
 
@@ -24,20 +24,10 @@ use Rattle.distance.proofs.Replaced.{Replaced, replaced-start, replaced
 abbrev pub zeros : List ℕ
 zeros = replicate 256 0
 
-zeros-at : (i : ℕ) → getD zeros i 0 ≡ 0
-zeros-at i = elim (decLt i 256) [
-  | yes h ↦ getD-replicate {A = ℕ} 256 i 0 0 h
-  | no h ↦ List·getD-eq-default {A = ℕ} zeros 0 {n = i} (omega (arith, length-replicate {A = ℕ} 256 0))
-]
-
 pub linked-none : (a b : ℕ) → linkedBy zeros a b ≡ false
 unfolding linkedBy
 linked-none a b =
-    rw (zeros-at (2 * (a - 1) + (b - 1) / 64), bit-none ((b - 1) % 64)) (off (isAtom 128 a && isAtom 128 b))
-  where
-    off : (t : Bool) → (t && false) ≡ false
-    off true = refl
-    off false = refl
+    rw (zeros-at 256 (2 * (a - 1) + (b - 1) / 64), bit-none ((b - 1) % 64)) (and-false (isAtom 128 a && isAtom 128 b))
 
 -- the table with a row at the place of atom v
 abbrev pub withRow : List ℕ → ℕ → List ℕ → List ℕ
@@ -70,7 +60,7 @@ module _ (table : List ℕ) (v : ℕ) (row : List ℕ) (low : 1 ≤ v) (high : v
 
   linked-same : (b : ℕ) → linkedBy (withRow table v row) v b ≡ has row b
   unfolding linkedBy has
-  linked-same b = rw (is-atom 128 v low high) (split (either (isAtom 128 b)))
+  linked-same b = rw (atom-of 128 v low high) (split (either (isAtom 128 b)))
     where
       split :
           (isAtom 128 b ≡ true) ⊎ (isAtom 128 b ≡ false) →
@@ -118,9 +108,9 @@ module _ {adj : Adjacency} {front found : ℕ → Bool} {old : List ℕ} where
       Storing adj front found (has rest) old (withRow rows v near)
   storing-more {left} {rest} {rows} {v} near s lowest takes near-is = record {
     long = row-size rows v near low high (s .long);
-    within = λ a e. s .within a (and-parts (has left a) (not (eqb a v)) (sym (rest-is a) ∙ e) .0);
+    within = λ a e. s .within a (rest-within takes a e);
     bonds = λ b.
-        replaced-more (s .within) (lowest .member) rest-is (s .bonds b)
+        replaced-more (s .within) (lowest .member) (takes .others v lowest) (s .bonds b)
         (linked-same rows v near low high (s .long) b ∙ near-is b)
         (λ a other. linked-other rows v near low high (s .long) a b other);
   }
@@ -130,9 +120,6 @@ module _ {adj : Adjacency} {front found : ℕ → Bool} {old : List ℕ} where
 
       high : v ≤ 128
       high = lowest .high
-
-      rest-is : (a : ℕ) → has rest a ≡ (has left a && not (eqb a v))
-      rest-is = takes .others v lowest
 
   pub storing-end :
       {left : ℕ → Bool} {rows : List ℕ} → Storing adj front found left old rows → ((a : ℕ) → left a ≡ false) →

@@ -4,20 +4,21 @@ use Prim.Native.Nat.{ℕ, zero, suc, _+_, _≤_, _<_}
 use native.Mathlib.Decide.{decLt}
 use native.Mathlib.Omega.{arith}
 use mathlib.Core.Path.{_≡_, refl, ap, sym, _∙_}
-use mathlib.Core.Bool.{Bool, true, false, _&&_, not, cond}
+use mathlib.Core.Bool.{Bool, true, false, _&&_, not, cond, and-false}
 use mathlib.Core.List.{List}
 use mathlib.Core.Logic.{_⊎_, inl, inr}
 use lib.ListN.{length, getD, set, length-set}
 use lib.Seq.{getD-set-same, getD-set-other}
 use lib.Dec.{eqb}
-use borrow.Author.Tests.{le-leb, lt-leb}
+use borrow.Author.Tests.{le-leb, lt-leb, eq-eqb, eqb-true, ne-eqb}
 use Rattle.graph.specs.Chordless.{Adjacency}
-use Rattle.graph.proofs.Below.{either, clash, false-of, and-parts}
+use Rattle.graph.proofs.Below.{apart, either, clash, false-of}
 use Rattle.fields.specs.Field.{limit}
-use Rattle.chordless.specs.Distance.{Atom, total}
+use Rattle.chordless.specs.Distance.{total}
+use Rattle.chordless.proofs.Sums.{total-same, total-zero, total-one, total-add}
 use Rattle.atomset.specs.Set.{has, Lowest, LowestLeft}
+use Rattle.atomset.proofs.Size.{rest-within}
 use Rattle.distance.specs.Capped.{capped, sumOver, SumsAsked, SumsKept}
-use Rattle.distance.proofs.Totals.{atom-wider, atom-last, total-same, total-none, total-take}
 use Rattle.distance.proofs.Replaced.{Replaced, replaced-start, replaced-more, replaced-end}
 
 -- ---- capped numbers
@@ -56,15 +57,40 @@ capped-both a b =
     capped-left a (capped b) ∙ ap capped turned ∙ capped-left b a ∙ ap capped back
 
 -- a sum of capped numbers
-pub capped-total :
-    (n : ℕ) (f g : ℕ → ℕ) → ((a : ℕ) → Atom n a → f a ≡ capped (g a)) → capped (total n f) ≡ capped (total n g)
+pub capped-total : (n : ℕ) (f : ℕ → ℕ) → capped (total n (λ a. capped (f a))) ≡ capped (total n f)
 unfolding total
-capped-total zero f g h = refl
-capped-total (suc n) f g h =
-    let rest = capped-total n f g (λ a at. h a (atom-wider (omega arith) at)) in
-    sym (capped-left (total n f) (f (suc n))) ∙ rw (rest, h (suc n) (atom-last n)) (capped-both (total n g) (g (suc n)))
+capped-total zero f = refl
+capped-total (suc n) f =
+    sym (capped-left (total n (λ a. capped (f a))) (capped (f (suc n))))
+    ∙ rw (capped-total n f) (capped-both (total n f) (f (suc n)))
 
 -- ---- the sum over a set; `left` is to do
+
+-- an atom of a set, and the rest
+sum-take :
+    (numbers : List ℕ) {left rest : List ℕ} {v : ℕ} → Lowest left v → LowestLeft left rest →
+    sumOver (has left) numbers ≡ getD numbers v 0 + sumOver (has rest) numbers
+sum-take numbers {left} {rest} {v} lowest takes =
+    total-same 128 _ _ (λ a at. rw (takes .others v lowest a) (parts (has left a) (eqb a v) _ (same a)))
+    ∙ total-add 128 alone _
+    ∙ ap (λ x. x + sumOver (has rest) numbers) taken
+  where
+    parts : (s one : Bool) (x : ℕ) → (one ≡ true → s ≡ true) → cond s x 0 ≡ cond one x 0 + cond (s && not one) x 0
+    parts true true x h = omega arith
+    parts true false x h = omega arith
+    parts false true x h = absurd (apart (sym (h refl)))
+    parts false false x h = omega arith
+
+    same : (a : ℕ) → eqb a v ≡ true → has left a ≡ true
+    same a e = rw (eqb-true a v e) (lowest .member)
+
+    alone : ℕ → ℕ
+    alone a = cond (eqb a v) (getD numbers a 0) 0
+
+    taken : total 128 alone ≡ getD numbers v 0
+    taken =
+        total-one 128 alone record { low = lowest .low; high = lowest .high } (λ a at other. rw (ne-eqb a v other))
+        ∙ rw (eq-eqb v v refl)
 
 pub record Summed (numbers : List ℕ) (all left : ℕ → Bool) (sum : ℕ) : Type 0 where
   pub within : sum ≤ suc limit
@@ -80,9 +106,7 @@ module _ {numbers : List ℕ} {all : ℕ → Bool} where
       {left rest : List ℕ} {v sum more : ℕ} → Summed numbers all (has left) sum → Lowest left v → LowestLeft left rest →
       more ≡ capped (sum + getD numbers v 0) → Summed numbers all (has rest) more
   summed-more {left} {rest} {v} {sum} s lowest takes more-is =
-      let f : ℕ → ℕ = λ a. getD numbers a 0 in
-      let atom : Atom 128 v = record { low = lowest .low; high = lowest .high } in
-      let taken = total-take 128 f (has left) atom (lowest .member) (takes .others v lowest) in
+      let taken = sum-take numbers lowest takes in
       let same : sum + getD numbers v 0 + sumOver (has rest) numbers ≡ sum + sumOver (has left) numbers = omega arith in
       record {
         within = rw more-is (capped-within (sum + getD numbers v 0));
@@ -95,7 +119,7 @@ module _ {numbers : List ℕ} {all : ℕ → Bool} where
       {left : ℕ → Bool} {sum : ℕ} → Summed numbers all left sum → ((a : ℕ) → left a ≡ false) →
       sum ≡ capped (sumOver all numbers)
   summed-end {left} {sum} s empty =
-      let none = total-none 128 (λ a. cond (left a) (getD numbers a 0) 0) (λ a at. rw (empty a)) in
+      let none = total-zero 128 (λ a. cond (left a) (getD numbers a 0) 0) (λ a at. rw (empty a)) in
       let same : sum + sumOver left numbers ≡ sum = omega arith in
       sym (capped-same (s .within)) ∙ ap capped (sym same) ∙ s .rest
 
@@ -134,11 +158,7 @@ module _ {adj : Adjacency} {front found : ℕ → Bool} {old : List ℕ} where
           let not-found = false-of (found a) (λ e. clash (front a) here (s .apart a e)) in
           let still : getD numbers a 0 ≡ getD old a 0 = s .sums .at a ∙ rw not-found in
           rw still
-      at-atom a (inr away) = rw away (neither (adj v a) (getD numbers a 0) (getD old a 0))
-        where
-          neither : (t : Bool) (x y : ℕ) → cond (t && false) x 0 ≡ cond (t && false) y 0
-          neither true x y = refl
-          neither false x y = refl
+      at-atom a (inr away) = rw (away, and-false (adj v a))
 
   pub summing-more :
       {left rest numbers : List ℕ} {v sum : ℕ} (near : List ℕ) → Summing adj front found (has left) old numbers →
@@ -147,18 +167,15 @@ module _ {adj : Adjacency} {front found : ℕ → Bool} {old : List ℕ} where
   summing-more {left} {rest} {numbers} {v} {sum} near s lowest takes near-is sum-is = record {
     long = length-set numbers v sum ∙ s .long;
     apart = s .apart;
-    within = λ a e. s .within a (and-parts (has left a) (not (eqb a v)) (sym (rest-is a) ∙ e) .0);
+    within = λ a e. s .within a (rest-within takes a e);
     sums =
-        replaced-more (s .within) (lowest .member) rest-is (s .sums)
+        replaced-more (s .within) (lowest .member) (takes .others v lowest) (s .sums)
         (getD-set-same numbers v sum 0 inside ∙ sum-is ∙ ap capped (sum-still v s near-is))
         (λ a other. getD-set-other numbers v a sum 0 other);
   }
     where
       inside : v < length numbers
       inside = omega (arith, s .long, lowest .high)
-
-      rest-is : (a : ℕ) → has rest a ≡ (has left a && not (eqb a v))
-      rest-is = takes .others v lowest
 
   pub summing-end :
       {left : ℕ → Bool} {numbers : List ℕ} → Summing adj front found left old numbers →

@@ -4,20 +4,21 @@ use Prim.Native.Nat.{ℕ, suc, _≤_, _<_}
 use native.Mathlib.Decide.{ℕ-discrete, decLt}
 use native.Mathlib.Omega.{arith}
 use mathlib.Core.Path.{_≡_, refl, ap, sym, _∙_}
-use mathlib.Core.Bool.{Bool, true, false, _&&_, not, cond}
+use mathlib.Core.Bool.{Bool, true, false, _&&_, not, cond, and-false}
 use mathlib.Core.List.{List}
 use mathlib.Core.Logic.{_⊎_, inl, inr}
-use lib.ListN.{length, getD, set, replicate, length-set, length-replicate, getD-replicate, List·getD-eq-default}
+use lib.ListN.{length, getD, set, replicate, length-set, length-replicate}
 use lib.Seq.{getD-set-same, getD-set-other}
-use lib.Dec.{eqb}
-use borrow.Author.Tests.{eq-eqb, eqb-true, eqb-false, not-true}
+use borrow.Author.Tests.{eq-eqb, not-true}
 use Rattle.graph.specs.Chordless.{Adjacency}
 use Rattle.graph.proofs.Below.{clash, either, false-of, and-parts}
+use Rattle.graph.proofs.Places.{zeros-at}
 use Rattle.chordless.specs.Distance.{Atom, Far, ways}
+use Rattle.chordless.proofs.Sums.{total-same, total-beyond}
+use Rattle.chordless.proofs.Routes.{none-of, ways-here, here-ways}
+use Rattle.chordless.proofs.Distances.{far-same, far-next, nearest}
 use Rattle.distance.specs.Layers.{NextLayer, Measured}
 use Rattle.distance.specs.Capped.{capped, SumsAsked, SumsKept, Numbered}
-use Rattle.distance.proofs.Totals.{total-beyond}
-use Rattle.distance.proofs.Ways.{far-once, far-before, nearest}
 use Rattle.distance.proofs.Layers.{Layers, found-far, found-every, layers-next, none-farther}
 use Rattle.distance.proofs.Sums.{sumBefore, capped-small, capped-total}
 
@@ -38,12 +39,6 @@ pub record Tally (n : ℕ) (adj : Adjacency) (s : ℕ) (numbers : List ℕ) (fro
 abbrev pub noNumbers : List ℕ
 noNumbers = replicate 129 0
 
-none-at : (v : ℕ) → getD noNumbers v 0 ≡ 0
-none-at v = elim (decLt v 129) [
-  | yes h ↦ getD-replicate {A = ℕ} 129 v 0 0 h
-  | no h ↦ List·getD-eq-default {A = ℕ} noNumbers 0 {n = v} (omega (arith, length-replicate {A = ℕ} 129 0))
-]
-
 module _ {n : ℕ} {adj : Adjacency} {s : ℕ} where
   pub tally-start :
       {front unseen : ℕ → Bool} → Measured n adj s → Layers n adj s 0 front unseen →
@@ -63,24 +58,15 @@ module _ {n : ℕ} {adj : Adjacency} {s : ℕ} where
       seen v e h at far =
           let first : e ≡ 0 = omega arith in
           let inside : s < length noNumbers = omega (arith, zeros-long, measured .few, measured .atom .high) in
-          elim (either (eqb v s)) [
-            | inl q ↦
-                let same : v ≡ s = eqb-true v s q in
-                rw (first, same, eq-eqb s s refl)
-                (getD-set-same noNumbers s 1 0 inside ∙ sym (capped-small (omega arith)))
-            | inr q ↦
-                let joined : 1 ≤ ways n adj s 0 v = rw first at (far .joined) in
-                let zero-ways : _≡_ {A = ℕ} (cond (eqb v s) 1 0) 0 = rw q in
-                absurd (omega arith)
-          ]
+          let same : v ≡ s = here-ways n adj s (rw first at (far .joined)) in
+          rw (first, same, eq-eqb s s refl)
+          (getD-set-same noNumbers s 1 0 inside ∙ sym (capped-small (omega arith)))
 
       none : (v : ℕ) → unseen v ≡ true → getD (set noNumbers s 1) v 0 ≡ 0
-      none v e = elim (either (eqb v s)) [
-        | inl q ↦
-            let one-way : _≡_ {A = ℕ} (cond (eqb v s) 1 0) 1 = rw q in
-            absurd (omega (arith, l .unseen-far v e 0 (omega arith)))
-        | inr q ↦ getD-set-other noNumbers s v 1 0 (eqb-false v s q) ∙ none-at v
-      ]
+      none v e =
+          let other : v ≡ s → ⊥ =
+          λ same. omega (arith, l .unseen-far v e 0 (omega arith), ways-here n adj s same) in
+          getD-set-other noNumbers s v 1 0 other ∙ zeros-at 129 v
 
   -- ---- the next layer
 
@@ -91,7 +77,7 @@ module _ {n : ℕ} {adj : Adjacency} {s : ℕ} where
     layers-apart : (v : ℕ) → found v ≡ true → front v ≡ false
     layers-apart v e =
         false-of (front v) (λ h.
-        let same = far-once (found-far l (measured .both-ways) next v e) (l .front-far v h) in
+        let same = far-same (found-far l (measured .both-ways) next v e) (l .front-far v h) in
         omega arith)
 
     pub sums-asked : {numbers : List ℕ} → Tallied n adj s d unseen numbers → SumsAsked front found numbers
@@ -100,12 +86,8 @@ module _ {n : ℕ} {adj : Adjacency} {s : ℕ} where
     -- an atom that is not in this layer, bonded to one of the next, leads nowhere by d bonds
     leads-nowhere :
         (v a : ℕ) → Far n adj s (suc d) v → Atom n a → adj v a ≡ true → front a ≡ false → ways n adj s d a ≡ 0
-    leads-nowhere v a far at bond away = elim (ℕ-discrete (ways n adj s d a) 0) [
-      | yes q ↦ q
-      | no q ↦
-          let here = l .front-every a at (far-before far at bond (omega arith)) in
-          absurd (clash (front a) here away)
-    ]
+    leads-nowhere v a far at bond away =
+        none-of (ways n adj s d a) (λ some. clash (front a) (l .front-every a at (far-next far at bond some)) away)
 
     -- so the lists from an atom of the next layer go on by an atom of this one
     sum-ways :
@@ -113,8 +95,10 @@ module _ {n : ℕ} {adj : Adjacency} {s : ℕ} where
         sumBefore adj front numbers v ≡ capped (ways n adj s (suc d) v)
     unfolding ways
     sum-ways {numbers} tallied v far =
-        ap capped (total-beyond n 128 part (measured .few) beyond)
-        ∙ capped-total n part whole (λ a at. same a at (either (adj v a)))
+        ap capped
+        (total-beyond n 128 part (measured .few) beyond
+        ∙ total-same n part (λ a. capped (whole a)) (λ a at. same a at (either (adj v a))))
+        ∙ capped-total n whole
       where
         part : ℕ → ℕ
         part a = cond (adj v a && front a) (getD numbers a 0) 0
@@ -122,14 +106,10 @@ module _ {n : ℕ} {adj : Adjacency} {s : ℕ} where
         whole : ℕ → ℕ
         whole a = cond (adj v a) (ways n adj s d a) 0
 
-        off : (t : Bool) (x : ℕ) → cond (t && false) x 0 ≡ 0
-        off true x = refl
-        off false x = refl
-
         beyond : (a : ℕ) → n < a → part a ≡ 0
         beyond a h =
             let away = false-of (front a) (λ e. absurd (omega (arith, l .front-atom a e .high))) in
-            rw away (off (adj v a) (getD numbers a 0))
+            rw (away, and-false (adj v a))
 
         same : (a : ℕ) → Atom n a → (adj v a ≡ true) ⊎ (adj v a ≡ false) → part a ≡ capped (whole a)
         same a at (inr q) = rw q (sym (capped-small (omega arith)))
@@ -156,7 +136,7 @@ module _ {n : ℕ} {adj : Adjacency} {s : ℕ} where
             let is-found = found-every l (measured .both-ways) next v at far-next in
             kept .sums v ∙ rw (is-found, q) (sum-ways tallied v far-next)
         seen v e h at far (no q) =
-            let not-found = false-of (found v) (λ i. q (far-once far (found-far l (measured .both-ways) next v i))) in
+            let not-found = false-of (found v) (λ i. q (far-same far (found-far l (measured .both-ways) next v i))) in
             stays v not-found ∙ tallied .seen v e (omega arith) at far
 
         none : (v : ℕ) → further v ≡ true → getD new v 0 ≡ 0

@@ -4,7 +4,7 @@ use Prim.Native.Nat.{ℕ, zero, suc, _≤_, _<_}
 use mathlib.Core.Path.{_≡_, refl}
 use mathlib.Core.Bool.{Bool, true, _&&_, not, Bool·beq, and-false, or-false}
 use mathlib.Core.List.{List}
-use lib.ListN.{length}
+use lib.ListN.{length, getD, replicate}
 use lib.Dec.{eqb, eqb·suc-zero}
 use Rattle.graph.specs.Every.{allBelow}
 use Rattle.graph.specs.Chordless.{Adjacency, atomAt, inRange, induces, alongPath, alongRing}
@@ -14,6 +14,12 @@ use Rattle.graph.proofs.Facts.{inRange-at}
 pub range-at :
     (n : ℕ) (xs : List ℕ) → inRange n xs ≡ true → (i : ℕ) → i < length xs → (1 ≤ atomAt xs i) × (atomAt xs i ≤ n)
 range-at = inRange-at
+
+-- a list of zeros
+pub zeros-at : (k i : ℕ) → getD {A = ℕ} (replicate k 0) i 0 ≡ 0
+zeros-at zero i = refl
+zeros-at (suc k) zero = refl
+zeros-at (suc k) (suc i) = zeros-at k i
 
 -- tests that agree below the bound
 pub all-same : (k : ℕ) (p q : ℕ → Bool) → ((i : ℕ) → p i ≡ q i) → allBelow k p ≡ allBelow k q

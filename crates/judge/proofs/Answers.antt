@@ -75,7 +75,8 @@ module _ {mol : Molecule} {xs : List ℕ} (listed : Listed mol xs) where
 
 module _ (mol : Molecule) (s t : ℕ) (xs : List ℕ) (formed : wellFormed mol ≡ true) where
   -- rules 10 and 11 refuse, or the code found whether the list is a path
-  pub path-refused : {r : Refusal} → endsAnswer (mol .atoms) s t ≡ answer-of.Refused r → Refused r ≡ judgePath mol s t xs
+  pub path-refused :
+      {r : Refusal} → endsAnswer (mol .atoms) s t ≡ answer-of.Refused r → Refused r ≡ judgePath mol s t xs
   unfolding judgePath
   path-refused e = rw formed (sym (ends-refused (mol .atoms) s t Refused _ e))
 

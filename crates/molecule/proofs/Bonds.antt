@@ -16,6 +16,9 @@ use Rattle.molecule.proofs.Rules.{Mirror, Sound, sound-of-rules}
 pub atom-bounds : (n a : ℕ) → isAtom n a ≡ true → (1 ≤ a) × (a ≤ n)
 atom-bounds n a e = let parts = and-parts (leb 1 a) (leb a n) e in (leb-true 1 a (parts .0), leb-true a n (parts .1))
 
+pub atom-of : (n a : ℕ) → 1 ≤ a → a ≤ n → isAtom n a ≡ true
+atom-of n a low high = rw (le-leb 1 a low, le-leb a n high)
+
 -- the bit of two atoms
 pub bonded-cell :
     (n : ℕ) (rows : List ℕ) (a b : ℕ) → 1 ≤ a → a ≤ n → 1 ≤ b → b ≤ n → bonded n rows a b ≡ cell rows (a - 1) (b - 1)

@@ -1,6 +1,4 @@
 pub mod Arrays
-pub mod Size
-pub mod Counts
 pub mod Rings
 pub mod Paths
 pub mod Plans

@@ -1,10 +1,10 @@
 -- The word table of a record that rule 9 allows: its bonds are the record's, so its families are too, and a plan over
 -- its words answers as the record's own membership and openness are defined (request F-3 of document 02).
--- By function extensionality, from the equality at every two atoms.
+-- As the table has the record's bonds.
 use Prim.Native.Nat.{ℕ, _≤_}
 use native.Mathlib.Omega.{arith}
 use native.Mathlib.Decide.{ℕ-discrete}
-use mathlib.Core.Path.{_≡_, sym, ap, fun-ext, _∙_}
+use mathlib.Core.Path.{_≡_, sym, ap, _∙_}
 use mathlib.Core.Bool.{true}
 use mathlib.Core.List.{List, [], _∷_, _++_}
 use lib.ListN.{length, take}
@@ -16,7 +16,7 @@ use Rattle.molecule.specs.declared.Molecule.{Molecule}
 use Rattle.molecule.specs.Record.{bonded, wellFormed}
 use Rattle.molecule.proofs.Bonds.{rule9, bonded-irreflexive}
 use Rattle.atomset.specs.Set.{has, linkedBy, WordsOf}
-use Rattle.atomset.proofs.Bonds.{linked-bonded, linked-symmetric}
+use Rattle.atomset.proofs.Bonds.{linked-bonded, linked-same, linked-symmetric}
 use Rattle.search.specs.declared.Search.{Search}
 use Rattle.search.specs.Place.{familyIn, familyOf, family, beginning, kindKept}
 use Rattle.openness.specs.declared.Plan.{Plan}
@@ -88,14 +88,11 @@ module _ (mol : Molecule) (ok : wellFormed mol ≡ true) (table : List ℕ) (wor
         irreflexive = λ u l h. linked-bonded mol ok table words u u ∙ bonded-irreflexive mol ok u;
       }
 
-  pub linked-same : linkedBy table ≡ bonded (mol .atoms) (mol .rows)
-  linked-same = fun-ext (λ a. fun-ext (λ b. linked-bonded mol ok table words a b))
-
   -- Its families are the record's
   pub family-same : (kind s t : ℕ) → familyBy (mol .atoms) table kind s t ≡ familyOf mol kind s t
   unfolding familyBy familyOf
   family-same kind s t =
-      ap (λ (adj : Adjacency). familyIn (mol .atoms) adj kind s t) linked-same
+      ap (λ (adj : Adjacency). familyIn (mol .atoms) adj kind s t) (linked-same mol ok table words)
 
   pub open-same :
       (q : Search) → isOpen (familyBy (mol .atoms) table (q .kind) (q .s) (q .t)) (take (q .len) (q .prefix)) ≡
@@ -124,21 +121,21 @@ module _ (mol : Molecule) (kind t : ℕ) (words : List ℕ) where
     near-of near found =
         record { plain = λ other. absurd (other three); near = λ e. rw (linked-same mol ok words k) at found }
 
-module _ {mol : Molecule} (ok : wellFormed mol ≡ true) {kind t : ℕ} {table : List ℕ} (k : TableOf mol kind t table)
-  where
-    pub table-of : SearchTable (mol .atoms) table kind t
-    table-of = elim (ℕ-discrete kind 3) [
-      | yes three ↦ near-table (rule9 mol ok .atoms-high) three (k .near three)
-      | no other ↦ words-table (table-words mol ok table (k .plain other)) other
-    ]
+module _
+    {mol : Molecule} (ok : wellFormed mol ≡ true) {kind t : ℕ} {table : List ℕ} (k : TableOf mol kind t table) where
+  pub table-of : SearchTable (mol .atoms) table kind t
+  table-of = elim (ℕ-discrete kind 3) [
+    | yes three ↦ near-table (rule9 mol ok .atoms-high) three (k .near three)
+    | no other ↦ words-table (table-words mol ok table (k .plain other)) other
+  ]
 
-    -- Its families are the record's
-    pub family-of : (s : ℕ) → familyBy (mol .atoms) table kind s t ≡ familyOf mol kind s t
-    unfolding familyBy familyOf
-    family-of s = elim (ℕ-discrete kind 3) [
-      | yes three ↦ near-family kind s three (k .near three)
-      | no other ↦ family-same mol ok table (k .plain other) kind s t
-    ]
+  -- Its families are the record's
+  pub family-of : (s : ℕ) → familyBy (mol .atoms) table kind s t ≡ familyOf mol kind s t
+  unfolding familyBy familyOf
+  family-of s = elim (ℕ-discrete kind 3) [
+    | yes three ↦ near-family kind s three (k .near three)
+    | no other ↦ family-same mol ok table (k .plain other) kind s t
+  ]
 
 -- ---- from a record to the answer
 

@@ -2,7 +2,6 @@
 -- the first atom that does not open what stands before it decides.
 -- A member that goes on the longer beginning goes on the shorter one.
 use Prim.Native.Nat.{ℕ, zero, suc, _+_, _≤_, _<_}
-use native.Mathlib.Decide.{ℕ-discrete}
 use native.Mathlib.Omega.{arith}
 use native.Mathlib.Numerals.{add-one}
 use mathlib.Core.Path.{_≡_, refl, sym, ap, _∙_}
@@ -18,10 +17,9 @@ use Rattle.enumeration.specs.Words.{Family, isOpen}
 use Rattle.enumeration.specs.Lawful.{Lawful}
 use Rattle.chordless.proofs.Members.{Bounded, open-has, open-of}
 use Rattle.molecule.specs.Record.{isAtom}
+use Rattle.molecule.proofs.Bonds.{atom-of}
 use Rattle.atomset.specs.Set.{has}
-use Rattle.atomset.proofs.Members.{has-range}
 use Rattle.search.specs.Place.{listsPaths, kindKept}
-use Rattle.search.proofs.Readings.{atom-of}
 use Rattle.openness.specs.declared.Plan.{Plan}
 use Rattle.openness.specs.Plan.{familyBy, mostAtoms, ringsBy, pathsBy, firstLength, SearchTable, Tells, Beginning}
 use Rattle.openness.proofs.Arrays.{one-taken, two-taken, open-atoms}
@@ -57,12 +55,6 @@ module _ (F : Family) (L : Lawful F) where
       (prefix : List ℕ) {i len : ℕ} → i ≤ len → isOpen F (take i prefix) ≡ false → isOpen F (take len prefix) ≡ false
   open-cut prefix {i} {len} h e =
       false-of (isOpen F (take len prefix)) (λ o. clash (isOpen F (take i prefix)) (open-shorter prefix h o) e)
-
--- a number that is no atom is in no set
-pub in-no-set : (set : List ℕ) (v : ℕ) → isAtom 128 v ≡ false → has set v ≡ false
-in-no-set set v a =
-    false-of (has set v)
-    (λ h. let (low, high) = has-range set v h in clash (isAtom 128 v) (atom-of 128 v low high) a)
 
 -- ---- a place without an atom
 

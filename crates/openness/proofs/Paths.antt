@@ -1,7 +1,7 @@
 -- Openness of a beginning of one atom of a path: only s begins a path from s to t, and whether it does is told by a
 -- sweep of which s is the sole candidate, or by its row where every bond leads nearer to t.
 use Prim.Native.Nat.{ℕ}
-use mathlib.Core.Path.{_≡_, refl, sym, ap, _∙_}
+use mathlib.Core.Path.{_≡_, refl, sym, _∙_}
 use mathlib.Core.Bool.{Bool, true, false, _&&_, and-true}
 use mathlib.Core.List.{List, [], _∷_}
 use mathlib.Core.Logic.{_↔_}
@@ -9,7 +9,7 @@ use lib.Dec.{leb, eqb}
 use native.Mathlib.Decide.{ℕ-discrete}
 use borrow.Author.Tests.{eq-eqb, ne-eqb, eqb-true}
 use Rattle.graph.proofs.Below.{clash, false-of, same-test}
-use Rattle.enumeration.specs.Words.{Family, isOpen}
+use Rattle.enumeration.specs.Words.{isOpen}
 use Rattle.chordless.specs.Reach.{Walk, clear, free}
 use Rattle.chordless.specs.Families.{paths}
 use Rattle.chordless.specs.Distance.{Leading}

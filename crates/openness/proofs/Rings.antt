@@ -22,14 +22,14 @@ use Rattle.chordless.proofs.Touch.{touches-facts, touches-of, closing-facts, cl
 use Rattle.chordless.proofs.UpTo.{upto-lawful}
 use Rattle.chordless.proofs.Lawful.{rings-lawful}
 use Rattle.chordless.proofs.Rings.{ring-opens-one, ring-opens-none, ring-not-short}
-use Rattle.atomset.specs.Set.{has, linkedBy, Lowest, Emptiness}
+use Rattle.atomset.specs.Set.{has, linkedBy, Lowest, LowestLeft, Emptiness}
+use Rattle.atomset.proofs.Size.{rest-within}
 use Rattle.sweep.specs.Swept.{Reached}
 use Rattle.sweep.proofs.Walks.{reached-same}
 use Rattle.search.proofs.Readings.{open-range}
 use Rattle.openness.specs.declared.Plan.{Plan}
 use Rattle.openness.specs.Plan.{ringsBy, Everywhere}
 use Rattle.openness.specs.Parts.{OneAtom, TwoAtoms, FirstAhead}
-use Rattle.openness.proofs.Counts.{TakesLowest, taken-off, taken-within}
 
 -- rings of at most so many atoms are a family that the theory of a search is about
 pub rings-by-lawful : (n : ℕ) (table : List ℕ) (most : ℕ) → Lawful (ringsBy n table most)
@@ -204,13 +204,12 @@ pub record SiftingTurn (n : ℕ) (table : List ℕ) (most s : ℕ) (left shut fo
   where
     pub atom : OneAtom n table most s
     pub sifted : Sifted n table most s left shut found
-    pub last : ℕ
     pub alone : List ℕ
     pub between : List ℕ
     pub more : List ℕ
     pub fewer : List ℕ
-    pub takes : TakesLowest left rest last
-    pub alone-is : (v : ℕ) → has alone v ≡ eqb v last
+    pub takes : LowestLeft left rest
+    pub alone-is : (v : ℕ) → has alone v ≡ eqb v (takes .taken)
     pub between-is : (v : ℕ) → has between v ≡ (ltb s v && leb v n && not (linkedBy table s v))
     pub more-is : Reached (linkedBy table) (has between) (has alone) (most - 2) (has shut) (has more)
     pub opened-is : (v : ℕ) → has opened v ≡ (has found v || has more v)
@@ -223,19 +222,22 @@ module _ {n : ℕ} {table : List ℕ} {most s : ℕ} {left shut found rest close
   k = t .sifted
 
   abbrev last : ℕ
-  last = t .last
+  last = t .takes .taken
 
-  abbrev lowest : Lowest left (t .last)
+  abbrev lowest : Lowest left last
   lowest = t .takes .lowest
+
+  rest-is : (v : ℕ) → has rest v ≡ (has left v && not (eqb v last))
+  rest-is = t .takes .others last lowest
 
   rest-higher : (v : ℕ) → has rest v ≡ true → last < v
   rest-higher v e =
-      let (in-left, other) = and-parts (has left v) (not (eqb v last)) (sym (taken-off (t .takes) v) ∙ e) in
+      let (in-left, other) = and-parts (has left v) (not (eqb v last)) (sym (rest-is v) ∙ e) in
       let differ = eqb-false v last (not-true _ other) in
       omega (arith, lowest .least v in-left)
 
   rest-has : (v : ℕ) → has left v ≡ true → last < v → has rest v ≡ true
-  rest-has v e h = rw (taken-off (t .takes) v, e, ne-eqb v last (λ q. omega arith))
+  rest-has v e h = rw (rest-is v, e, ne-eqb v last (λ q. omega arith))
 
   more-reaching : (v : ℕ) → has (t .more) v ≡ true → Reaching n table most s v last
   more-reaching v e =
@@ -270,7 +272,7 @@ module _ {n : ℕ} {table : List ℕ} {most s : ℕ} {left shut found rest close
 
   closed-lower : (v w : ℕ) → has closed v ≡ true → has rest w ≡ true → v < w
   closed-lower v w e l = elim (closed-cases v e) [
-    | inl in-shut ↦ k .shut-lower v w in-shut (taken-within (t .takes) w l)
+    | inl in-shut ↦ k .shut-lower v w in-shut (rest-within (t .takes) w l)
     | inr same ↦ rw same (rest-higher w l)
   ]
 
@@ -316,7 +318,7 @@ module _ {n : ℕ} {table : List ℕ} {most s : ℕ} {left shut found rest close
   pub sifted-turn : Sifted n table most s rest closed opened
   sifted-turn =
       record {
-        left-second = λ v e. k .left-second v (taken-within (t .takes) v e);
+        left-second = λ v e. k .left-second v (rest-within (t .takes) v e);
         shut-second = closed-second;
         shut-lower = closed-lower;
         found-opens = opened-opens;

@@ -15,11 +15,11 @@ use Rattle.refusal.specs.declared.Answer.the-variants.{Accepted, Refused}
 use Rattle.molecule.specs.declared.Molecule.{Molecule}
 use Rattle.molecule.specs.Record.{wellFormed}
 use Rattle.molecule.specs.Ends.{withEnds, endsAnswer}
-use Rattle.molecule.proofs.Ends.{ends-differ, ends-refused, ends-accepted}
+use Rattle.molecule.proofs.Ends.{ends-refused, ends-accepted}
 use Rattle.search.specs.declared.Made.{Made}
 use Rattle.search.specs.Place.{listsPaths, freshSearch, endsKept, boundKept, kindKept}
 use Rattle.search.specs.Entries.{acceptedSearch, refusedSearch, freshPaths, freshRingsUpTo, freshOfKind, startSearch}
-use Rattle.search.proofs.Readings.{KindFacts, kind-facts, kind-of, ends-facts, atom-of, path-no-ring}
+use Rattle.search.proofs.Readings.{KindFacts, kind-facts, kind-of, ends-facts, ends-go, path-no-ring}
 
 abbrev Taken : Made → Type 0
 Taken x = x .answer ≡ Accepted
@@ -91,9 +91,7 @@ module _ (n kind s t : ℕ) where
   unfolding freshOfKind freshPaths freshRingsUpTo
   startable-starts (inl (zero, s-zero, t-zero)) = rw (zero, s-zero, t-zero)
   startable-starts (inr (inl (path, ends))) =
-      let s-atom = atom-of n s (ends .s-low) (ends .s-high) in
-      let t-atom = atom-of n t (ends .t-low) (ends .t-high) in
-      rw (path-no-ring kind path, path) (ends-differ n s t _ _ s-atom t-atom (ends .differ))
+      rw (path-no-ring kind path, path) (ends-go ends _ _)
   startable-starts (inr (inr (two, size, t-zero))) = rw (two, t-zero, size)
 
 -- ---- the entry

@@ -22,11 +22,13 @@ use Rattle.chordless.proofs.Members.{open-has}
 use Rattle.chordless.proofs.UpTo.{upto-facts, upto-lawful, upto-all}
 use Rattle.chordless.proofs.Lawful.{rings-lawful, paths-lawful}
 use Rattle.chordless.proofs.ShortestPaths.{shortest-lawful}
+use Rattle.refusal.specs.declared.Refusal.{Refusal}
+use Rattle.refusal.specs.declared.Answer.the-variants.{Accepted, Refused}
 use Rattle.molecule.specs.declared.Molecule.{Molecule}
 use Rattle.molecule.specs.Record.{isAtom, bonded}
-use Rattle.molecule.specs.Ends.{withEnds}
-use Rattle.molecule.proofs.Bonds.{atom-bounds}
-use Rattle.molecule.proofs.Ends.{ends-differ}
+use Rattle.molecule.specs.Ends.{withEnds, endsAnswer}
+use Rattle.molecule.proofs.Bonds.{atom-bounds, atom-of}
+use Rattle.molecule.proofs.Ends.{ends-differ, ends-refused, ends-accepted}
 use Rattle.search.specs.declared.Search.{Search}
 use Rattle.search.specs.Place.{familyIn, listsPaths, familyOf, family, beginning, endsKept, boundKept, ringsAllowed, pathsAllowed, sizesAllowed, kindKept, placeKept, restorable}
 
@@ -128,13 +130,24 @@ ends-facts n s t e =
     ends-tests true false f = (refl, refl)
     ends-tests false same f = absurd (apart (sym f))
 
-pub atom-of : (n a : ℕ) → 1 ≤ a → a ≤ n → isAtom n a ≡ true
-atom-of n a low high = and-both (leb 1 a) (leb a n) (le-leb 1 a low) (le-leb a n high)
+-- rules 10 and 11 refuse no two different atoms
+pub ends-go :
+    {A : Type 0} {n s t : ℕ} → Ends n s t → (refuse : Refusal → A) (goes : A) → withEnds n s t refuse goes ≡ goes
+ends-go {n = n} {s} {t} f refuse goes =
+    ends-differ n s t refuse goes (atom-of n s (f .s-low) (f .s-high)) (atom-of n t (f .t-low) (f .t-high)) (f .differ)
 
 pub ends-of : (n s t : ℕ) → Ends n s t → endsKept n s t ≡ true
 unfolding endsKept
-ends-of n s t f =
-    ends-differ n s t _ true (atom-of n s (f .s-low) (f .s-high)) (atom-of n t (f .t-low) (f .t-high)) (f .differ)
+ends-of n s t f = ends-go f _ true
+
+-- the answer of the two rules as a test
+pub ends-not-kept : (n s t : ℕ) {r : Refusal} → endsAnswer n s t ≡ Refused r → endsKept n s t ≡ false
+unfolding endsKept
+ends-not-kept n s t e = ends-refused n s t _ _ e
+
+pub ends-are-kept : (n s t : ℕ) → endsAnswer n s t ≡ Accepted → endsKept n s t ≡ true
+unfolding endsKept
+ends-are-kept n s t e = ends-accepted n s t _ _ e
 
 -- the largest size of a ring
 pub bound-facts : {k : ℕ} → boundKept k ≡ true → (3 ≤ k) × (k ≤ 128)

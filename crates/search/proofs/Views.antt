@@ -1,7 +1,7 @@
 -- The search and the state of the machine are two views of one thing,
 -- and rule 12 is "valid, counts at most the limit" of that state.
 -- The array is the beginning and then zeros, so taking its first `len` places and filling it up again undo each other.
-use Prim.Native.Nat.{ℕ, zero, suc, _+_, _-_, _≤_, _<_}
+use Prim.Native.Nat.{ℕ, suc, _+_, _-_, _≤_, _<_}
 use native.Mathlib.Decide.{decLt}
 use native.Mathlib.Omega.{arith}
 use mathlib.Core.Path.{_≡_, refl, ap, sym, subst, _∙_}
@@ -13,6 +13,7 @@ use lib.ListN.{take-append-drop, List·getD-eq-default}
 use lib.Seq.{take-at, getD-take, getD-drop, getD-append-add, length-take-le, ext-getD}
 use borrow.Author.Tests.{eq-eqb}
 use Rattle.graph.proofs.Below.{either, clash}
+use Rattle.graph.proofs.Places.{zeros-at}
 use Rattle.enumeration.specs.Words.{Family}
 use Rattle.enumeration.specs.Machine.{State, isEmpty, isDone, fresh}
 use Rattle.enumeration.specs.Run.{run}
@@ -55,11 +56,6 @@ module _ (F : Family) (st : State) where
 
 -- ---- the array of a beginning
 
-zeros : (m i : ℕ) → getD {A = ℕ} (replicate m 0) i 0 ≡ 0
-zeros zero i = refl
-zeros (suc m) zero = refl
-zeros (suc m) (suc i) = zeros m i
-
 pub held-length : (p : List ℕ) → length p ≤ 128 → length (held p) ≡ 128
 unfolding held
 held-length p h = rw (length-append, length-replicate) (omega arith)
@@ -73,7 +69,7 @@ unfolding held
 held-zero p i h =
     let at : i ≡ length p + (i - length p) = omega arith in
     subst (λ (k : ℕ). getD (p ++ replicate (128 - length p) 0) k 0 ≡ 0) (sym at)
-    (getD-append-add p (replicate (128 - length p) 0) (i - length p) 0 ∙ zeros (128 - length p) (i - length p))
+    (getD-append-add p (replicate (128 - length p) 0) (i - length p) 0 ∙ zeros-at (128 - length p) (i - length p))
 
 -- ---- from the state to the search and back
 
@@ -111,7 +107,7 @@ module _ (q : Search) (full : length (q .prefix) ≡ 128) (short : q .len ≤ 12
             let inside : q .len + i < 128 = omega (arith, length-drop (q .len) (q .prefix)) in
             getD-drop (q .len) (q .prefix) i 0
             ∙ padded (q .len + i) (omega arith) inside
-            ∙ sym (zeros (128 - q .len) i)
+            ∙ sym (zeros-at (128 - q .len) i)
 
     pub held-beginning : held (beginning q) ≡ q .prefix
     unfolding held

@@ -16,16 +16,12 @@ use Rattle.graph.proofs.Loops.{all-fails}
 use Rattle.enumeration.specs.Words.{isOpen}
 use Rattle.enumeration.specs.Run.{limit}
 use Rattle.enumeration.proofs.Basics.{or-either, or-left, or-right}
-use Rattle.refusal.specs.declared.Refusal.{Refusal}
-use Rattle.refusal.specs.declared.Answer.the-variants.{Accepted, Refused}
 use Rattle.molecule.specs.declared.Molecule.{Molecule}
 use Rattle.molecule.specs.Record.{isAtom}
-use Rattle.molecule.specs.Ends.{endsAnswer}
-use Rattle.molecule.proofs.Ends.{ends-refused, ends-accepted}
-use Rattle.molecule.proofs.Bonds.{atom-bounds}
+use Rattle.molecule.proofs.Bonds.{atom-bounds, atom-of}
 use Rattle.search.specs.declared.Search.{Search}
 use Rattle.search.specs.Place.{listsPaths, family, beginning, endsKept, boundKept, kindKept, restorable}
-use Rattle.search.proofs.Readings.{NextHigh, Restorable, restorable-facts, restorable-of, atom-of, path-kinds}
+use Rattle.search.proofs.Readings.{NextHigh, Restorable, restorable-facts, restorable-of, path-kinds}
 use Rattle.search.proofs.Readings.{zeros-past, past-zeros}
 use Rattle.search.proofs.Views.{beginning-length}
 use Rattle.search_rules.specs.Parts.{paddedAt, padded, nextKept, countsKept}
@@ -77,15 +73,6 @@ module _ (prefix : List ℕ) (len : ℕ) where
   padded-from = past-zeros prefix len
 
 -- ---- kind, s and t
-
-module _ (n s t : ℕ) where
-  pub ends-not-kept : {r : Refusal} → endsAnswer n s t ≡ Refused r → endsKept n s t ≡ false
-  unfolding endsKept
-  ends-not-kept e = ends-refused n s t _ _ e
-
-  pub ends-are-kept : endsAnswer n s t ≡ Accepted → endsKept n s t ≡ true
-  unfolding endsKept
-  ends-are-kept e = ends-accepted n s t _ _ e
 
 module _ (n kind s t : ℕ) where
   module _ (zero : kind ≡ 0) where

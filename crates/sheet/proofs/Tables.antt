@@ -13,6 +13,7 @@ use lib.Count.{ones}
 use borrow.Author.Tests.{ne-eqb, eqb-false, not-true}
 use Rattle.graph.specs.Every.{allBelow}
 use Rattle.graph.proofs.Below.{clash, false-of, either, and-left, and-right, and-parts, same-test, not-of, allBelow-at, allBelow-of}
+use Rattle.graph.proofs.Places.{zeros-at}
 use Rattle.molecule.specs.Record.{cell, isAtom, onesOf}
 use Rattle.molecule.proofs.Bonds.{atom-bounds}
 use Rattle.sheet.specs.Bonds.{Bond, atomsKept, noneToItself, samePair, noneTwice, withCell, withBond, rowsOf}
@@ -74,11 +75,6 @@ joins-more bond k a b (q, h, e) = (q, omega arith, e)
 
 -- ---- no bonds
 
-zero-byte : (k at : ℕ) → getD {A = ℕ} (replicate k 0) at 0 ≡ 0
-zero-byte zero at = refl
-zero-byte (suc k) zero = refl
-zero-byte (suc k) (suc at) = zero-byte k at
-
 ones-zero : ones 0 ≡ 0
 unfolding ones
 ones-zero = refl
@@ -98,7 +94,7 @@ zeros-table : (bond : ℕ → Bond) (size : ℕ) → size ≡ 2048 → Table bon
 unfolding cell Joins
 zeros-table bond size e =
     record {
-      bytes = record { size = length-replicate {A = ℕ} size 0 ∙ e; byte = λ at. rw (zero-byte size at) (omega arith) };
+      bytes = record { size = length-replicate {A = ℕ} size 0 ∙ e; byte = λ at. rw (zeros-at size at) (omega arith) };
       cells =
           λ i j hi hj. (
             λ (t : cell (replicate size 0) i j ≡ true). absurd (clash (cell (replicate size 0) i j) t (clear i j)),
@@ -117,7 +113,7 @@ zeros-table bond size e =
     clear i j =
         let there = 16 * i + j / 8 in
         ne-eqb (getD (replicate size 0) there 0 / 2 ^ (j % 8) % 2) 1
-        (λ e. absurd (never (rw (zero-byte size there, zero-div (2 ^ (j % 8))) at e)))
+        (λ e. absurd (never (rw (zeros-at size there, zero-div (2 ^ (j % 8))) at e)))
 
 -- ---- one bond more
 

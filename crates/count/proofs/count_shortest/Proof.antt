@@ -6,9 +6,10 @@ use borrow.Author.Needs.{needs}
 use Rattle.graph.proofs.Passed.{refuted, confirmed}
 use Rattle.molecule.specs.Record.{wellFormed}
 use Rattle.search.specs.Place.{endsKept}
+use Rattle.search.proofs.Readings.{ends-are-kept}
 use Rattle.distance.specs.Capped.{capped}
 use Rattle.count.specs.Count.{shortestNumber}
-use Rattle.count.proofs.Answers.{count-no-record, count-refused, accepted-kept, told-within, told-above}
+use Rattle.count.proofs.Answers.{count-no-record, count-refused, told-within, told-above}
 use Rattle.count.proofs.Laws.{table-joined, table-capped}
 use Rattle.count.proofs.count_shortest.Statement.{statement}
 use Rattle.count.proofs.count_shortest.Tie as tie
@@ -38,7 +39,7 @@ kept :
     endsKept (args .m .atoms) (args .s) (args .t) ≡ true
 kept c =
     let ends : tie.After-check-ends = search in
-    accepted-kept _ _ _ (sym (ends .check-ends .ensures) ∙ c .enum-told .given .1)
+    ends-are-kept _ _ _ (sym (ends .check-ends .ensures) ∙ c .enum-told .given .1)
 
 told :
     (c : tie.After-number) → let args = start (good (numbered c .before .before)) .args in

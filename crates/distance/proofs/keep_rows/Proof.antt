@@ -6,8 +6,7 @@ use mathlib.Core.Bool.{false}
 use borrow.Author.Tests.{not-true, not-false}
 use borrow.Author.Needs.{needs}
 use Rattle.atomset.specs.Set.{has, holdsNone, linkedBy}
-use Rattle.distance.proofs.Totals.{size}
-use Rattle.distance.proofs.Replaced.{fewer-left}
+use Rattle.atomset.proofs.Size.{size, rest-fewer}
 use Rattle.distance.proofs.Rows.{Storing, storing-start, storing-more, storing-end}
 use Rattle.distance.proofs.keep_rows.Statement.{statement}
 use Rattle.distance.proofs.keep_rows.Tie as tie
@@ -16,7 +15,7 @@ abbrev Inv-loop : tie.InvT-loop
 Inv-loop rows₀ table front left₀ rows left = Storing (linkedBy table) (has front) (has left₀) (has left) rows₀ rows
 
 abbrev μ-loop : tie.MeasureT-loop
-μ-loop rows₀ table front left₀ rows left = size (has left)
+μ-loop rows₀ table front left₀ rows left = size (has left) 128
 
 -- ---- the needs (`search` finds a place in c by its type)
 
@@ -31,7 +30,7 @@ loop-holds : tie.Need-loop-holds Inv-loop μ-loop
 loop-holds c = storing-start (c .pre)
 
 loop-less : tie.Need-loop-less Inv-loop μ-loop
-loop-less c = let rest : Place tie.After-without-lowest = search in fewer-left (rest .without-lowest .ensures)
+loop-less c = let rest : Place tie.After-without-lowest = search in rest-fewer (rest .without-lowest .ensures)
 
 loop-again : tie.Need-loop-again Inv-loop μ-loop
 loop-again c =

@@ -1,9 +1,9 @@
 -- `distance::nearing` meets its contract. The invariant is `Rounds`: the layer of this round, and the rows kept so far.
 -- Each turn takes the next layer from the atoms unseen; the measure is these and the layer.
-use Prim.Native.Nat.{_+_}
+use mathlib.Core.Bool.{_||_}
 use borrow.Author.Tests.{not-true, not-false}
 use Rattle.atomset.specs.Set.{has, linkedBy}
-use Rattle.distance.proofs.Totals.{size}
+use Rattle.atomset.proofs.Size.{size}
 use Rattle.distance.proofs.Layers.{target-range, layers-start, layers-fewer}
 use Rattle.distance.proofs.Rounds.{Rounds, rounds-start, rounds-more, rounds-end}
 use Rattle.distance.proofs.nearing.Statement.{statement}
@@ -13,7 +13,7 @@ abbrev Inv-loop : tie.InvT-loop
 Inv-loop table n t rows₀ unseen₀ front₀ rows unseen front = Rounds n (linkedBy table) t rows (has front) (has unseen)
 
 abbrev μ-loop : tie.MeasureT-loop
-μ-loop table n t rows₀ unseen₀ front₀ rows unseen front = size (has unseen) + size (has front)
+μ-loop table n t rows₀ unseen₀ front₀ rows unseen front = size (λ a. has unseen a || has front a) 128
 
 -- ---- the needs (`search` finds a place in c by its type)
 

@@ -1,10 +1,10 @@
 -- `distance::number` meets its contract. The invariant is `Tally`: the layer of this round, and the numbers so far.
 -- Each turn takes the next layer from the atoms unseen; the measure is these and the layer.
-use Prim.Native.Nat.{_+_}
+use mathlib.Core.Bool.{_||_}
 use native.Mathlib.Omega.{arith}
 use borrow.Author.Tests.{not-true, not-false}
 use Rattle.atomset.specs.Set.{has, linkedBy}
-use Rattle.distance.proofs.Totals.{size}
+use Rattle.atomset.proofs.Size.{size}
 use Rattle.distance.proofs.Layers.{target-range, layers-start, layers-fewer}
 use Rattle.distance.proofs.Tally.{Tally, tally-start, sums-asked, tally-more, tally-end}
 use Rattle.distance.proofs.number.Statement.{statement}
@@ -15,7 +15,7 @@ Inv-loop table n s t numbers₀ unseen₀ front₀ numbers unseen front =
     Tally n (linkedBy table) s numbers (has front) (has unseen)
 
 abbrev μ-loop : tie.MeasureT-loop
-μ-loop table n s t numbers₀ unseen₀ front₀ numbers unseen front = size (has unseen) + size (has front)
+μ-loop table n s t numbers₀ unseen₀ front₀ numbers unseen front = size (λ a. has unseen a || has front a) 128
 
 -- ---- the needs (`search` finds a place in c by its type)
 

@@ -5,7 +5,6 @@ use native.Mathlib.Omega.{arith}
 use mathlib.Core.Logic.{inl, inr}
 use mathlib.Core.Path.{_≡_, ap, sym, _∙_}
 use lib.ListN.{length, take}
-use borrow.Author.Needs.{needs}
 use Rattle.atomset.specs.Set.{linkedBy}
 use Rattle.openness.specs.Plan.{familyBy, mostAtoms, firstLength, EachOpens}
 use Rattle.openness.proofs.Aims.{first-some, begun-room, begun-each, begun-steps}

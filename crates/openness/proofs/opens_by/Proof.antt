@@ -1,14 +1,14 @@
 -- `openness::opens_by` meets its contract: the set of the plan has the number or not.
--- By `in-no-set` where it is no atom.
+-- By `has-outside` where it is no atom.
 use mathlib.Core.Path.{sym, _∙_}
 use borrow.Author.Tests.{not-true, not-false}
 use Rattle.molecule.proofs.Bonds.{atom-bounds}
-use Rattle.openness.proofs.Opens.{in-no-set}
+use Rattle.atomset.proofs.Members.{has-outside}
 use Rattle.openness.proofs.opens_by.Statement.{statement}
 use Rattle.openness.proofs.opens_by.Tie as tie
 
 returns : tie.Need-returns
-returns c = sym (in-no-set _ _ (sym (c .before .is-atom .ensures) ∙ not-true _ (c .if1 .taken)))
+returns c = sym (has-outside _ _ (sym (c .before .is-atom .ensures) ∙ not-true _ (c .if1 .taken)))
 
 contains-requires : tie.Need-contains-requires
 contains-requires c κs =

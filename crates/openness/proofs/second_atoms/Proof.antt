@@ -8,8 +8,7 @@ use lib.Dec.{leb, ltb}
 use borrow.Author.Tests.{not-true, not-false}
 use borrow.Author.Needs.{needs}
 use Rattle.atomset.specs.Set.{has, holdsNone, linkedBy}
-use Rattle.openness.proofs.Size.{size}
-use Rattle.openness.proofs.Counts.{TakesLowest, taken-fewer}
+use Rattle.atomset.proofs.Size.{size, rest-fewer}
 use Rattle.openness.proofs.Rings.{Sifted, sifted-start, SiftingTurn, sifted-turn, sifted-end}
 use Rattle.openness.proofs.second_atoms.Statement.{statement}
 use Rattle.openness.proofs.second_atoms.Tie as tie
@@ -53,12 +52,6 @@ between-is c v =
 some : (c : Place tie.Then1) → holdsNone (c .before .before .loop .left) ≡ false
 some c = sym (c .before .is-empty .ensures .test) ∙ not-true _ (c .if1 .taken)
 
--- the lowest one is taken
-takes :
-    (c : Place tie.After-without-lowest) →
-    TakesLowest (turn c .loop .left) (c .without-lowest .result) (c .without-lowest .ensures .taken)
-takes c = record { lowest = c .without-lowest .ensures .lowest; rest-is = c .without-lowest .ensures }
-
 -- what the turn finds
 turned :
     (c : Place tie.After-union2) →
@@ -76,12 +69,11 @@ turned c =
     record {
       atom = start (sets loop) .pre;
       sifted = loop .loop .inv;
-      last = lowest .taken;
       alone = alone .lowest-alone .result;
       between = sets loop .before .minus .result;
       more = swept .reached-from .result;
       fewer = fewer .minus2 .result;
-      takes = takes (taken c);
+      takes = lowest;
       alone-is = alone .lowest-alone .ensures _ (lowest .lowest);
       between-is = between-is (sets loop);
       more-is = swept .reached-from .ensures;
@@ -124,4 +116,5 @@ second-atoms-spec =
     (tie.spec
     Inv-loop μ-loop row-requires range-requires (λ c κs. tt) (λ c κs. tt) (λ c κs. tt) (λ c κs. tt) loop-holds
     (λ c κs. tt) (λ c κs. some c) (λ c κs. c .without-lowest .ensures) sub-steps (λ c κs. search needs) (λ c κs. tt)
-    (λ c κs. tt) (λ c κs. tt) (λ c. taken-fewer (takes (taken c))) (λ c. sifted-turn (turned c)) returns)
+    (λ c κs. tt) (λ c κs. tt) (λ c. rest-fewer (taken c .without-lowest .ensures)) (λ c. sifted-turn (turned c))
+    returns)

@@ -1,8 +1,8 @@
 -- `search_rules::ends_kept` meets its contract: the answer of rules 10 and 11 as a test.
--- By the laws of `Checks`.
+-- By the laws of `Readings`.
 use mathlib.Core.Path.{sym, _∙_}
 use borrow.Author.Needs.{needs}
-use Rattle.search_rules.proofs.Checks.{ends-not-kept, ends-are-kept}
+use Rattle.search.proofs.Readings.{ends-not-kept, ends-are-kept}
 use Rattle.search_rules.proofs.ends_kept.Statement.{statement}
 use Rattle.search_rules.proofs.ends_kept.Tie as tie
 

@@ -3,9 +3,14 @@
 use Prim.Native.Nat.{ℕ, zero, suc, _+_, _≤_, _<_}
 use native.Mathlib.Omega.{arith}
 use native.Mathlib.Decide.{ℕ-discrete}
-use mathlib.Core.Path.{_≡_, refl, sym}
-use mathlib.Core.Bool.{Bool, true, false}
-use Rattle.graph.proofs.Below.{apart}
+use mathlib.Core.Path.{_≡_, refl, sym, _∙_}
+use mathlib.Core.Bool.{Bool, true, false, not}
+use mathlib.Core.List.{List}
+use lib.Dec.{eqb}
+use borrow.Author.Tests.{eq-eqb}
+use Rattle.graph.proofs.Below.{apart, and-parts}
+use Rattle.atomset.specs.Set.{has, LowestLeft}
+use Rattle.atomset.proofs.Members.{has-range}
 
 -- what an atom adds
 abbrev pub unit : Bool → ℕ
@@ -56,3 +61,16 @@ pub smaller :
     {x : ℕ} → s x ≡ true → t x ≡ false → size t 128 < size s 128
 smaller {s} {t} inside within {x} was gone =
     let (low, high) = inside x was in size-less s t within x 128 was gone low high
+
+-- ---- a set without its lowest atom
+
+module _ {left rest : List ℕ} (k : LowestLeft left rest) where
+  pub rest-within : (a : ℕ) → has rest a ≡ true → has left a ≡ true
+  rest-within a e =
+      and-parts (has left a) (not (eqb a (k .taken))) (sym (k .others (k .taken) (k .lowest) a) ∙ e) .0
+
+  pub rest-fewer : size (has rest) 128 < size (has left) 128
+  rest-fewer =
+      let v = k .taken in
+      let gone : has rest v ≡ false = rw (k .others v (k .lowest) v, k .lowest .member, eq-eqb v v refl) in
+      smaller (has-range left) rest-within (k .lowest .member) gone
