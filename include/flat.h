@@ -83,7 +83,7 @@ uint32_t flat_start_shortest(uint64_t atoms, uint64_t bonds,
 /* The number of shortest paths from s to t, each bond of length 1, 0 where t is
    not joined to s. 0: the number is in *count; 9, 10, 11, or 26 when the number
    is above 9,999,999,999,999,999,999: refused; 200: rows_len is not 2,048.
-   *count is written with 0 alone. */
+   *count is written only when 0 is returned. */
 uint32_t flat_count_shortest(uint64_t atoms, uint64_t bonds,
                              const uint8_t *rows, size_t rows_len,
                              uint64_t s, uint64_t t,

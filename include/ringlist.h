@@ -116,7 +116,7 @@ extern "C" {
    several threads, where no output of one call overlaps a stretch of another.
    They take no memory from the heap and use less than 32 kilobytes of stack.
    This paragraph is not proved: no Rattle function has a heap, or variables
-   that outlive a call; the stack is measured on starts, resumes and counts
+   that outlive a call; the stack is measured on starts, resumes and a count
    (tests/c/host_test.c). That the prototypes in this header are those of the
    code is tested (tests/prototypes.py). The proofs of these functions assume
    nothing of the C library; only those of the program ringlist do, of its read

@@ -25,7 +25,7 @@ use Rattle.atomset.specs.Set.{linkedBy, WordsOf}
 use Rattle.atomset.proofs.Bonds.{linked-same, linked-symmetric}
 use Rattle.search.specs.Place.{familyIn, familyOf, endsKept}
 use Rattle.search.proofs.Readings.{ends-facts}
-use Rattle.distance.specs.Capped.{capped, Joined, Numbered}
+use Rattle.distance.specs.Capped.{capped, MeasuredEnds, Numbered}
 use Rattle.count.specs.declared.Counted.{Counted}
 use Rattle.count.specs.declared.Counted.the-variants.{Number, Refused}
 use Rattle.count.specs.Count.{shortestNumber, countShortest}
@@ -71,7 +71,7 @@ module _ (mol : Molecule) (s t : ℕ) where
 
     -- the word table of the record
     module _ (table : List ℕ) (words : WordsOf (mol .rows) table) where
-      pub table-joined : Joined (mol .atoms) (linkedBy table) s t
+      pub table-joined : MeasuredEnds (mol .atoms) (linkedBy table) s t
       table-joined = record {
         measured =
             record {

@@ -20,7 +20,7 @@ capped x = cond (leb x limit) x (suc limit)
 abbrev pub sumOver : (ℕ → Bool) → List ℕ → ℕ
 sumOver s numbers = total 128 (λ a. cond (s a) (getD numbers a 0) 0)
 
--- the sums for `found` are of numbers that they do not change
+-- 129 numbers; no atom of `found` is in `front`, so no sum changes a number that another one takes
 pub record SumsAsked (front found : ℕ → Bool) (numbers : List ℕ) : Type 0 where
   pub size : length numbers ≡ 129
   pub apart : (a : ℕ) → found a ≡ true → front a ≡ false
@@ -32,8 +32,8 @@ pub record SumsKept (adj : Adjacency) (front found : ℕ → Bool) (old new : Li
   pub sums :
       (v : ℕ) → getD new v 0 ≡ cond (found v) (capped (sumOver (λ a. adj v a && front a) old)) (getD old v 0)
 
--- two atoms that lists of bonds may join
-pub record Joined (n : ℕ) (adj : Adjacency) (s t : ℕ) : Type 0 where
+-- both ends of a path: distances to s can be measured, and t is an atom
+pub record MeasuredEnds (n : ℕ) (adj : Adjacency) (s t : ℕ) : Type 0 where
   pub measured : Measured n adj s
   pub end : Atom n t
 

@@ -6,7 +6,7 @@ ghost use lib.ListN.{length};
 ghost use Rattle.chordless.specs.Distance.{Nearing};
 ghost use Rattle.atomset.specs.Set.{has, linkedBy};
 ghost use Rattle.distance.specs.Layers.{Measured, NextLayer, RowsKept};
-ghost use Rattle.distance.specs.Capped.{capped, sumOver, SumsAsked, SumsKept, Joined, Numbered};
+ghost use Rattle.distance.specs.Capped.{capped, sumOver, SumsAsked, SumsKept, MeasuredEnds, Numbered};
 
 // The atoms of `unseen` that are bonded to an atom of `front`.
 fn next_layer(table: &[u64; 256], front: [u64; 2], unseen: [u64; 2]) -> [u64; 2]
@@ -110,7 +110,7 @@ fn keep_sums(numbers: &mut [u64; 129], table: &[u64; 256], front: [u64; 2], foun
 // How many lists of as few bonds as can be join s to t, up to one above the limit of a count; 0 where none does. The
 // layers are those of `nearing`, from s on; an atom's number is the sum of those of the atoms before it.
 pub fn number(table: &[u64; 256], n: usize, s: usize, t: usize) -> u64
-    requires { ⌜ Joined n (linkedBy (now table)) s t ⌝ }
+    requires { ⌜ MeasuredEnds n (linkedBy (now table)) s t ⌝ }
     ensures { λ r. ⌜ Numbered n (linkedBy (now (table .entry))) s t r ⌝ }
 {
     let mut numbers = [0u64; 129];

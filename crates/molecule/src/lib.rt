@@ -1,4 +1,4 @@
-// The molecule record of document 01 and its check, rule 9.
+// The molecule record of document 01 and its check, rule 9; rules 10 and 11 on the ends of a path.
 ghost use mathlib.Core.Path.{_≡_};
 ghost use Prim.Native.Nat.{_+_, _*_, _/_, _%_, _<_};
 ghost use lib.ListN.{length};

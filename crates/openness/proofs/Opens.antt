@@ -121,13 +121,9 @@ module _ {n : ℕ} {table : List ℕ} {kind s t : ℕ} {prefix : List ℕ} {len 
   open-all h = let all : i ≡ len = omega (arith, k .within) in rw all at (k .opened)
 
 -- the empty beginning
-pub open-none :
-    {n : ℕ} {table : List ℕ} {kind s t : ℕ} {prefix : List ℕ} {len : ℕ} →
-    SearchTable n table kind t × (kindKept n kind s t ≡ true) × (length prefix ≡ 128) × (len ≤ 127) →
-    Beginning n table kind s t prefix 0
-open-none {n} {table} {kind} {s} {t} known =
-    let opened = open-empty (familyBy n table kind s t) (family-by-lawful n table kind s t) in
-    open-beginning (record { within = omega arith; opened = opened }) known
+pub open-none : (F : Family) (prefix : List ℕ) {len : ℕ} → len ≡ 0 → isOpen F (take len prefix) ≡ true
+unfolding isOpen
+open-none F prefix e = rw e
 
 -- ---- a ring beginning of one atom, tested by itself
 

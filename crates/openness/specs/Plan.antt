@@ -1,4 +1,4 @@
--- What a trial finds at a beginning, as two sets of atoms, over the word table of a molecule's rows.
+-- What a trial finds at a beginning, as two sets of atoms, over the table of a search (`SearchTable`).
 use Prim.Native.Nat.{ℕ, suc, _-_, _≤_, _<_}
 use mathlib.Core.Path.{_≡_}
 use mathlib.Core.Bool.{true, false, _||_, cond}

@@ -193,16 +193,17 @@ fn openers(
         Stepping F (linkedBy (now (table .entry))) kind most p x aim next steps members want →
         (v : ℕ) → has r v ≡ isOpen F (p ++ v ∷ [])) ⌝ }
 {
-    if kind == 3 {
-        return atomset::minus(want, members);
+    if kind != 3 {
+        let targets = next.goal;
+        let through = next.free;
+        return sweep::reached(table, through, targets, want, steps);
     }
-    let goal = next.goal;
-    let free = next.free;
-    sweep::reached(table, free, goal, want, steps)
+    atomset::minus(want, members)
 }
 
 // The same for the fast loop, which leaves the sweep out where it can. Where nothing may close a member later, or there
-// is no candidate, none opens; where the beginning has no member, a sole candidate opens it, in every family.
+// is no candidate, none opens; where the beginning has no member, a sole candidate opens it, in every family. It calls
+// the sweep itself, so that this is compiled into the loop.
 fn opening(
     table: &[u64; 256],
     kind: usize,
@@ -229,7 +230,11 @@ fn opening(
             return want;
         }
     }
-    openers(table, kind, next, members, want, steps)
+    if kind == 3 {
+        return atomset::minus(want, members);
+    }
+    let free = next.free;
+    sweep::reached(table, free, goal, want, steps)
 }
 
 // What the two sets have beside the last atom x: the atoms that make a member, and the candidates.
@@ -265,7 +270,7 @@ pub fn plan_by(table: &[u64; 256], kind: usize, aim: Aim, next: Aim, x: usize, s
     }
 }
 
-// The same plan by one sweep, whatever the candidates: for the places where single beginnings are planned. The fast
+// The same plan by `openers`, whatever the candidates: for the places where single beginnings are planned. The fast
 // loop alone calls `plan_by`, so that it is compiled into the loop.
 fn swept_plan(table: &[u64; 256], kind: usize, aim: Aim, next: Aim, x: usize, steps: usize) -> Plan
     requires { ⌜
@@ -627,7 +632,7 @@ fn goes_on_open(
     true
 }
 
-// Whether the first `len` atoms are an open beginning, over the table of the search.
+// Whether the first `len` atoms, one or more, are an open beginning, over the table of the search.
 fn is_open_by(
     table: &[u64; 256],
     n: usize,
@@ -639,12 +644,9 @@ fn is_open_by(
 ) -> bool
     requires { ⌜
         SearchTable n (now table) kind t × (kindKept n kind s t ≡ true) × (length (now prefix) ≡ 128) ×
-        (len ≤ 127) ⌝ }
+        (len ≤ 127) × (1 ≤ len) ⌝ }
     ensures { λ r. ⌜ r ≡ isOpen (familyBy n (now (table .entry)) kind s t) (take len (now (prefix .entry))) ⌝ }
 {
-    if len == 0 {
-        return true;
-    }
     if len < first_length(kind) {
         let most = most_atoms(kind, s);
         return one_opens(table, n, most, prefix);
@@ -655,7 +657,8 @@ fn is_open_by(
     goes_on_open(table, n, kind, s, t, prefix, len)
 }
 
-// Whether the first `len` atoms are an open beginning, over the word table of a molecule's rows.
+// Whether the first `len` atoms are an open beginning, over the word table of a molecule's rows. The empty one is, and
+// needs no distances.
 pub fn is_open(
     words: &[u64; 256],
     n: usize,
@@ -669,6 +672,9 @@ pub fn is_open(
         Words n (now words) × (kindKept n kind s t ≡ true) × (length (now prefix) ≡ 128) × (len ≤ 127) ⌝ }
     ensures { λ r. ⌜ r ≡ isOpen (familyBy n (now (words .entry)) kind s t) (take len (now (prefix .entry))) ⌝ }
 {
+    if len == 0 {
+        return true;
+    }
     if kind == 3 {
         let near = distance::nearing(words, n, t);
         return is_open_by(&near, n, kind, s, t, prefix, len);

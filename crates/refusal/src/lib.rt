@@ -24,7 +24,7 @@ pub enum Refusal {
     TooManyPaths,
 }
 
-// The answer of an entry that makes a record or a search.
+// The answer of an entry that makes a record or a search, and of rules 10 and 11.
 pub enum Answer {
     Accepted,
     Refused(Refusal),

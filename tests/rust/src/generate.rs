@@ -887,6 +887,16 @@ fn long_size(rng: &mut Rng) -> u64 {
     }
 }
 
+/// The bonds of a record, as a molecule.
+pub fn molecule_of(record: &Record) -> Molecule {
+    let n = record.atoms;
+    let pairs = (1..=n).flat_map(|a| (a + 1..=n).map(move |b| (a, b)));
+    Molecule {
+        atoms: n,
+        bonds: pairs.filter(|&(a, b)| record.bonded(a, b)).collect(),
+    }
+}
+
 /// The molecule with its atoms numbered in another way.
 pub fn renamed(rng: &mut Rng, molecule: &Molecule) -> Molecule {
     let mut names: Vec<u64> = (1..=molecule.atoms).collect();

@@ -174,19 +174,21 @@ fn references() {
         let whole = in_one_call(&molecule);
         assert_eq!(whole.counts(), [trials, extensions, rings]);
     }
-    let rings = |molecule: &Molecule| list_of(&in_one_call(molecule).sheet);
+    let rings = |molecule: &Molecule| list::members_of(&in_one_call(molecule).sheet);
     assert_eq!(rings(&generate::document()), [[1, 2, 3], [1, 3, 4]]);
     let three = [[1, 3, 2, 4], [1, 3, 2, 5], [1, 4, 2, 5]];
     assert_eq!(rings(&generate::two_to_three()), three);
     let cube = rings(&generate::cube());
     let long = |len| cube.iter().filter(|ring| ring.len() == len).count();
     assert_eq!((cube.len(), long(4), long(6)), (10, 6, 4));
-    let hexagons = list_of(&in_one_call(&from_example("cubane")).sheet);
+    let hexagons = list::members_of(&in_one_call(&from_example("cubane")).sheet);
     assert_eq!(hexagons.iter().filter(|ring| ring.len() == 6).count(), 4);
     for n in [10, 15, 20, 25] {
         let whole = in_one_call(&generate::complete(n));
         assert_eq!(whole.counts()[2], n * (n - 1) * (n - 2) / 6);
-        assert!(list_of(&whole.sheet).iter().all(|ring| ring.len() == 3));
+        assert!(list::members_of(&whole.sheet)
+            .iter()
+            .all(|ring| ring.len() == 3));
     }
     let document = generate::document();
     let record = document.record();
@@ -199,7 +201,7 @@ fn references() {
             let start = fresh_mark(&document, task);
             let whole = host::list(&document.sheet(), &start, || (u64::MAX, 20));
             assert_whole(&record, task, &whole);
-            assert_eq!(list_of(&whole.sheet), members);
+            assert_eq!(list::members_of(&whole.sheet), members);
             assert_eq!(whole.counts(), counts);
         }
     }
@@ -220,7 +222,7 @@ fn up_to(molecule: &Molecule, k: u8) -> Whole {
 #[test]
 fn references_up_to_a_size() {
     for (k, rings) in [(3, 0), (4, 6), (5, 6), (6, 10), (7, 10), (128, 10)] {
-        let members = list_of(&up_to(&generate::cube(), k).sheet);
+        let members = list::members_of(&up_to(&generate::cube(), k).sheet);
         assert_eq!(members.len(), rings);
         assert!(members.iter().all(|ring| ring.len() <= k.into()));
     }
@@ -269,7 +271,7 @@ fn larger_up_to_a_size() {
         let molecule = generate::random_molecule(&mut rng, n, m);
         let sheet = molecule.sheet();
         let all = host::list(&sheet, &[], || (u64::MAX, 1 << 16));
-        let members = list_of(&all.sheet);
+        let members = list::members_of(&all.sheet);
         let longest = members.iter().map(Vec::len).max().unwrap_or(3) as u64;
         for k in [rng.between(3, 12), rng.between(3, longest), longest, 128] {
             let start = fresh_mark(&molecule, Task::RingsUpTo { k: k as u8 });
@@ -277,7 +279,10 @@ fn larger_up_to_a_size() {
             let short = list::up_to(&members, k as u8);
             let open = list::open_beginnings(&short).len() as u64;
             assert_eq!(whole.stop, 101);
-            assert!(list_of(&whole.sheet) == short, "k = {k} of {molecule:?}");
+            assert!(
+                list::members_of(&whole.sheet) == short,
+                "k = {k} of {molecule:?}"
+            );
             assert_eq!(whole.counts(), [n * (open + 1), open, short.len() as u64]);
             assert!(open <= (k - 1) * short.len() as u64);
             fewer += u64::from(!short.is_empty() && short.len() < members.len());
@@ -290,26 +295,9 @@ fn larger_up_to_a_size() {
     assert!(sample() > 1 || fewer >= 150);
 }
 
-/// The members of joined records.
-fn list_of(mut records: &[u8]) -> Vec<Vec<u8>> {
-    let mut members = Vec::new();
-    while let Some((&len, rest)) = records.split_first() {
-        let (member, rest) = rest.split_at(len.into());
-        members.push(member.to_vec());
-        records = rest;
-    }
-    members
-}
-
 /// The bonds of an example sheet, as its script numbers them.
 fn from_example(name: &str) -> Molecule {
-    let record = examples::record(name);
-    let n = record.atoms;
-    let bonds = (1..=n)
-        .flat_map(|a| (a + 1..=n).map(move |b| (a, b)))
-        .filter(|&(a, b)| record.bonded(a, b))
-        .collect();
-    Molecule { atoms: n, bonds }
+    generate::molecule_of(&examples::record(name))
 }
 
 /// The example sheets have the rings and counts of their table.
@@ -329,7 +317,7 @@ fn example_sheets() {
         // Up to dodecahedrane also by brute force.
         if record.atoms <= 20 {
             let members = list::members(&record, Task::Rings);
-            assert!(list_of(&whole.sheet) == members, "{name}");
+            assert!(list::members_of(&whole.sheet) == members, "{name}");
         }
     }
     // Rings that are known by other means.
@@ -396,7 +384,7 @@ fn limit() {
             let whole = host::list(&sheet, &start, || (3, 20));
             assert_eq!(whole.stop, 102);
             assert_eq!(whole.counts()[which], LIMIT);
-            let members = list_of(&whole.sheet);
+            let members = list::members_of(&whole.sheet);
             assert!(all.starts_with(&members));
             if which == 2 {
                 assert_eq!(members.len() as u64, more);

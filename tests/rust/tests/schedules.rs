@@ -130,14 +130,7 @@ fn layers(rng: &mut Rng) -> Molecule {
 
 /// An example with its atoms numbered in another way.
 fn renumbered(rng: &mut Rng, name: &str) -> Molecule {
-    let record = examples::record(name);
-    let n = record.atoms;
-    let pairs = (1..=n).flat_map(|b| (1..b).map(move |a| (a, b)));
-    let whole = Molecule {
-        atoms: n,
-        bonds: pairs.filter(|&(a, b)| record.bonded(a, b)).collect(),
-    };
-    generate::renamed(rng, &whole)
+    generate::renamed(rng, &generate::molecule_of(&examples::record(name)))
 }
 
 /// Rings, rings up to a size, that often some ring has, paths or shortest paths,

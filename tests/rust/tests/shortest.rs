@@ -8,8 +8,8 @@ use flat_tests::host::{self, Entry};
 use flat_tests::model::field::LIMIT;
 use flat_tests::model::list::{self, Reached, Task};
 use flat_tests::model::machine::Stop;
+use flat_tests::model::sheet;
 use flat_tests::model::shortest::{self, OneByOne};
-use flat_tests::model::{sheet, Record};
 use flat_tests::rng::Rng;
 use flat_tests::{examples, sample, sampled};
 
@@ -57,22 +57,10 @@ fn listed(molecule: &Molecule, task: Task, room: usize) -> (Vec<Vec<u8>>, [u64; 
     let start = host::fresh_mark(&sheet, task);
     let whole = host::list(&sheet, &start, || (u64::MAX, room));
     assert_eq!(whole.stop, 101, "{task:?}");
-    (members_of(&whole.sheet), whole.counts())
+    (list::members_of(&whole.sheet), whole.counts())
 }
 
-/// The members of joined records.
-fn members_of(mut records: &[u8]) -> Vec<Vec<u8>> {
-    let mut members = Vec::new();
-    while let Some((&len, rest)) = records.split_first() {
-        let (member, rest) = rest.split_at(len.into());
-        members.push(member.to_vec());
-        records = rest;
-    }
-    members
-}
-
-/// One pair: the list by the library and by the model, its counts, the number,
-/// and that each member is among the paths without chords that the library lists.
+/// One pair: the list by the library and by the model, its counts, and the number.
 fn compare_pair(counts: &mut Counts, molecule: &Molecule, (s, t): (u64, u64)) -> u64 {
     let (record, n) = (molecule.record(), molecule.atoms);
     let task = task_of(n, 3, s, t);
@@ -204,20 +192,10 @@ fn shortest_paths_are_paths() {
         _ => &["prismane", "cubane"],
     };
     for name in names {
-        let molecule = molecule_of(&examples::record(name));
+        let molecule = generate::molecule_of(&examples::record(name));
         for (s, t) in pairs(molecule.atoms).step_by(7) {
             among_paths(&molecule, (s, t));
         }
-    }
-}
-
-/// The bonds of a record, as a molecule.
-fn molecule_of(record: &Record) -> Molecule {
-    let n = record.atoms;
-    let bonded = |&(a, b): &(u64, u64)| a < b && record.bonded(a, b);
-    Molecule {
-        atoms: n,
-        bonds: pairs(n).filter(bonded).collect(),
     }
 }
 
@@ -407,7 +385,7 @@ fn layers() {
 }
 
 /// Products of widths on both sides of the limit: of 126 atoms in layers of 2, 3,
-/// 5, 7, 11 and 13 with all bonds these come nearest to it.
+/// 5, 7, 11 and 13 with all bonds these are the nearest found.
 #[test]
 fn layers_near_the_limit() {
     let (mut counts, mut rng) = (Counts::new(95), Rng::new(95));
@@ -441,11 +419,8 @@ fn layers_near_the_limit() {
 
 /// Nearer to the limit with parts that have some bonds left out, in 128 atoms.
 ///
-/// The limit itself, 10^19 - 1, is no molecule's number. Where all bonds are there
-/// between two layers the number is a product; this one is 9 times a prime, so but
-/// for a factor of 9 at the ends a bond is left out between each two layers, and
-/// such layers have at most 0.29 times the number. Nor is 10^19 = 2^19 × 5^19: its
-/// parts take at least 129 atoms.
+/// No molecule was found whose number is the limit, 10^19 - 1 (9 times a prime), or
+/// 10^19; that the limit itself is answered is shown by the proof alone.
 #[test]
 fn nearer_to_the_limit() {
     let (mut counts, mut rng) = (Counts::new(96), Rng::new(96));
@@ -509,7 +484,7 @@ fn random_layers() {
             }
         }
     }
-    println!("{answered} of the last three digits' length, {refused} above the limit");
+    println!("{answered} above a thousandth of the limit, {refused} above the limit");
     assert!(sample() > 1 || (answered >= 500 && refused >= 500));
 }
 
@@ -544,8 +519,8 @@ fn only_others_above_the_limit() {
             let expected = Ok(bonded as u64 * number);
             assert_eq!(counts.count(&molecule, 1, 125), expected);
         }
-        // t is one to four atoms away from an atom of layer k. From layer 38 it is
-        // farther than layer 41, whose atoms are nearer to s and on no path to t.
+        // t is one to four atoms away from an atom of layer k. From layer 38 on the
+        // last of them is farther than layer 41, whose atoms are on no path to it.
         let a = layer(k)[(k % 3) as usize];
         let chain = with_others(&[(a, 125), (125, 126), (126, 127), (127, 128)]);
         for t in 125..=128 {
@@ -715,7 +690,7 @@ fn number_is_what_runs_list() {
             let (budget, room) = (rng.between(1, 20_000), rng.between(129, 4_000));
             let ran = counts.calls.run(on, &search, budget, room as usize);
             let ran = ran.expect("accepted");
-            records += members_of(&ran.records).len() as u64;
+            records += list::members_of(&ran.records).len() as u64;
             (search, stop) = (ran.search, ran.stop);
         }
         assert_eq!((search.listed, records), (number, number));
@@ -752,7 +727,7 @@ fn first_of_many() {
         let mut expected = OneByOne::new(&record, s as u8, t as u8);
         let mut mark = host::fresh_mark(&sheet, task_of(n, 3, s, t));
         let mut rng = Rng::new(s);
-        let (mut seen, mut trials) = (0, 0);
+        let (mut seen, mut calls) = (0, 0);
         while seen < records {
             // Each call has room for a few records, or too little for one.
             let budget = rng.pick(&[1, 7, 100, 1_000, 5_000, 20_000, u64::MAX]);
@@ -770,10 +745,10 @@ fn first_of_many() {
             }
             assert!(out[used..].iter().all(|&byte| byte == 0xA5));
             mark = next[..host::mark_length(&next)].to_vec();
-            trials += 1;
+            calls += 1;
         }
         assert_eq!(host::listed(&mark), seen);
-        println!("{seen} records in {trials} calls");
+        println!("{seen} records in {calls} calls");
     }
 }
 
@@ -792,7 +767,7 @@ fn first_of_many_by_record() {
     while search.listed < sampled(2_000) {
         let (budget, room) = (rng.between(0, 9_000), rng.index(3_000));
         let ran = calls.run(on, &search, budget, room).expect("accepted");
-        for member in members_of(&ran.records) {
+        for member in list::members_of(&ran.records) {
             assert_eq!(Some(member), expected.next());
         }
         let mark = calls.save(on, &ran.search, 599).expect("a mark");

@@ -1,7 +1,7 @@
--- `openness::opening` meets its contract, in each of its four answers.
--- By `nothing-ahead`, `nothing-wanted`, `sole-candidate`, and the contract of `openers`.
+-- `openness::opening` meets its contract, in each of its five answers.
+-- By `nothing-ahead`, `nothing-wanted`, `sole-candidate`, `each-opens` and `sweep-opens`.
 use borrow.Author.Needs.{needs}
-use Rattle.openness.proofs.Steps.{nothing-ahead, nothing-wanted, sole-candidate}
+use Rattle.openness.proofs.Steps.{nothing-ahead, nothing-wanted, sole-candidate, each-opens, sweep-opens}
 use Rattle.openness.proofs.opening.Statement.{statement}
 use Rattle.openness.proofs.opening.Tie as tie
 
@@ -19,11 +19,20 @@ returns-3 c F most p x aim k =
     (c .if4 .taken)
 
 returns-4 : tie.Need-returns-4
-returns-4 c = c .openers .ensures
+returns-4 c F most p x aim k = each-opens k (c .before .if5 .taken) (c .minus .ensures)
+
+reached-requires : tie.Need-reached-requires
+reached-requires c κs =
+    let start : tie.Start = search in
+    let other : tie.Else5 = search in
+    start .pre (other .if5 .left)
+
+returns-5 : tie.Need-returns-5
+returns-5 c F most p x aim k = sweep-opens k (c .reached .ensures)
 
 pub opening-spec : {M : Type 1} → statement M
 opening-spec =
     tie.close
     (tie.spec
     (λ c κs. search needs) returns (λ c κs. search needs) returns-2 (λ c κs. search needs) (λ c κs. search needs)
-    returns-3 (λ c κs. search needs) returns-4)
+    returns-3 (λ c κs. search needs) returns-4 reached-requires returns-5)

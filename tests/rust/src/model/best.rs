@@ -286,9 +286,9 @@ fn sets(record: &Record) -> [Set; 128] {
     bonded
 }
 
-/// The number of shortest paths from s to t of a lawful record: from one layer of
-/// atoms as far from s to the next, each atom has the sum of its neighbours in
-/// the layer before.
+/// The number of shortest paths from s to t of a lawful record: from layer to
+/// layer, each the atoms at one distance from s, an atom has the sum of its
+/// neighbours in the layer before.
 pub fn number(record: &Record, s: u8, t: u8) -> u128 {
     let (bonded, goal) = (sets(record), single(t.into()));
     let mut numbers = [0; 128];

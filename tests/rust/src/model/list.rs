@@ -180,6 +180,17 @@ pub fn record_of(member: &[u8]) -> Vec<u8> {
     record
 }
 
+/// The members of joined records.
+pub fn members_of(mut records: &[u8]) -> Vec<Vec<u8>> {
+    let mut members = Vec::new();
+    while let Some((&len, rest)) = records.split_first() {
+        let (member, rest) = rest.split_at(len.into());
+        members.push(member.to_vec());
+        records = rest;
+    }
+    members
+}
+
 /// Answers from the list of all members, each made when first asked for.
 pub struct Listed<'a> {
     record: &'a Record,

@@ -1,9 +1,9 @@
 //! A fast lister: the method of document 003 over sets of atoms, with one
 //! reachability search for each open beginning. Of a bounded search it lists all
-//! rings and keeps the short ones. Shortest paths go from one layer of atoms as
-//! near to t to the next.
+//! rings and keeps the short ones. Shortest paths go from layer
+//! to layer, each the atoms at one distance from t.
 
-use super::list::{open_beginnings, record_of, up_to, Task};
+use super::list::{members_of, open_beginnings, record_of, up_to, Task};
 use super::Record;
 
 /// A set of atoms; atom v is bit v - 1.
@@ -37,14 +37,7 @@ pub struct Listing {
 
 impl Listing {
     pub fn members(&self) -> Vec<Vec<u8>> {
-        let mut members = Vec::new();
-        let mut rest = self.sheet.as_slice();
-        while let Some((&len, after)) = rest.split_first() {
-            let (member, after) = after.split_at(len.into());
-            members.push(member.to_vec());
-            rest = after;
-        }
-        members
+        members_of(&self.sheet)
     }
 
     /// The listing of the members of at most `k` atoms, from their list alone.

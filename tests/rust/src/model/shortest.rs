@@ -111,7 +111,7 @@ impl Steps {
     }
 
     /// The list, whose consecutive atoms are bonded, is a proper beginning of a
-    /// shortest path; `self` are the steps from its last atom, t. With a shortest
+    /// shortest path; `self` are the steps from t, the last atom of that path. With a shortest
     /// way from its own last atom on it has as many steps as such a path.
     pub fn open(&self, list: &[u8]) -> bool {
         match (list.first(), list.last()) {
