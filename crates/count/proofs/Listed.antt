@@ -19,9 +19,9 @@ use Rattle.search.proofs.Readings.{ends-facts, kind-of, restorable-facts}
 use Rattle.history.specs.Calls.{Call, Standing, start, standing, History, saidDone}
 use Rattle.history.specs.Demand.{Demand}
 use Rattle.history.proofs.Demand3.{demand3}
-use Rattle.count.specs.declared.Counted.the-variants.{Number}
-use Rattle.count.specs.Count.{shortestNumber, countShortest}
-use Rattle.count.proofs.Answers.{count-within}
+use Rattle.counter.specs.declared.Counted.the-variants.{Number}
+use Rattle.counter.specs.Count.{shortestNumber, countShortest}
+use Rattle.counter.proofs.Answers.{count-within}
 
 -- a search whose run is not refused keeps rule 12
 run-restorable :

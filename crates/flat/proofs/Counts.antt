@@ -8,9 +8,9 @@ use borrow.Author.Tests.{eq-eqb, ne-eqb}
 use Rattle.refusal.specs.declared.Refusal.{Refusal}
 use Rattle.refusal.specs.Number.{numberOf}
 use Rattle.molecule.specs.declared.Molecule.{Molecule}
-use Rattle.count.specs.declared.Counted.{Counted}
-use Rattle.count.specs.declared.Counted.the-variants.{Number, Refused}
-use Rattle.count.specs.Count.{countShortest}
+use Rattle.counter.specs.declared.Counted.{Counted}
+use Rattle.counter.specs.declared.Counted.the-variants.{Number, Refused}
+use Rattle.counter.specs.Count.{countShortest}
 use Rattle.flat.specs.Codes.{molecule, countCode, countOutput}
 
 module _ (atoms bonds : ℕ) (rows : List ℕ) (s t old : ℕ) where

@@ -15,9 +15,9 @@ use Rattle.judge.specs.declared.Verdict.{Verdict}
 use Rattle.judge.specs.declared.Verdict.the-variants as verdict
 use Rattle.judge.specs.Verdict.{judgeRing, judgePath}
 use Rattle.sheet.specs.Read.{readSheet}
-use Rattle.count.specs.declared.Counted.{Counted}
-use Rattle.count.specs.declared.Counted.the-variants as counted
-use Rattle.count.specs.Count.{countShortest}
+use Rattle.counter.specs.declared.Counted.{Counted}
+use Rattle.counter.specs.declared.Counted.the-variants as counted
+use Rattle.counter.specs.Count.{countShortest}
 
 -- a buffer or rows of the wrong length
 abbrev pub wrongLength : ℕ

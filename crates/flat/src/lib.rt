@@ -11,7 +11,7 @@ ghost use Rattle.flat.specs.Codes.{readCode, readOutput, checkCode, ring
 ghost use Rattle.flat.specs.Codes.{countCode, countOutput};
 ghost use Rattle.flat.specs.Searches.{SizesTold, SearchSize, searchFrom, Packed, MadeStored, RanStored};
 ghost use Rattle.flat.specs.Searches.{MadeLeft, RunLeft, SaveLeft};
-use count::Counted;
+use counter::Counted;
 use fields::Number;
 use judge::Verdict;
 use molecule::Molecule;

@@ -25,8 +25,8 @@ use Rattle.search.specs.Mark.{fieldAt, fieldKept, valueAt, markLength, markText
 use Rattle.search.proofs.Starts.{rings-started}
 use Rattle.mark_writer.specs.Parts.{spliced}
 use Rattle.mark_writer.proofs.Splices.{splice-start}
-use Rattle.count.specs.declared.Counted.{Counted}
-use Rattle.count.specs.Count.{countShortest}
+use Rattle.counter.specs.declared.Counted.{Counted}
+use Rattle.counter.specs.Count.{countShortest}
 use Rattle.host.specs.Resume.{Resumed, searchFor, runAndSave, markSize, listedIn}
 use Rattle.host.specs.Start.{Started, wroteMark}
 use Rattle.host.specs.Count.{CountedSheet, refusedCount, wroteCount, countSheet}

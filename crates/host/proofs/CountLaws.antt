@@ -20,10 +20,10 @@ use Rattle.sheet.specs.Read.{readSheet}
 use Rattle.sheet.proofs.Accepted.{accepted-well-formed}
 use Rattle.search.specs.Place.{kindKept, endsKept}
 use Rattle.search.proofs.Readings.{KindFacts, kind-facts, ends-of}
-use Rattle.count.specs.declared.Counted.{Counted}
-use Rattle.count.specs.declared.Counted.the-variants.{Number, Refused}
-use Rattle.count.specs.Count.{shortestNumber, countShortest}
-use Rattle.count.proofs.Laws.{count-exact}
+use Rattle.counter.specs.declared.Counted.{Counted}
+use Rattle.counter.specs.declared.Counted.the-variants.{Number, Refused}
+use Rattle.counter.specs.Count.{shortestNumber, countShortest}
+use Rattle.counter.proofs.Laws.{count-exact}
 use Rattle.count.proofs.Listed.{count-is-listed}
 use Rattle.host.specs.Resume.{listedIn}
 use Rattle.host.specs.Start.{startMark}

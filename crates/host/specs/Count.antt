@@ -6,9 +6,9 @@ use Rattle.refusal.specs.declared.Refusal.{Refusal}
 use Rattle.refusal.specs.Number.{numberOf}
 use Rattle.refusal.specs.Answers.{unlessRefused}
 use Rattle.sheet.specs.Read.{readSheet}
-use Rattle.count.specs.declared.Counted.{Counted}
-use Rattle.count.specs.declared.Counted.the-variants.{Number, Refused}
-use Rattle.count.specs.Count.{countShortest}
+use Rattle.counter.specs.declared.Counted.{Counted}
+use Rattle.counter.specs.declared.Counted.the-variants.{Number, Refused}
+use Rattle.counter.specs.Count.{countShortest}
 
 -- What the entry returns, and the number in its output after it
 pub record CountedSheet : Type 0 where

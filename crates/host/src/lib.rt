@@ -7,7 +7,7 @@ ghost use Rattle.search.specs.Place.{restorable};
 ghost use Rattle.host.specs.Resume.{searchFor, runAndSave, resume, markSize, listedIn};
 ghost use Rattle.host.specs.Start.{startMark};
 ghost use Rattle.host.specs.Count.{countSheet};
-use count::Counted;
+use counter::Counted;
 use fields::Number;
 use molecule::Molecule;
 use refusal::Answer;
@@ -133,7 +133,7 @@ pub extern "C" fn ringlist_count_shortest(sheet: &[u8], s: u64, t: u64, count: &
     match read_answer {
         Answer::Refused(r) => refusal::number(r),
         Answer::Accepted => {
-            let counted = count::count_shortest(read.molecule, s as usize, t as usize);
+            let counted = counter::count_checked(read.molecule, s as usize, t as usize);
             match counted {
                 Counted::Refused(r) => refusal::number(r),
                 Counted::Number(k) => {

@@ -2,7 +2,7 @@
 -- The two refusals leave the output as it was; the last way stores the number that the count answered.
 use mathlib.Core.Path.{refl, sym, _∙_}
 use borrow.Author.Needs.{needs}
-use Rattle.host.proofs.Gate.{SheetTaken}
+use Rattle.host.proofs.Gate.{SheetTaken, read-formed}
 use Rattle.host.proofs.Answers.{leaves-count, count-unread, count-read}
 use Rattle.host.proofs.ringlist_count_shortest.Statement.{statement}
 use Rattle.host.proofs.ringlist_count_shortest.Tie as tie
@@ -28,6 +28,9 @@ sheet-taken c = record { is-read = reads c .read-sheet .ensures; accepted = c .e
 enum-told : tie.Need-enum-told
 enum-told c = search needs
 
+count-checked-requires : tie.Need-count-checked-requires
+count-checked-requires c κs = read-formed (sheet-taken c)
+
 returns : tie.Need-returns
 returns c =
     let read : tie.After-read-sheet = search in
@@ -36,19 +39,19 @@ returns c =
 
 returns-2 : tie.Need-returns-2
 returns-2 c =
-    let counts : tie.After-count-shortest = search in
-    let answer = sym (c .before .before .counted .given .1) ∙ counts .count-shortest .ensures in
+    let counts : tie.After-count-checked = search in
+    let answer = sym (c .before .before .counted .given .1) ∙ counts .count-checked .ensures in
     leaves-count (count-read _ _ _ _ (sheet-taken (search)) answer) _ _ (c .number2 .ensures, refl)
 
 returns-3 : tie.Need-returns-3
 returns-3 c =
-    let counts : tie.After-count-shortest = search in
-    let answer = sym (c .before .counted2 .given .1) ∙ counts .count-shortest .ensures in
+    let counts : tie.After-count-checked = search in
+    let answer = sym (c .before .counted2 .given .1) ∙ counts .count-checked .ensures in
     leaves-count (count-read _ _ _ _ (sheet-taken (search)) answer) _ _ (refl, refl)
 
 pub ringlist-count-shortest-spec : {M : Type 1} → statement M
 ringlist-count-shortest-spec =
     tie.close
     (tie.spec
-    (λ c κs. search needs) (λ c. search needs) (λ c κs. search needs) enum-told (λ c κs. search needs)
+    (λ c κs. search needs) (λ c. search needs) (λ c κs. search needs) enum-told count-checked-requires
     (λ c. search needs) (λ c κs. search needs) (λ c. search needs) returns returns-2 returns-3)

@@ -26,10 +26,10 @@ use Rattle.atomset.proofs.Bonds.{linked-same, linked-symmetric}
 use Rattle.search.specs.Place.{familyIn, familyOf, endsKept}
 use Rattle.search.proofs.Readings.{ends-facts}
 use Rattle.distance.specs.Capped.{capped, MeasuredEnds, Numbered}
-use Rattle.count.specs.declared.Counted.{Counted}
-use Rattle.count.specs.declared.Counted.the-variants.{Number, Refused}
-use Rattle.count.specs.Count.{shortestNumber, countShortest}
-use Rattle.count.proofs.Answers.{count-above}
+use Rattle.counter.specs.declared.Counted.{Counted}
+use Rattle.counter.specs.declared.Counted.the-variants.{Number, Refused}
+use Rattle.counter.specs.Count.{shortestNumber, countShortest}
+use Rattle.counter.proofs.Answers.{count-above}
 
 -- ---- the number
 

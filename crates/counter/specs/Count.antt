@@ -10,8 +10,8 @@ use Rattle.molecule.specs.declared.Molecule.{Molecule}
 use Rattle.molecule.specs.Record.{wellFormed}
 use Rattle.molecule.specs.Ends.{withEnds}
 use Rattle.search.specs.Place.{familyOf}
-use Rattle.count.specs.declared.Counted.{Counted}
-use Rattle.count.specs.declared.Counted.the-variants.{Number, Refused}
+use Rattle.counter.specs.declared.Counted.{Counted}
+use Rattle.counter.specs.declared.Counted.the-variants.{Number, Refused}
 
 -- How many shortest paths lead from s to t: the length of the list of kind 3
 unfoldable pub shortestNumber : Molecule → ℕ → ℕ → ℕ

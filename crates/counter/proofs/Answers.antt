@@ -19,8 +19,8 @@ use Rattle.molecule.proofs.Ends.{ends-refused}
 use Rattle.search.specs.Place.{endsKept}
 use Rattle.search.proofs.Readings.{ends-facts, ends-go}
 use Rattle.distance.specs.Capped.{capped}
-use Rattle.count.specs.declared.Counted.the-variants.{Number, Refused}
-use Rattle.count.specs.Count.{shortestNumber, countShortest}
+use Rattle.counter.specs.declared.Counted.the-variants.{Number, Refused}
+use Rattle.counter.specs.Count.{shortestNumber, countShortest}
 
 -- what is told of x is x itself up to the limit of the counts, and above it more than the limit
 module _ (x : ℕ) {r : ℕ} (told : r ≡ capped x) where
