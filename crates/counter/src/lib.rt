@@ -12,8 +12,8 @@ pub enum Counted {
     Refused(Refusal),
 }
 
-// The number of shortest paths from s to t on a record that rule 9 allows: rules 10 and 11, and 26 where it is above the
-// limit of the counts.
+// The number of shortest paths from s to t on a record that rule 9 allows: rules 10 and 11, and 26 where it is above
+// the limit of the counts.
 pub fn count_checked(m: Molecule, s: usize, t: usize) -> Counted
     requires { ⌜ wellFormed m ≡ true ⌝ }
     ensures { λ r. ⌜ r ≡ countShortest m s t ⌝ }
