@@ -8,13 +8,12 @@ use mathlib.Core.List.{List, _++_}
 use lib.ListN.{length, take, drop, length-append, length-replicate, length-reverse}
 use lib.Seq.{take-append-seam}
 use lib.Dec.{leb}
-use borrow.Author.Tests.{leb-true, le-leb}
-use Rattle.graph.proofs.Below.{and-left}
+use borrow.Author.Tests.{le-leb}
 use Rattle.enumeration.specs.Machine.{State}
 use Rattle.enumeration.specs.Run.{Outcome, run}
 use Rattle.refusal.specs.declared.Refusal.the-variants as refusal
 use Rattle.molecule.specs.declared.Molecule.{Molecule}
-use Rattle.molecule.specs.Record.{wellFormed, symmetric, loopless, within}
+use Rattle.molecule.specs.Record.{wellFormed}
 use Rattle.search.specs.declared.Search.{Search}
 use Rattle.search.specs.declared.Ran.{Ran}
 use Rattle.search.specs.declared.Ended.the-variants.{Stopped}
@@ -42,19 +41,6 @@ movedBy kind s t x o = record {
 }
 
 -- ---- sizes
-
-pub atoms-most : (mol : Molecule) → wellFormed mol ≡ true → mol .atoms ≤ 128
-unfolding wellFormed
-atoms-most mol e =
-    let a = leb (mol .atoms) 128 in
-    let b = leb (mol .bonds) 1024 in
-    let c = symmetric (mol .rows) in
-    let d = loopless (mol .rows) in
-    let w = within (mol .atoms) (mol .rows) in
-    let to-w = and-left (a && b && c && d && w) _ e in
-    let to-d = and-left (a && b && c && d) w to-w in
-    let to-c = and-left (a && b && c) d to-d in
-    leb-true (mol .atoms) 128 (and-left a b (and-left (a && b) c to-c))
 
 -- the array of a search at a state has 128 places
 pub prefix-size : (kind s t : ℕ) (st : State) → length (st .stack) ≤ 128 → length (searchAt kind s t st .prefix) ≡ 128

@@ -20,6 +20,7 @@ use Rattle.enumeration.proofs.Running.{records-append}
 use Rattle.enumeration.proofs.Theorems.{steps-composed, emitted-composed, steps-stay, run-outcome, run-keeps-bounded, run-done, steps-valid, valid-short}
 use Rattle.molecule.specs.declared.Molecule.{Molecule}
 use Rattle.molecule.specs.Record.{wellFormed}
+use Rattle.molecule.proofs.Bonds.{rule9}
 use Rattle.search.specs.declared.Search.{Search}
 use Rattle.search.specs.declared.Ended.{Ended}
 use Rattle.search.specs.declared.Ended.the-variants as ended
@@ -31,7 +32,7 @@ use Rattle.search.specs.Entries.{acceptedSearch, runSearch, runOutput}
 use Rattle.search.specs.Mark.{markText, restoreMark}
 use Rattle.history.specs.Calls.{Call, runs, saves, restores, Standing, runRefused, refused, afterAccepted, afterCall, standing, Handed, Allowed, History, isDoneStop, endedDone, saysDone, saidDone}
 use Rattle.history.specs.Resumed.{restoredStart}
-use Rattle.history.proofs.Entered.{ranAt, movedBy, atoms-most, prefix-size, run-at, wrote-at}
+use Rattle.history.proofs.Entered.{ranAt, movedBy, prefix-size, run-at, wrote-at}
 
 -- the search of a kind, s and t, k trials after the state that it began with
 abbrev pub stateAt : Molecule → ℕ → ℕ → ℕ → State → ℕ → State
@@ -91,7 +92,7 @@ module _ (R : Molecule) (kind s t : ℕ) (good : wellFormed R ≡ true) (kept : 
 
   short-of : (st : State) → Valid (familyOf R kind s t) st → length (st .stack) ≤ 128
   short-of st v =
-      omega (arith, valid-short (familyOf R kind s t) lawful st v, family-atoms R kind s t, atoms-most R good)
+      omega (arith, valid-short (familyOf R kind s t) lawful st v, family-atoms R kind s t, rule9 R good .atoms-high)
 
   pub back-of : (st : State) → Valid (familyOf R kind s t) st → stateOf (searchAt kind s t st) ≡ st
   back-of st v = state-search kind s t st

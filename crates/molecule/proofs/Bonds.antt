@@ -10,8 +10,9 @@ use lib.Dec.{leb, eqb}
 use borrow.Author.Tests.{le-leb, leb-true}
 use Rattle.graph.proofs.Below.{and-parts, and-both, same-test, either}
 use Rattle.molecule.specs.declared.Molecule.{Molecule}
-use Rattle.molecule.specs.Record.{cell, isAtom, bonded, onesOf, symmetric, loopless, within, wellFormed}
-use Rattle.molecule.proofs.Rules.{Mirror, Sound, sound-of-rules}
+use Rattle.molecule.specs.Record.{cell, isAtom, bonded, onesOf, rowsOfBytes, symmetric, loopless}
+use Rattle.molecule.specs.Record.{within, wellFormed}
+use Rattle.molecule.proofs.Rules.{Rows, bytes-of-rows, Mirror, Sound, sound-of-rules}
 
 pub atom-bounds : (n a : ℕ) → isAtom n a ≡ true → (1 ≤ a) × (a ≤ n)
 atom-bounds n a e = let parts = and-parts (leb 1 a) (leb a n) e in (leb-true 1 a (parts .0), leb-true a n (parts .1))
@@ -46,6 +47,7 @@ bonded-facts n rows a b e =
 pub record Rule9 (mol : Molecule) : Type 0 where
   pub atoms-high : mol .atoms ≤ 128
   pub bonds-high : mol .bonds ≤ 1024
+  pub bytes : Rows (mol .rows)
   pub rows-sound : (symmetric (mol .rows) && loopless (mol .rows) && within (mol .atoms) (mol .rows)) ≡ true
   pub ones-count : eqb (onesOf (mol .rows)) (2 * mol .bonds) ≡ true
 
@@ -57,18 +59,21 @@ rule9 mol e =
     let rows = mol .rows in
     -- the tests in their order, from the first to the one named
     let to-bonds = leb n 128 && leb m 1024 in
-    let to-symmetric = to-bonds && symmetric rows in
+    let to-bytes = to-bonds && rowsOfBytes rows in
+    let to-symmetric = to-bytes && symmetric rows in
     let to-loopless = to-symmetric && loopless rows in
     let to-within = to-loopless && within n rows in
     -- taken apart from the last on
     let count = and-parts to-within (eqb (onesOf rows) (2 * m)) e in
     let beyond = and-parts to-loopless (within n rows) (count .0) in
     let loops = and-parts to-symmetric (loopless rows) (beyond .0) in
-    let mirror = and-parts to-bonds (symmetric rows) (loops .0) in
-    let numbers = and-parts (leb n 128) (leb m 1024) (mirror .0) in
+    let mirror = and-parts to-bytes (symmetric rows) (loops .0) in
+    let bytes = and-parts to-bonds (rowsOfBytes rows) (mirror .0) in
+    let numbers = and-parts (leb n 128) (leb m 1024) (bytes .0) in
     record {
       atoms-high = leb-true n 128 (numbers .0);
       bonds-high = leb-true m 1024 (numbers .1);
+      bytes = bytes-of-rows rows (bytes .1);
       rows-sound = and-both _ _ (and-both _ _ (mirror .1) (loops .1)) (beyond .1);
       ones-count = count .1;
     }

@@ -2,19 +2,46 @@
 -- every bit that is set is within n, off the diagonal and mirrored.
 -- A place of the rows is a row and a column, and the other way round.
 use Prim.Native.Nat.{ℕ, _+_, _-_, _*_, _/_, _%_, _≤_, _<_}
+use native.Mathlib.Decide.{decLt}
 use native.Mathlib.Omega.{arith}
 use mathlib.Core.Path.{_≡_, refl, ap, sym, _∙_}
-use mathlib.Core.Bool.{Bool, true, _&&_, _||_, not, Bool·beq}
+use mathlib.Core.Bool.{Bool, true, false, _&&_, _||_, not, Bool·beq}
 use mathlib.Core.List.{List}
-use lib.ListN.{getD}
+use lib.ListN.{length, getD, List·getD-eq-default}
 use lib.Dec.{ltb, eqb}
-use borrow.Author.Tests.{lt-ltb, ltb-true, le-leb, ne-eqb, eqb-false, not-true}
+use borrow.Author.Tests.{lt-ltb, ltb-true, le-leb, eq-eqb, eqb-true, ne-eqb, eqb-false, not-true}
 use Rattle.graph.specs.Every.{allBelow}
 use Rattle.graph.proofs.Below.{allBelow-at, allBelow-of, and-parts, and-both, same-test, beq-true, beq-same}
 use Rattle.graph.proofs.Below.{false-of, not-of, apart, implies-intro, implies-elim}
-use Rattle.molecule.specs.Record.{bit, cell, onesOf, everyCell, symmetric, loopless, within, wellFormed}
+use Rattle.molecule.specs.Record.{bit, cell, onesOf, everyCell, rowsOfBytes, symmetric}
+use Rattle.molecule.specs.Record.{loopless, within, wellFormed}
 use Rattle.molecule.specs.declared.Molecule.{Molecule}
 use Rattle.molecule.specs.Parts.{mirrored, bitSound, byteSound, rowsSound}
+
+-- rows of 2,048 bytes
+pub record Rows (rows : List ℕ) : Type 0 where
+  pub size : length rows ≡ 2048
+  pub byte : (at : ℕ) → getD rows at 0 < 256
+
+pub rows-of-bytes : {rows : List ℕ} → Rows rows → rowsOfBytes rows ≡ true
+unfolding rowsOfBytes
+rows-of-bytes {rows} f =
+    and-both _ _ (eq-eqb (length rows) 2048 (f .size))
+    (allBelow-of 2048 (λ at. ltb (getD rows at 0) 256) (λ at h. lt-ltb (getD rows at 0) 256 (f .byte at)))
+
+pub bytes-of-rows : (rows : List ℕ) → rowsOfBytes rows ≡ true → Rows rows
+unfolding rowsOfBytes
+bytes-of-rows rows e =
+    let (size, bytes) = and-parts (eqb (length rows) 2048) (allBelow 2048 (λ at. ltb (getD rows at 0) 256)) e in
+    record { size = eqb-true (length rows) 2048 size; byte = λ at. go at bytes (eqb-true (length rows) 2048 size) (decLt at 2048) }
+  where
+    go :
+        (at : ℕ) → allBelow 2048 (λ at. ltb (getD rows at 0) 256) ≡ true → length rows ≡ 2048 → Dec (at < 2048) →
+        getD rows at 0 < 256
+    go at bytes size (yes h) = ltb-true (getD rows at 0) 256 (allBelow-at 2048 (λ at. ltb (getD rows at 0) 256) bytes at h)
+    go at bytes size (no h) =
+        let past : length rows ≤ at = omega arith in
+        omega (arith, List·getD-eq-default rows 0 past)
 
 -- tests over rows and columns
 
@@ -139,10 +166,28 @@ rows-rules rows n =
     (λ e. bytes-of-sound rows n (sound-of-rules rows n e))
     (λ e. rules-of-sound rows n (sound-of-bytes rows n e))
 
--- Rule 9 where n and m are in range
-pub rule-in-range :
-    (mol : Molecule) → mol .atoms ≤ 128 → mol .bonds ≤ 1024 → (sound : Bool) →
-    rowsSound (mol .rows) (mol .atoms) ≡ sound → wellFormed mol ≡ (sound && eqb (onesOf (mol .rows)) (2 * mol .bonds))
-unfolding wellFormed
-rule-in-range mol hn hm sound e =
-    rw (le-leb (mol .atoms) 128 hn, le-leb (mol .bonds) 1024 hm, rows-rules (mol .rows) (mol .atoms), e)
+-- Rule 9 where n and m are in range and the rows are bytes: rows that break their rules, or keep them
+module _ (mol : Molecule) (hn : mol .atoms ≤ 128) (hm : mol .bonds ≤ 1024) where
+  pub rows-broken : rowsSound (mol .rows) (mol .atoms) ≡ false → wellFormed mol ≡ false
+  unfolding wellFormed
+  rows-broken e = rw (le-leb (mol .atoms) 128 hn, le-leb (mol .bonds) 1024 hm) (go (rowsOfBytes (mol .rows)))
+    where
+      go :
+          (bytes : Bool) →
+          (bytes && symmetric (mol .rows) && loopless (mol .rows) && within (mol .atoms) (mol .rows)
+          && eqb (onesOf (mol .rows)) (2 * mol .bonds)) ≡ false
+      go true = rw (rows-rules (mol .rows) (mol .atoms), e)
+      go false = refl
+
+  pub rule-in-range :
+      rowsOfBytes (mol .rows) ≡ true → rowsSound (mol .rows) (mol .atoms) ≡ true →
+      wellFormed mol ≡ eqb (onesOf (mol .rows)) (2 * mol .bonds)
+  unfolding wellFormed
+  rule-in-range bytes e =
+      rw (
+        le-leb (mol .atoms) 128 hn,
+        le-leb (mol .bonds) 1024 hm,
+        bytes,
+        rows-rules (mol .rows) (mol .atoms),
+        e,
+      )

@@ -1,3 +1,4 @@
 pub mod Record
+pub mod BondList
 pub mod Parts
 pub mod Ends

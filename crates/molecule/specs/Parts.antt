@@ -1,11 +1,13 @@
--- What the parts of the record check decide. Nothing to believe: the law `rows-rules` relates them to rule 9.
+-- What the parts of the record check decide. Nothing to believe: the law `rows-rules` relates them to rule 9, and
+-- `same-bonds` relates the last one to the list of a record's bonds.
 use Prim.Native.Nat.{ℕ, _+_, _*_, _/_, _%_}
-use mathlib.Core.Bool.{Bool, _&&_, _||_, not}
-use mathlib.Core.List.{List}
+use mathlib.Core.Bool.{Bool, true, _&&_, _||_, not}
+use mathlib.Core.List.{List, [], _∷_}
 use lib.ListN.{getD}
 use lib.Dec.{ltb, eqb}
 use Rattle.graph.specs.Every.{allBelow}
-use Rattle.molecule.specs.Record.{bit, cell}
+use Rattle.molecule.specs.Record.{bit, cell, bonded}
+use Rattle.molecule.specs.BondList.{Bond}
 
 -- a bit in row i and column j is within n, off the diagonal, and has its mirror image
 unfoldable pub mirrored : List ℕ → ℕ → ℕ → ℕ → Bool
@@ -19,3 +21,8 @@ byteSound rows n at = allBelow 8 (bitSound rows n at)
 
 unfoldable pub rowsSound : List ℕ → ℕ → Bool
 rowsSound rows n = allBelow 2048 (byteSound rows n)
+
+-- every pair of a list is a bond of the record
+unfoldable pub allBonded : ℕ → List ℕ → List Bond → Bool
+allBonded n rows [] = true
+allBonded n rows (x ∷ xs) = bonded n rows (x .0) (x .1) && allBonded n rows xs

@@ -2,7 +2,7 @@
 use Prim.Native.Nat.{ℕ, _+_, _-_, _*_, _/_, _%_, _^_}
 use mathlib.Core.Bool.{Bool, _&&_, _||_, not, Bool·beq}
 use mathlib.Core.List.{List, [], _∷_}
-use lib.ListN.{getD, replicate}
+use lib.ListN.{length, getD, replicate}
 use lib.Dec.{leb, ltb, eqb}
 use lib.Count.{ones}
 use Rattle.graph.specs.Every.{allBelow}
@@ -34,6 +34,10 @@ onesOf (x ∷ xs) = ones x + onesOf xs
 abbrev pub everyCell : (ℕ → ℕ → Bool) → Bool
 everyCell test = allBelow 128 (λ i. allBelow 128 (test i))
 
+-- For each of 128 atoms a row of 16 bytes
+unfoldable pub rowsOfBytes : List ℕ → Bool
+rowsOfBytes rows = eqb (length rows) 2048 && allBelow 2048 (λ at. ltb (getD rows at 0) 256)
+
 -- Rows are symmetric, no atom is bonded to itself, rows and bits beyond n are zero
 unfoldable pub symmetric : List ℕ → Bool
 symmetric rows = everyCell (λ i j. Bool·beq (cell rows i j) (cell rows j i))
@@ -44,11 +48,12 @@ loopless rows = allBelow 128 (λ i. not (cell rows i i))
 unfoldable pub within : ℕ → List ℕ → Bool
 within n rows = everyCell (λ i j. not (cell rows i j) || ltb i n && ltb j n)
 
--- Rule 9: n and m in the sheet's ranges, the rules of the rows, and the one bits number 2 × m
+-- Rule 9: n and m in the sheet's ranges, the rows and their rules, and the one bits number 2 × m
 unfoldable pub wellFormed : Molecule → Bool
 wellFormed mol =
     leb (mol .atoms) 128
     && leb (mol .bonds) 1024
+    && rowsOfBytes (mol .rows)
     && symmetric (mol .rows)
     && loopless (mol .rows)
     && within (mol .atoms) (mol .rows)

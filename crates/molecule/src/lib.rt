@@ -1,8 +1,9 @@
 // The molecule record of document 01 and its check, rule 9; rules 10 and 11 on the ends of a path.
 ghost use mathlib.Core.Path.{_≡_};
+ghost use mathlib.Core.Bool.{true};
 ghost use Prim.Native.Nat.{_+_, _*_, _/_, _%_, _<_};
 ghost use lib.ListN.{length};
-ghost use Rattle.molecule.specs.Record.{isAtom, cell, freshMolecule, onesOf, wellFormed};
+ghost use Rattle.molecule.specs.Record.{isAtom, cell, freshMolecule, onesOf, rowsOfBytes, wellFormed};
 ghost use Rattle.molecule.specs.Ends.{endsAnswer};
 ghost use Rattle.molecule.specs.Parts.{mirrored, bitSound, byteSound, rowsSound};
 use refusal::Answer;
@@ -123,7 +124,7 @@ fn rows_sound(rows: &[u8; 2048], n: usize) -> bool
 // How many bits of the rows are one.
 fn ones_of(rows: &[u8]) -> usize
     requires { ⌜ length (now rows) ≡ 2048 ⌝ }
-    ensures { λ r. ⌜ r ≡ onesOf (now (rows .entry)) ⌝ }
+    ensures { λ r. ⌜ (r ≡ onesOf (now (rows .entry))) × (rowsOfBytes (now (rows .entry)) ≡ true) ⌝ }
 {
     let mut sum: usize = 0;
     let mut i: usize = 0;

@@ -14,7 +14,7 @@ use Rattle.refusal.specs.declared.Refusal.{Refusal}
 use Rattle.refusal.specs.declared.Answer.the-variants.{Accepted}
 use Rattle.molecule.specs.declared.Molecule.{Molecule}
 use Rattle.molecule.specs.Record.{bonded, onesOf, wellFormed}
-use Rattle.molecule.proofs.Rules.{Sound, bytes-of-sound, rule-in-range}
+use Rattle.molecule.proofs.Rules.{rows-of-bytes, Sound, bytes-of-sound, rule-in-range}
 use Rattle.molecule.proofs.Bonds.{bonded-cell, bonded-facts}
 use Rattle.sheet.specs.declared.SheetAnswer.{SheetAnswer}
 use Rattle.sheet.specs.Bonds.{Bond, atomsKept, noneToItself, samePair, noneTwice, rowsOf}
@@ -154,8 +154,9 @@ module _ (n : ℕ) (bond : ℕ → Bond) (m : ℕ) (kept : Kept n bond m) where
   pub record-well-formed :
       m ≤ 1024 → noneTwice bond m ≡ true → wellFormed (record { atoms = n; bonds = m; rows = rowsOf bond m }) ≡ true
   record-well-formed light twice =
-      let bytes = bytes-of-sound (rowsOf bond m) n sound in
-      rule-in-range (record { atoms = n; bonds = m; rows = rowsOf bond m }) (kept .few) light true bytes
+      let kept-rows = bytes-of-sound (rowsOf bond m) n sound in
+      rule-in-range (record { atoms = n; bonds = m; rows = rowsOf bond m }) (kept .few) light
+      (rows-of-bytes (table .bytes)) kept-rows
       ∙ eq-eqb (onesOf (rowsOf bond m)) (2 * m) (table .ones-count twice)
 
 rules-kept : {s : List ℕ} → Rules s → Kept (atomsOf s) (bondOf s) (bondsOf s)

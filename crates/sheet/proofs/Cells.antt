@@ -12,13 +12,9 @@ use lib.Dec.{eqb}
 use lib.Count.{ones}
 use borrow.Author.Tests.{eq-eqb, ne-eqb}
 use Rattle.molecule.specs.Record.{bit, cell, onesOf}
+pub use Rattle.molecule.proofs.Rules.{Rows}
 use Rattle.sheet.specs.Bonds.{withBit, withCell}
 use Rattle.sheet.proofs.Bits.{with-bit, with-ones, with-below, bit-shift}
-
--- rows of 2,048 bytes
-pub record Rows (rows : List ℕ) : Type 0 where
-  pub size : length rows ≡ 2048
-  pub byte : (at : ℕ) → getD rows at 0 < 256
 
 -- the place of a cell's byte, and the byte
 abbrev place : ℕ → ℕ → ℕ

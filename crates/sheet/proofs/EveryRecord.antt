@@ -17,6 +17,7 @@ use Rattle.graph.proofs.Below.{clash, false-of, either, and-parts, and-both, sa
 use Rattle.refusal.specs.declared.Answer.the-variants.{Accepted}
 use Rattle.molecule.specs.declared.Molecule.{Molecule}
 use Rattle.molecule.specs.Record.{bit, cell, onesOf, wellFormed}
+use Rattle.molecule.specs.BondList.{pairOf, bondHere, bondsTo}
 use Rattle.molecule.proofs.Rules.{Mirror, Sound, sound-of-rules}
 use Rattle.molecule.proofs.Bonds.{rule9}
 use Rattle.sheet.specs.Bonds.{Bond, atomsKept, noneToItself, samePair, noneTwice, rowsOf}
@@ -68,51 +69,38 @@ same-rows a b ra rb e =
 
 -- ---- the bonds of rows
 
--- place p is row p / 128 and column p % 128; its two atoms
-abbrev pairOf : ℕ → Bond
-pairOf p = (suc (p / 128), suc (p % 128))
-
--- it is above the diagonal, and its bit is set
-unfoldable above : List ℕ → ℕ → Bool
-above rows p = ltb (p / 128) (p % 128) && cell rows (p / 128) (p % 128)
-
-above-parts :
-    (rows : List ℕ) (p : ℕ) → above rows p ≡ true → (p / 128 < p % 128) × (cell rows (p / 128) (p % 128) ≡ true)
-unfolding above
-above-parts rows p e =
+here-parts :
+    (rows : List ℕ) (p : ℕ) → bondHere rows p ≡ true → (p / 128 < p % 128) × (cell rows (p / 128) (p % 128) ≡ true)
+unfolding bondHere
+here-parts rows p e =
     let f = and-parts (ltb (p / 128) (p % 128)) (cell rows (p / 128) (p % 128)) e in
     (ltb-true (p / 128) (p % 128) (f .0), f .1)
 
-above-of : (rows : List ℕ) (i j : ℕ) → j < 128 → i < j → cell rows i j ≡ true → above rows (128 * i + j) ≡ true
-unfolding above
-above-of rows i j hj h e =
+here-of : (rows : List ℕ) (i j : ℕ) → j < 128 → i < j → cell rows i j ≡ true → bondHere rows (128 * i + j) ≡ true
+unfolding bondHere
+here-of rows i j hj h e =
     let row : (128 * i + j) / 128 ≡ i = omega arith in
     let column : (128 * i + j) % 128 ≡ j = omega arith in
     rw (row, column, lt-ltb i j h) e
 
 -- different places have different pairs
 pairs-differ :
-    (rows : List ℕ) (p k : ℕ) → p < k → above rows p ≡ true → above rows k ≡ true →
+    (rows : List ℕ) (p k : ℕ) → p < k → bondHere rows p ≡ true → bondHere rows k ≡ true →
     samePair (pairOf p) (pairOf k) ≡ false
 pairs-differ rows p k h e f =
-    let a = above-parts rows p e in
-    let b = above-parts rows k f in
+    let a = here-parts rows p e in
+    let b = here-parts rows k f in
     false-of (samePair (pairOf p) (pairOf k))
     (λ same. elim (same-pair-cases (pairOf p) (suc (k / 128)) (suc (k % 128)) same) [
       | inl (left, right) ↦ omega arith
       | inr (left, right) ↦ omega arith
     ])
 
--- the pairs of the first k places
-unfoldable bondsTo : List ℕ → ℕ → List Bond
-bondsTo rows zero = []
-bondsTo rows (suc k) = cond (above rows k) (bondsTo rows k ++ (pairOf k ∷ [])) (bondsTo rows k)
-
 -- a place below k that bond q is the pair of
 record PlaceOf (rows : List ℕ) (k : ℕ) (bonds : List Bond) (q : ℕ) : Type 0 where
   place : ℕ
   below : place < k
-  upper : above rows place ≡ true
+  upper : bondHere rows place ≡ true
   pair : bondAt bonds q ≡ pairOf place
 
 -- a bond that is the pair of place p
@@ -124,12 +112,12 @@ record BondOf (bonds : List Bond) (p : ℕ) : Type 0 where
 -- bonds are exactly those pairs, each once
 record Pairs (rows : List ℕ) (k : ℕ) (bonds : List Bond) : Type 0 where
   place-of : (q : ℕ) → q < length bonds → PlaceOf rows k bonds q
-  bond-of : (p : ℕ) → p < k → above rows p ≡ true → BondOf bonds p
+  bond-of : (p : ℕ) → p < k → bondHere rows p ≡ true → BondOf bonds p
   once : noneTwice (bondAt bonds) (length bonds) ≡ true
 
 module _ (rows : List ℕ) (k : ℕ) (bonds : List Bond) (f : Pairs rows k bonds) where
   -- place k has no bond
-  pairs-same : above rows k ≡ false → Pairs rows (suc k) bonds
+  pairs-same : bondHere rows k ≡ false → Pairs rows (suc k) bonds
   pairs-same none = record { place-of = place-of; bond-of = bond-of; once = f .once }
     where
       place-of : (q : ℕ) → q < length bonds → PlaceOf rows (suc k) bonds q
@@ -137,15 +125,15 @@ module _ (rows : List ℕ) (k : ℕ) (bonds : List Bond) (f : Pairs rows k bonds
           let old = f .place-of q h in
           record { place = old .place; below = omega (arith, old .below); upper = old .upper; pair = old .pair }
 
-      bond-of : (p : ℕ) → p < suc k → above rows p ≡ true → BondOf bonds p
+      bond-of : (p : ℕ) → p < suc k → bondHere rows p ≡ true → BondOf bonds p
       bond-of p h t =
           ⊎-elim
-          (λ (last : p ≡ k). absurd (clash (above rows p) t (ap (above rows) last ∙ none)))
+          (λ (last : p ≡ k). absurd (clash (bondHere rows p) t (ap (bondHere rows) last ∙ none)))
           (λ (before : p < k). f .bond-of p before t)
           (eq-or-lt-of-le (omega arith))
 
   -- it has one
-  module _ (e : above rows k ≡ true) where
+  module _ (e : bondHere rows k ≡ true) where
     abbrev longer : List Bond
     longer = bonds ++ (pairOf k ∷ [])
 
@@ -200,7 +188,7 @@ module _ (rows : List ℕ) (k : ℕ) (bonds : List Bond) (f : Pairs rows k bonds
             (λ (l : q < length bonds). old-place q l)
             (eq-or-lt-of-le (omega (arith, longer-length)))
 
-        old-bond : (p : ℕ) → p < k → above rows p ≡ true → BondOf longer p
+        old-bond : (p : ℕ) → p < k → bondHere rows p ≡ true → BondOf longer p
         old-bond p h t =
             let old = f .bond-of p h t in
             record {
@@ -209,7 +197,7 @@ module _ (rows : List ℕ) (k : ℕ) (bonds : List Bond) (f : Pairs rows k bonds
               pair = earlier (old .number) (old .inside) ∙ old .pair;
             }
 
-        bond-of : (p : ℕ) → p < suc k → above rows p ≡ true → BondOf longer p
+        bond-of : (p : ℕ) → p < suc k → bondHere rows p ≡ true → BondOf longer p
         bond-of p h t =
             ⊎-elim
             (λ (s : p ≡ k). record {
@@ -224,11 +212,11 @@ pairs-listed : (rows : List ℕ) (k : ℕ) → Pairs rows k (bondsTo rows k)
 unfolding bondsTo noneTwice
 pairs-listed rows zero =
     record { place-of = λ q h. absurd (omega arith); bond-of = λ p h t. absurd (omega arith); once = refl }
-pairs-listed rows (suc k) = go (pairs-listed rows k) (either (above rows k))
+pairs-listed rows (suc k) = go (pairs-listed rows k) (either (bondHere rows k))
   where
     go :
-        Pairs rows k (bondsTo rows k) → (above rows k ≡ true) ⊎ (above rows k ≡ false) →
-        Pairs rows (suc k) (cond (above rows k) (bondsTo rows k ++ (pairOf k ∷ [])) (bondsTo rows k))
+        Pairs rows k (bondsTo rows k) → (bondHere rows k ≡ true) ⊎ (bondHere rows k ≡ false) →
+        Pairs rows (suc k) (cond (bondHere rows k) (bondsTo rows k ++ (pairOf k ∷ [])) (bondsTo rows k))
     go f (inl t) = rw t (pairs-longer rows k (bondsTo rows k) f t)
     go f (inr e) = rw e (pairs-same rows k (bondsTo rows k) f e)
 
@@ -247,7 +235,7 @@ module _ {n : ℕ} {rows : List ℕ} {bonds : List Bond} (few : n ≤ 128) (byte
   unfolding Sound
   mirror q h =
       let at = f .place-of q h in
-      let upper = above-parts rows (at .place) (at .upper) in
+      let upper = here-parts rows (at .place) (at .upper) in
       sound (at .place / 128) (at .place % 128) (omega (arith, at .below)) (omega arith) (upper .1)
 
   -- bond q joins two different atoms
@@ -257,7 +245,7 @@ module _ {n : ℕ} {rows : List ℕ} {bonds : List Bond} (few : n ≤ 128) (byte
       (1 ≤ bond .0) × (bond .0 < bond .1) × (bond .1 ≤ n)
   joined q h =
       let at = f .place-of q h in
-      let upper = above-parts rows (at .place) (at .upper) in
+      let upper = here-parts rows (at .place) (at .upper) in
       rw (at .pair) (omega arith, omega arith, omega (arith, mirror q h .column-within))
 
   bonds-atoms : atomsKept n (bondAt bonds) total ≡ true
@@ -287,7 +275,7 @@ module _ {n : ℕ} {rows : List ℕ} {bonds : List Bond} (few : n ≤ 128) (byte
   -- a bit above the diagonal is a bond
   upper : (i j : ℕ) → i < j → j < 128 → cell rows i j ≡ true → (q : ℕ) × (q < total) × (bondAt bonds q ≡ (suc i, suc j))
   upper i j h hj e =
-      let bond = f .bond-of (128 * i + j) (omega arith) (above-of rows i j hj h e) in
+      let bond = f .bond-of (128 * i + j) (omega arith) (here-of rows i j hj h e) in
       let row : (128 * i + j) / 128 ≡ i = omega arith in
       let column : (128 * i + j) % 128 ≡ j = omega arith in
       (bond .number, bond .inside, bond .pair ∙ rw (row, column))
@@ -318,7 +306,7 @@ module _ {n : ℕ} {rows : List ℕ} {bonds : List Bond} (few : n ≤ 128) (byte
   cells-back i j hi hj (q, h, e) =
       let at = f .place-of q h in
       let p = at .place in
-      let upper = above-parts rows p (at .upper) in
+      let upper = here-parts rows p (at .upper) in
       let same : samePair (pairOf p) (suc i, suc j) ≡ true = rw (at .pair) at e in
       elim (same-pair-cases (pairOf p) (suc i) (suc j) same) [
         | inl (left, right) ↦
@@ -344,11 +332,11 @@ module _ {n : ℕ} {rows : List ℕ} {bonds : List Bond} (few : n ≤ 128) (byte
   ones-are : onesOf rows ≡ 2 * total
   ones-are = ap onesOf (sym rows-are) ∙ table .ones-count (f .once)
 
--- Every record that rule 9 allows, its rows 2,048 bytes as the struct has them, is read from a sheet
+-- Every record that rule 9 allows is read from a sheet
 pub every-record-has-a-sheet :
-    (mol : Molecule) → wellFormed mol ≡ true → length (mol .rows) ≡ 2048 → ((at : ℕ) → getD (mol .rows) at 0 < 256) →
+    (mol : Molecule) → wellFormed mol ≡ true →
     (s : List ℕ) × (readSheet s ≡ record { answer = Accepted; molecule = mol })
-every-record-has-a-sheet mol formed size byte =
+every-record-has-a-sheet mol formed =
     let rule = rule9 mol formed in
     let sound = sound-of-rules (mol .rows) (mol .atoms) (rule .rows-sound) in
     let ones-count = eqb-true (onesOf (mol .rows)) (2 * mol .bonds) (rule .ones-count) in
@@ -360,7 +348,7 @@ every-record-has-a-sheet mol formed size byte =
     blanks i = (false, false)
 
     bytes : Rows (mol .rows)
-    bytes = record { size = size; byte = byte }
+    bytes = rule9 mol formed .bytes
 
     go :
         (bonds : List Bond) → Pairs (mol .rows) 16384 bonds → mol .atoms ≤ 128 → mol .bonds ≤ 1024 →

@@ -7,9 +7,7 @@ use lib.ListN.{getD, set, replicate}
 use lib.Dec.{eqb}
 use Rattle.graph.specs.Every.{allBelow}
 use Rattle.molecule.specs.Record.{bit, isAtom}
-
-abbrev pub Bond : Type 0
-Bond = ℕ × ℕ
+pub use Rattle.molecule.specs.BondList.{Bond}
 
 -- Rule 6 kept by the first m bonds: both atoms are from 1 to n
 unfoldable pub atomsKept : ℕ → (ℕ → Bond) → ℕ → Bool

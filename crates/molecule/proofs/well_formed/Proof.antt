@@ -1,12 +1,11 @@
 -- Rule 9.
 -- The tests in their order are the definition's; the rows' rules are one law.
 use mathlib.Core.Path.{sym}
-use mathlib.Core.Bool.{true, false}
 use borrow.Author.Tests.{le-leb, lt-leb}
 use borrow.Author.Needs.{needs}
 use Rattle.molecule.specs.Record.{wellFormed}
 use Rattle.graph.proofs.Passed.{refuted, confirmed}
-use Rattle.molecule.proofs.Rules.{rule-in-range}
+use Rattle.molecule.proofs.Rules.{rows-broken, rule-in-range}
 use Rattle.molecule.proofs.well_formed.Statement.{statement}
 use Rattle.molecule.proofs.well_formed.Tie as tie
 
@@ -24,7 +23,7 @@ returns-3 c =
     let few-atoms : tie.Else1 = search in
     let few-bonds : tie.Else2 = search in
     let broken = refuted (c .before .rows-sound .ensures) (c .if3 .taken) in
-    sym (rule-in-range (start .args .m) (few-atoms .if1 .left) (few-bonds .if2 .left) false broken)
+    sym (rows-broken (start .args .m) (few-atoms .if1 .left) (few-bonds .if2 .left) broken)
 
 returns-4 : tie.Need-returns-4
 returns-4 c =
@@ -33,8 +32,8 @@ returns-4 c =
     let few-bonds : tie.Else2 = search in
     let rows : tie.Else3 = search in
     let sound = confirmed (rows .before .rows-sound .ensures) (rows .if3 .left) in
-    rw (c .ones-of .ensures)
-    (sym (rule-in-range (start .args .m) (few-atoms .if1 .left) (few-bonds .if2 .left) true sound))
+    rw (c .ones-of .ensures .0)
+    (sym (rule-in-range (start .args .m) (few-atoms .if1 .left) (few-bonds .if2 .left) (c .ones-of .ensures .1) sound))
 
 pub well-formed-spec : {M : Type 1} → statement M
 well-formed-spec =
