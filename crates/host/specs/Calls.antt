@@ -19,6 +19,7 @@ use Rattle.search.specs.Mark.{markText}
 use Rattle.history.specs.Calls.{Call, runs, saves, restores, Standing, start, History}
 use Rattle.history.specs.Demand.{Demand}
 use Rattle.history.specs.Resumed.{restoredStart, followers, FromMark}
+use Rattle.host.specs.Gate.{markRoom}
 use Rattle.host.specs.Resume.{Resumed, searchFor, resume, markSize, listedIn}
 
 -- A call from C, handed anything at all: a sheet, a mark, a budget, a ring output and a mark output
@@ -118,14 +119,14 @@ listOf R kind s t = members (familyOf R kind s t)
 
 -- ---- what holds after the calls
 
--- Calls handed the sheet of the record R and the mark as it stands, with 599 bytes for the next mark
+-- Calls handed the sheet of the record R and the mark as it stands, with 9,815 bytes for the next mark
 pub record HostGoesOn (sheet : List ℕ) (R : Molecule) (k : Kept) : Type 0 where
   -- are not refused
   pub call-accepted :
-      (c : HostCall) → c .sheet ≡ sheet → c .mark ≡ k .mark → 599 ≤ length (c .next) → isRefused c ≡ false
+      (c : HostCall) → c .sheet ≡ sheet → c .mark ≡ k .mark → markRoom ≤ length (c .next) → isRefused c ≡ false
   -- and with 2 × n × n trials and n + 1 bytes list a member, or return 101 or 102
   pub progress :
-      (c : HostCall) → c .sheet ≡ sheet → c .mark ≡ k .mark → 599 ≤ length (c .next) →
+      (c : HostCall) → c .sheet ≡ sheet → c .mark ≡ k .mark → markRoom ≤ length (c .next) →
       2 * R .atoms * R .atoms ≤ c .budget → R .atoms + 1 ≤ length (c .rings) →
       (listedIn (k .mark) < listedIn (keptAfter k c .mark)) ⊎ (returned c .number ≡ 101) ⊎ (returned c .number ≡ 102)
 

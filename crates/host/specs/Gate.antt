@@ -13,7 +13,11 @@ use Rattle.sheet.specs.Read.{readSheet}
 use Rattle.search.specs.declared.Search.{Search}
 use Rattle.search.specs.declared.Made.{Made}
 
--- The sheet is read (rules 1 to 8), a search is made on its record (by the rules of `make`), 599 bytes are asked for
+-- The bytes that a mark output has at least: those of the longest mark, 91 + 4 × 127 + 9 × 1,024 (document 02, F-5)
+abbrev pub markRoom : ℕ
+markRoom = 9815
+
+-- The sheet is read (rules 1 to 8), a search is made on its record (by the rules of `make`), so many bytes are asked for
 -- the mark output (13), and the call goes on
 unfoldable pub gated :
     {A : Type 0} → (Refusal → A) → List ℕ → (Molecule → Made) → List ℕ → (Molecule → Search → A) → A
@@ -22,4 +26,4 @@ gated refuse sheet make next goes =
     let made = make mol in
     unlessRefused (readSheet sheet .answer) refuse
     (unlessRefused (made .answer) refuse
-    (cond (leb 599 (length next)) (goes mol (made .search)) (refuse refusal.MarkRoom)))
+    (cond (leb markRoom (length next)) (goes mol (made .search)) (refuse refusal.MarkRoom)))

@@ -11,7 +11,7 @@ use Rattle.molecule.specs.declared.Molecule.{Molecule}
 use Rattle.search.specs.declared.Search.{Search}
 use Rattle.search.specs.declared.Made.{Made}
 use Rattle.search.specs.Entries.{startRings, runSearch, runOutput, endedNumber}
-use Rattle.search.specs.Mark.{fieldKept, valueAt, markLength, saveOutput, restoreMark}
+use Rattle.search.specs.Mark.{fieldKept, fieldsKept, valueAt, markBonds, markLength, saveOutput, restoreMark}
 use Rattle.host.specs.Gate.{gated}
 
 -- What the entry returns, and its two outputs after it
@@ -39,18 +39,21 @@ runAndSave mol q budget rings next =
     }
 
 -- The entry: it reads the sheet (rules 1 to 8), restores the mark
--- (14 to 17), asks 599 bytes for the next mark (13), runs and saves
+-- (14 to 17), asks 9,815 bytes for the next mark (13), runs and saves
 abbrev pub resume : List ℕ → List ℕ → ℕ → List ℕ → List ℕ → Resumed
 resume sheet mark budget rings next =
     gated (λ r. refusedCall r rings next) sheet (λ mol. searchFor mol mark) next
     (λ mol q. runAndSave mol q budget rings next)
 
--- The bytes of the mark at the start of a buffer, by the length of p in its sixth field; 0 where
--- that is no field of a mark (one that zeros fill is none), or the buffer has fewer bytes
+-- the bytes of a mark, by the bonds in its fifth field and the length of p in its sixth
+abbrev pub namedSize : List ℕ → ℕ
+namedSize bytes = 91 + 4 * markLength bytes + 9 * markBonds bytes
+
+-- The bytes of the mark at the start of a buffer; 0 where one of the two
+-- is no field of a mark (one that zeros fill is none), or the buffer has fewer bytes
 unfoldable pub markSize : List ℕ → ℕ
 markSize bytes =
-    cond (leb 91 (length bytes) && fieldKept 4 bytes 20 && leb (91 + 4 * markLength bytes) (length bytes))
-    (91 + 4 * markLength bytes) 0
+    cond (leb 91 (length bytes) && fieldsKept 4 bytes 16 2 && leb (namedSize bytes) (length bytes)) (namedSize bytes) 0
 
 -- The listed count of a mark; 0 where there is none, as in no bytes or in a field that zeros fill
 unfoldable pub listedIn : List ℕ → ℕ

@@ -25,7 +25,7 @@ abbrev pub wroteMark : Molecule → Search → List ℕ → Started
 wroteMark mol q next = record { number = 0; nextMark = markText mol q ++ drop (length (markText mol q)) next }
 
 -- The entry: it reads the sheet (rules 1 to 8), starts a search of the kind, s and t on it (16, then 10 and 11 of paths
--- and shortest paths, kinds 1 and 3, or 21 of rings up to a size), asks 599 bytes for the mark (13), and writes it
+-- and shortest paths, kinds 1 and 3, or 21 of rings up to a size), asks 9,815 bytes for the mark (13), and writes it
 abbrev pub startMark : List ℕ → ℕ → ℕ → ℕ → List ℕ → Started
 startMark sheet kind s t next =
     gated (λ r. refusedStart r next) sheet (λ mol. startSearch mol kind s t) next (λ mol q. wroteMark mol q next)

@@ -1,3 +1,4 @@
 pub mod Place
 pub mod Entries
 pub mod Mark
+pub mod OldMark
