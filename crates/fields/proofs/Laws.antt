@@ -1,7 +1,7 @@
 -- The laws of a number field: every number that fits has a text in either filling, each reads back as that number
 -- with the right report, and an accepted field is one of the two, as the report says. By the laws of each filling.
 use Prim.Native.Nat.{ℕ, zero, suc, _+_, _-_, _*_, _/_, _%_, _^_, _≤_, _<_}
-use native.Mathlib.Nat.{pow-suc, zero-add}
+use native.Mathlib.Nat.{pow-suc, one-le-pow, zero-add}
 use native.Mathlib.Numerals.{one-add}
 use native.Mathlib.Decide.{decLt}
 use native.Mathlib.Omega.{arith}
@@ -9,12 +9,15 @@ use mathlib.Core.Path.{_≡_, refl, ap, sym, _∙_}
 use mathlib.Core.Bool.{Bool, true, false, cond, true≢false}
 use mathlib.Core.List.{List, [], _∷_, append-nil}
 use mathlib.Core.Logic.{inl, inr}
-use lib.ListN.{length, length-append}
+use lib.ListN.{length, take, drop, length-append, length-drop}
+use lib.Seq.{length-take-le}
 use lib.Dec.{leb, ltb, eqb}
 use borrow.Author.Tests.{lt-ltb, le-ltb, leb-true, eqb-true}
+use Rattle.fields.specs.declared.Number.{Number}
 use Rattle.fields.specs.declared.Number.the-variants.{Value, Bad}
 use Rattle.fields.specs.Field.{limit, isDigit, digits, afterBlanks, zeroFirst, readField, columns}
-use Rattle.fields.specs.Field.{fieldText, zeroText, filledText, isValue, valueOf, Refilled}
+use Rattle.fields.specs.Field.{fieldText, zeroText, filledText, isValue, fieldAt, valueOf, valueAt}
+use Rattle.fields.specs.Field.{Refilled}
 use Rattle.fields.proofs.Digits.{passed, both, digits-below, digits-limit, digits-report, zero-whole}
 use Rattle.fields.proofs.Blanks.{text-read, after-blanks}
 use Rattle.fields.proofs.Zeros.{zeros-digits, zeros-lead, zeros-written, columns-whole, texts-agree}
@@ -91,6 +94,17 @@ module _ (bs : List ℕ) (v : ℕ) (zeros : Bool) (reads : readField bs ≡ Valu
           let (rest, is) = first-byte bs first in
           let read = sym (zero-begins rest) ∙ ap readField (sym is) ∙ e in
           is ∙ zeros-written rest v read ∙ ap (λ (l : List ℕ). zeroText (length l) v) (sym is)
+
+-- The value of a field within some bytes fits its columns
+pub value-fits : (c : ℕ) (bytes : List ℕ) (at : ℕ) → at + c ≤ length bytes → valueAt c bytes at < 10 ^ c
+value-fits c bytes at room = go (fieldAt c bytes at) refl
+  where
+    size : length (take c (drop at bytes)) ≡ c
+    size = length-take-le c (drop at bytes) (rw length-drop (omega arith))
+
+    go : (x : Number) → fieldAt c bytes at ≡ x → valueOf x < 10 ^ c
+    go (Value v zeros) e = rw size at (read-fits (take c (drop at bytes)) v zeros e .0)
+    go Bad e = one-le-pow c 10 (omega arith)
 
 -- ---- each text of a number reads back
 

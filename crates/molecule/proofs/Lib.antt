@@ -2,3 +2,9 @@ pub mod Bonds
 pub mod Checks
 pub mod Rules
 pub mod Ends
+pub mod BondOrder
+pub mod BondWithin
+pub mod Sums
+pub mod Bits
+pub mod BondCount
+pub mod BondLaws

@@ -1,26 +1,17 @@
 -- A byte with one bit set: which bits it has, how many, and that it is still a byte.
 -- By halving: bit k + 1 of a number is bit k of its half.
 use Prim.Native.Nat.{ℕ, zero, suc, _+_, _*_, _/_, _%_, _^_, _<_}
-use native.Mathlib.Nat.{pow-suc, pow-zero, div-one, div-div-eq-div-mul, mul-comm, one-mul}
+use native.Mathlib.Nat.{pow-suc, one-mul}
 use native.Mathlib.Omega.{arith}
-use mathlib.Core.Path.{_≡_, refl, ap, sym, _∙_}
+use mathlib.Core.Path.{_≡_, refl, sym, _∙_}
 use mathlib.Core.Bool.{Bool, true, false, _||_, cond, or-false, or-true}
 use lib.Dec.{eqb, eqb·suc-suc, eqb·zero-suc, eqb·suc-zero}
 use lib.Pow.{shl-exact}
 use lib.Count.{ones, ones-step}
 use borrow.Author.Tests.{eq-eqb, ne-eqb, eqb-false}
 use Rattle.molecule.specs.Record.{bit}
+use Rattle.molecule.proofs.Bits.{bit-half, bit-first}
 use Rattle.sheet.specs.Bonds.{withBit}
-
--- bits of a number and of its half
-half-shift : (x k : ℕ) → x / 2 ^ suc k ≡ x / 2 / 2 ^ k
-half-shift x k = ap (λ p. x / p) (pow-suc 2 k ∙ mul-comm (2 ^ k) 2) ∙ sym (div-div-eq-div-mul x 2 (2 ^ k))
-
-pub bit-half : (x k : ℕ) → bit x (suc k) ≡ bit (x / 2) k
-bit-half x k = ap (λ y. eqb (y % 2) 1) (half-shift x k)
-
-pub bit-first : (x : ℕ) → bit x 0 ≡ eqb (x % 2) 1
-bit-first x = ap (λ y. eqb (y % 2) 1) (ap (λ p. x / p) (pow-zero 2) ∙ div-one x)
 
 -- a number with a bit set, by its half: the first bit, and a later one
 abbrev odd : ℕ → ℕ

@@ -1,29 +1,31 @@
 -- Every record that rule 9 allows is read from some sheet.
 -- Its bonds, one for each bit above the diagonal, keep the rules of a sheet; their
 -- rows have the same bits as the record's, and so the same bytes and as many ones.
-use Prim.Native.Nat.{ℕ, zero, suc, _+_, _*_, _/_, _%_, _^_, _≤_, _<_}
+use Prim.Native.Nat.{ℕ, zero, suc, _+_, _*_, _/_, _%_, _≤_, _<_}
 use native.Mathlib.Decide.{decLt}
-use native.Mathlib.Nat.{pow-suc, pow-zero, eq-or-lt-of-le}
+use native.Mathlib.Nat.{eq-or-lt-of-le}
 use native.Mathlib.Omega.{arith}
 use mathlib.Core.Path.{_≡_, refl, ap, ap₂, sym, _∙_}
-use mathlib.Core.Bool.{Bool, true, false, _&&_, not, cond, or-true}
+use mathlib.Core.Bool.{true, false, _&&_, not, cond, or-true}
 use mathlib.Core.List.{List, [], _∷_, _++_}
 use mathlib.Core.Logic.{_⊎_, inl, inr, ⊎-elim}
-use lib.ListN.{length, getD, length-append, List·getD-append}
-use lib.Seq.{ext-getD, getD-append-seam}
-use lib.Dec.{ltb, eqb}
-use borrow.Author.Tests.{lt-ltb, ltb-true, eq-eqb, eqb-true, eqb-false, ne-eqb, le-leb}
-use Rattle.graph.proofs.Below.{clash, false-of, either, and-parts, and-both, same-test, not-of, allBelow-of}
+use lib.ListN.{length, length-append, List·getD-append}
+use lib.Seq.{getD-append-seam}
+use lib.Dec.{eqb}
+use borrow.Author.Tests.{lt-ltb, eq-eqb, ne-eqb, le-leb}
+use Rattle.graph.proofs.Below.{clash, false-of, either, and-both, same-test, not-of, allBelow-of}
 use Rattle.refusal.specs.declared.Answer.the-variants.{Accepted}
 use Rattle.molecule.specs.declared.Molecule.{Molecule}
-use Rattle.molecule.specs.Record.{bit, cell, onesOf, wellFormed}
-use Rattle.molecule.specs.BondList.{pairOf, bondHere, bondsTo}
+use Rattle.molecule.specs.Record.{cell, wellFormed}
+use Rattle.molecule.specs.BondList.{pairOf, bondHere, bondsTo, bondList}
 use Rattle.molecule.proofs.Rules.{Mirror, Sound, sound-of-rules}
 use Rattle.molecule.proofs.Bonds.{rule9}
+use Rattle.molecule.proofs.Bits.{same-rows}
+use Rattle.molecule.proofs.BondOrder.{here-parts}
+use Rattle.molecule.proofs.BondCount.{bonds-count}
 use Rattle.sheet.specs.Bonds.{Bond, atomsKept, noneToItself, samePair, noneTwice, rowsOf}
 use Rattle.sheet.specs.Read.{readSheet}
 use Rattle.sheet.specs.Text.{Fillings, sheetText, bondAt}
-use Rattle.sheet.proofs.Bits.{bit-half, bit-first}
 use Rattle.sheet.proofs.Cells.{Rows}
 use Rattle.sheet.proofs.Stored.{within, differs, atoms-kept-is, none-to-itself-is}
 use Rattle.sheet.proofs.Same.{twice-same}
@@ -31,50 +33,7 @@ use Rattle.sheet.proofs.Tables.{Joins, Table, kept-of, isNew, tables}
 use Rattle.sheet.proofs.Accepted.{same-pair-cases}
 use Rattle.sheet.proofs.Complete.{every-molecule-has-a-sheet}
 
--- ---- rows are told by their bits
-
-same-digit : (p q : ℕ) → p < 2 → q < 2 → eqb p 1 ≡ eqb q 1 → p ≡ q
-same-digit p q hp hq e = go (either (eqb p 1))
-  where
-    go : (eqb p 1 ≡ true) ⊎ (eqb p 1 ≡ false) → p ≡ q
-    go (inl t) = eqb-true p 1 t ∙ sym (eqb-true q 1 (sym e ∙ t))
-    go (inr f) = let a = eqb-false p 1 f in let b = eqb-false q 1 (sym e ∙ f) in omega arith
-
-same-bits : (w x y : ℕ) → x < 2 ^ w → y < 2 ^ w → ((k : ℕ) → k < w → bit x k ≡ bit y k) → x ≡ y
-same-bits zero x y hx hy e = omega (arith, pow-zero 2)
-same-bits (suc w) x y hx hy e =
-    let p = pow-suc 2 w in
-    let first = sym (bit-first x) ∙ e 0 (omega arith) ∙ bit-first y in
-    let digits = same-digit (x % 2) (y % 2) (omega arith) (omega arith) first in
-    let halves = same-bits w (x / 2) (y / 2) (omega arith) (omega arith) half-bits in
-    omega (arith, digits, halves)
-  where
-    half-bits : (k : ℕ) → k < w → bit (x / 2) k ≡ bit (y / 2) k
-    half-bits k h = sym (bit-half x k) ∙ e (suc k) (omega arith) ∙ bit-half y k
-
-same-rows : (a b : List ℕ) → Rows a → Rows b → ((i j : ℕ) → i < 128 → j < 128 → cell a i j ≡ cell b i j) → a ≡ b
-unfolding cell
-same-rows a b ra rb e =
-    ext-getD 0 a b (ra .size ∙ sym (rb .size)) (λ at h. same-byte at (omega (arith, ra .size)))
-  where
-    here : (at k : ℕ) → at < 2048 → k < 8 → bit (getD a at 0) k ≡ bit (getD b at 0) k
-    here at k place offset =
-        let same-place : 16 * (at / 16) + (at % 16 * 8 + k) / 8 ≡ at = omega arith in
-        let same-bit : (at % 16 * 8 + k) % 8 ≡ k = omega arith in
-        rw (same-place, same-bit) at (e (at / 16) (at % 16 * 8 + k) (omega arith) (omega arith))
-
-    same-byte : (at : ℕ) → at < 2048 → getD a at 0 ≡ getD b at 0
-    same-byte at place =
-        same-bits 8 (getD a at 0) (getD b at 0) (ra .byte at) (rb .byte at) (λ k l. here at k place l)
-
 -- ---- the bonds of rows
-
-here-parts :
-    (rows : List ℕ) (p : ℕ) → bondHere rows p ≡ true → (p / 128 < p % 128) × (cell rows (p / 128) (p % 128) ≡ true)
-unfolding bondHere
-here-parts rows p e =
-    let f = and-parts (ltb (p / 128) (p % 128)) (cell rows (p / 128) (p % 128)) e in
-    (ltb-true (p / 128) (p % 128) (f .0), f .1)
 
 here-of : (rows : List ℕ) (i j : ℕ) → j < 128 → i < j → cell rows i j ≡ true → bondHere rows (128 * i + j) ≡ true
 unfolding bondHere
@@ -328,35 +287,26 @@ module _ {n : ℕ} {rows : List ℕ} {bonds : List Bond} (few : n ≤ 128) (byte
           (λ t. cells-back i j hi hj (table .cells i j hi hj .0 t))
           (λ t. table .cells i j hi hj .1 (cells-there i j hi hj t))
 
-  -- two ones for each of them
-  ones-are : onesOf rows ≡ 2 * total
-  ones-are = ap onesOf (sym rows-are) ∙ table .ones-count (f .once)
-
 -- Every record that rule 9 allows is read from a sheet
 pub every-record-has-a-sheet :
     (mol : Molecule) → wellFormed mol ≡ true →
     (s : List ℕ) × (readSheet s ≡ record { answer = Accepted; molecule = mol })
+unfolding bondList
 every-record-has-a-sheet mol formed =
     let rule = rule9 mol formed in
     let sound = sound-of-rules (mol .rows) (mol .atoms) (rule .rows-sound) in
-    let ones-count = eqb-true (onesOf (mol .rows)) (2 * mol .bonds) (rule .ones-count) in
-    let listed = pairs-listed (mol .rows) 16384 in
-    go (bondsTo (mol .rows) 16384) listed (rule .atoms-high) (rule .bonds-high) sound ones-count
+    go (bondList (mol .rows)) (pairs-listed (mol .rows) 16384) (bonds-count mol formed) (rule .atoms-high)
+    (rule .bonds-high) (rule .bytes) sound
   where
     -- blanks fill every field
     blanks : Fillings
     blanks i = (false, false)
 
-    bytes : Rows (mol .rows)
-    bytes = rule9 mol formed .bytes
-
     go :
-        (bonds : List Bond) → Pairs (mol .rows) 16384 bonds → mol .atoms ≤ 128 → mol .bonds ≤ 1024 →
-        Sound (mol .rows) (mol .atoms) → onesOf (mol .rows) ≡ 2 * mol .bonds →
+        (bonds : List Bond) → Pairs (mol .rows) 16384 bonds → length bonds ≡ mol .bonds → mol .atoms ≤ 128 →
+        mol .bonds ≤ 1024 → Rows (mol .rows) → Sound (mol .rows) (mol .atoms) →
         (s : List ℕ) × (readSheet s ≡ record { answer = Accepted; molecule = mol })
-    go bonds f few light sound ones-count =
-        let ones = ones-are few bytes sound f in
-        let as-many : length bonds ≡ mol .bonds = omega (arith, ones) in
+    go bonds f as-many few light bytes sound =
         let same : rowsOf (bondAt bonds) (length bonds) ≡ mol .rows = rows-are few bytes sound f in
         let atoms = bonds-atoms few bytes sound f in
         let apart = bonds-apart few bytes sound f in
