@@ -1,6 +1,6 @@
 -- A line of the table holds when what it names computes: on the record of an accepted sheet no entry turns it back.
 -- Rule 9 is a law of accepted sheets, rule 12 one of fresh searches and of runs; the mark of such a search restores it.
-use Prim.Native.Nat.{ℕ, _≤_}
+use Prim.Native.Nat.{ℕ, _*_, _≤_}
 use mathlib.Core.Path.{_≡_, sym, ap, ap₂, subst, _∙_}
 use mathlib.Core.Bool.{true}
 use mathlib.Core.List.{List, [], _∷_, _++_}
@@ -12,6 +12,8 @@ use Rattle.enumeration.proofs.Theorems.{run-keeps-valid}
 use Rattle.refusal.specs.declared.Answer.the-variants.{Accepted}
 use Rattle.molecule.specs.declared.Molecule.{Molecule}
 use Rattle.molecule.specs.Record.{wellFormed}
+use Rattle.molecule.specs.BondList.{Bond, bondsTo}
+use Rattle.molecule.proofs.BondLaws.{bonds-within}
 use Rattle.sheet.specs.Read.{readSheet}
 use Rattle.sheet.proofs.Accepted.{accepted-well-formed}
 use Rattle.search.specs.declared.Search.{Search}
@@ -19,7 +21,7 @@ use Rattle.search.specs.declared.Ran.{Ran}
 use Rattle.search.specs.declared.Saved.the-variants.{Written}
 use Rattle.search.specs.Place.{familyOf, family, stateOf, searchAt, kindKept, restorable}
 use Rattle.search.specs.Entries.{acceptedSearch, outcome, ran, runSearch, runOutput}
-use Rattle.search.specs.Mark.{markText, saveOutput, restoreMark}
+use Rattle.search.specs.Mark.{threeLines, bondLines, markText, saveOutput, restoreMark}
 use Rattle.search.proofs.Readings.{family-lawful}
 use Rattle.search.proofs.Views.{restorable-valid, valid-full, fresh-restorable, run-restorable}
 use Rattle.search.proofs.MarkLaws.{saved-restores, save-writes}
@@ -69,13 +71,21 @@ module _ (R : Molecule) (good : wellFormed R ≡ true) where
 abbrev pub entered : Line → Outcome → Ran × List ℕ
 entered l o = (ran (freshOf l) o, o .bytes ++ drop (length (o .bytes)) (l .output))
 
+-- the mark of a search by the cells of the first n rows, past which there is no bond
+unfoldable pub markIn : Molecule → Search → List ℕ
+markIn R q = threeLines R q ++ bondLines (bondsTo (R .rows) (128 * R .atoms))
+
+mark-within : (R : Molecule) (q : Search) → wellFormed R ≡ true → markText R q ≡ markIn R q
+unfolding markText markIn
+mark-within R q good = ap (λ (xs : List Bond). threeLines R q ++ bondLines xs) (sym (bonds-within R good))
+
 -- What a line says where nothing is turned back: both sides of every equation compute
 pub record Computed (l : Line) : Type 0 where
   pub reads : readSheet (l .sheet) .answer ≡ Accepted
   pub kinds : kindKept (moleculeOf l .atoms) (l .kind) (l .s) (l .t) ≡ true
   pub lists : members (familyOf (moleculeOf l) (l .kind) (l .s) (l .t)) ≡ l .list
   pub runs : entered l (outcome (moleculeOf l) (freshOf l) (l .budget) (l .output)) ≡ (l .returned, l .written)
-  pub marks : markText (moleculeOf l) (l .returned .search) ≡ l .mark
+  pub marks : markIn (moleculeOf l) (l .returned .search) ≡ l .mark
   pub measures : length (l .mark) ≡ l .size
 
 module _ (l : Line) (c : Computed l) where
@@ -114,13 +124,16 @@ module _ (l : Line) (c : Computed l) where
       subst (λ (r : Ran). restoreMark R (markText R (r .search)) ≡ acceptedSearch (r .search)) returned-is
       (run-restores R good q fresh-kept (l .budget) (l .output))
 
+  mark-is : markText R after ≡ l .mark
+  mark-is = mark-within R after good ∙ c .marks
+
   mark-size : length (markText R after) ≡ l .size
-  mark-size = ap length (c .marks) ∙ c .measures
+  mark-size = ap length mark-is ∙ c .measures
 
   line-saves : (buffer : List ℕ) → l .size ≤ length buffer → Saves l buffer
   line-saves buffer room =
       let fits : length (markText R after) ≤ length buffer = rw mark-size room in
-      let stays = ap₂ (λ (m : List ℕ) (k : ℕ). m ++ drop k buffer) (c .marks) mark-size in
+      let stays = ap₂ (λ (m : List ℕ) (k : ℕ). m ++ drop k buffer) mark-is mark-size in
       record {
         answers = save-writes R after buffer good returned-kept fits ∙ ap Written mark-size;
         leaves = save-leaves R good after buffer returned-kept fits ∙ stays;
@@ -134,10 +147,10 @@ module _ (l : Line) (c : Computed l) where
         lists = c .lists;
         returns = run-answers R good q fresh-kept (l .budget) (l .output) ∙ returned-is;
         writes = run-leaves R good q fresh-kept (l .budget) (l .output) ∙ written-is;
-        marks = c .marks;
+        marks = mark-is;
         measures = c .measures;
         saves = line-saves;
-        restores = ap (restoreMark R) (sym (c .marks)) ∙ returned-restores;
+        restores = ap (restoreMark R) (sym mark-is) ∙ returned-restores;
       }
 
 abbrev pub AllComputed : List Line → Type 0

@@ -88,9 +88,9 @@ ends stop q used = record { ended = Stopped stop; search = q; used = used; made 
 abbrev pub old : ℕ → List ℕ
 old k = replicate k 255
 
--- the three lines of a mark
-abbrev pub markOf : String → String → String → List ℕ
-markOf place counts atoms = text (place ∷ counts ∷ atoms ∷ [])
+-- the three lines of a mark and its bond lines
+abbrev pub markOf : String → String → String → List String → List ℕ
+markOf place counts atoms bonds = text (place ∷ counts ∷ atoms ∷ bonds)
 
 -- A run of the fresh search: sheet, kind, s, t, list; budget, output bytes; what it returns, output, mark and length
 abbrev pub freshRun : List ℕ → ℕ → ℕ → ℕ → List (List ℕ) → ℕ → ℕ → Ran → List ℕ → List ℕ → ℕ → Line
@@ -109,19 +109,24 @@ freshRun sheet kind s t list budget room returned written mark size =
       size = size;
     }
 
--- A search to its end, with a budget and an output to spare: list; listed, extensions, trials; two lines of its mark
-abbrev pub whole : List ℕ → ℕ → ℕ → ℕ → List (List ℕ) → ℕ → ℕ → ℕ → String → String → Line
-whole sheet kind s t list listed extensions trials place counts =
+-- A search to its end, with a budget and an output to spare: list; listed, extensions, trials; two lines of its mark,
+-- its bond lines, and its length
+abbrev pub whole : List ℕ → ℕ → ℕ → ℕ → List (List ℕ) → ℕ → ℕ → ℕ → String → String → List String → ℕ → Line
+whole sheet kind s t list listed extensions trials place counts bonds =
     let bytes = records list in
     let done = searchWith kind s t [] (suc (atomsOf sheet)) listed extensions trials in
     freshRun sheet kind s t list (suc trials) 20 (ends Done done (length bytes)) (bytes ++ old (20 - length bytes))
-    (markOf place counts "") 91
+    (markOf place counts "" bonds)
 
-abbrev pub wholeRings : List ℕ → List (List ℕ) → ℕ → ℕ → ℕ → String → String → Line
+abbrev pub wholeRings : List ℕ → List (List ℕ) → ℕ → ℕ → ℕ → String → String → List String → ℕ → Line
 wholeRings sheet = whole sheet 0 0 0
 
-abbrev pub wholePaths : List ℕ → ℕ → ℕ → List (List ℕ) → ℕ → ℕ → ℕ → String → String → Line
+abbrev pub wholePaths : List ℕ → ℕ → ℕ → List (List ℕ) → ℕ → ℕ → ℕ → String → String → List String → ℕ → Line
 wholePaths sheet s t = whole sheet 1 s t
+
+-- the bond lines of a mark on the paper's sheet: lower atom first, in dictionary order
+abbrev pub sheetBonds : List String
+sheetBonds = "   1   2" ∷ "   1   3" ∷ "   1   4" ∷ "   2   3" ∷ "   3   4" ∷ []
 
 -- the rings of the paper's sheet
 abbrev pub sheetRings : List (List ℕ)
@@ -138,6 +143,7 @@ sheetMark =
     "   0   0   0   4   5   2   3"
     "                   5                   2                   0"
     "   1   2"
+    sheetBonds
 
 -- The starred lines of "Reference molecules", each to its end: the list; listed, extensions, trials; its mark.
 -- Then the four fresh ring runs on the paper's sheet: budget, output bytes; stop, the search with kind, s, t, p, c,
@@ -147,34 +153,42 @@ table =
     -- no atoms
     wholeRings noAtoms [] 0 0 0
     "   0   0   0   0   0   0   1" "                   0                   0                   0"
+    [] 91
     -- chain of 3
     ∷ wholeRings chain [] 0 0 3
     "   0   0   0   3   2   0   4" "                   3                   0                   0"
+    ("   1   2" ∷ "   2   3" ∷ []) 109
     -- five-ring
     ∷ wholeRings fiveRing ((1 ∷ 2 ∷ 3 ∷ 4 ∷ 5 ∷ []) ∷ []) 1 4 25
     "   0   0   0   5   5   0   6" "                  25                   4                   1"
+    ("   1   2" ∷ "   1   5" ∷ "   2   3" ∷ "   3   4" ∷ "   4   5" ∷ []) 136
     -- four atoms all bonded
     ∷ wholeRings allBonded ((1 ∷ 2 ∷ 3 ∷ []) ∷ (1 ∷ 2 ∷ 4 ∷ []) ∷ (1 ∷ 3 ∷ 4 ∷ []) ∷ (2 ∷ 3 ∷ 4 ∷ []) ∷ []) 4 5 24
     "   0   0   0   4   6   0   5" "                  24                   5                   4"
+    ("   1   2" ∷ "   1   3" ∷ "   1   4" ∷ "   2   3" ∷ "   2   4" ∷ "   3   4" ∷ []) 145
     -- the sheet of document 01
     ∷ wholeRings paperSheet sheetRings 2 3 16
     "   0   0   0   4   5   0   5" "                  16                   3                   2"
+    sheetBonds 136
     -- bonds from 1 and 2 to each of 3, 4, 5
     ∷ wholeRings twoToThree ((1 ∷ 3 ∷ 2 ∷ 4 ∷ []) ∷ (1 ∷ 3 ∷ 2 ∷ 5 ∷ []) ∷ (1 ∷ 4 ∷ 2 ∷ 5 ∷ []) ∷ []) 3 5 30
     "   0   0   0   5   6   0   6" "                  30                   5                   3"
+    ("   1   3" ∷ "   1   4" ∷ "   1   5" ∷ "   2   3" ∷ "   2   4" ∷ "   2   5" ∷ []) 145
     -- paths in the paper's sheet, 2 to 4 and 1 to 3
     ∷ wholePaths paperSheet 2 4 ((2 ∷ 1 ∷ 4 ∷ []) ∷ (2 ∷ 3 ∷ 4 ∷ []) ∷ []) 2 3 16
     "   1   2   4   4   5   0   5" "                  16                   3                   2"
+    sheetBonds 136
     ∷ wholePaths paperSheet 1 3 ((1 ∷ 3 ∷ []) ∷ []) 1 1 8
     "   1   1   3   4   5   0   5" "                   8                   1                   1"
+    sheetBonds 136
     -- budget 5 ends spent
-    ∷ sheetRun 5 3 (ends Spent (searchWith 0 0 0 (1 ∷ 2 ∷ []) 3 0 2 5) 0) (255 ∷ 255 ∷ 255 ∷ []) sheetMark 99
-    -- budget 6 ends full after 5 trials, p = 1 2, c = 3, mark 99 bytes
-    ∷ sheetRun 6 3 (ends Full (searchWith 0 0 0 (1 ∷ 2 ∷ []) 3 0 2 5) 0) (255 ∷ 255 ∷ 255 ∷ []) sheetMark 99
+    ∷ sheetRun 5 3 (ends Spent (searchWith 0 0 0 (1 ∷ 2 ∷ []) 3 0 2 5) 0) (255 ∷ 255 ∷ 255 ∷ []) sheetMark 144
+    -- budget 6 ends full after 5 trials, p = 1 2, c = 3, mark 144 bytes (document 02, F-5)
+    ∷ sheetRun 6 3 (ends Full (searchWith 0 0 0 (1 ∷ 2 ∷ []) 3 0 2 5) 0) (255 ∷ 255 ∷ 255 ∷ []) sheetMark 144
     -- budget 0 ends spent
     ∷ sheetRun 0 3 (ends Spent (searchWith 0 0 0 [] 1 0 0 0) 0) (255 ∷ 255 ∷ 255 ∷ [])
-    (markOf "   0   0   0   4   5   0   1" "                   0                   0                   0" "") 91
+    (markOf "   0   0   0   4   5   0   1" "                   0                   0                   0" "" sheetBonds) 136
     -- budget 16 with 8 bytes ends done
     ∷ sheetRun 16 8 (ends Done (searchWith 0 0 0 [] 5 2 3 16) 8) (3 ∷ 1 ∷ 2 ∷ 3 ∷ 3 ∷ 1 ∷ 3 ∷ 4 ∷ [])
-    (markOf "   0   0   0   4   5   0   5" "                  16                   3                   2" "") 91
+    (markOf "   0   0   0   4   5   0   5" "                  16                   3                   2" "" sheetBonds) 136
     ∷ []

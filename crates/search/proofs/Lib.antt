@@ -1,8 +1,12 @@
 pub mod Text
 pub mod Readings
 pub mod Views
+pub mod BondLines
 pub mod Lines
 pub mod Restores
+pub mod Named
 pub mod MarkLaws
+pub mod Belonging
+pub mod OldMarkLaws
 pub mod Starts
 pub mod Accepts

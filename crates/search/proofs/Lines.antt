@@ -1,19 +1,19 @@
--- Rule 14 is kept exactly by three lines of fields that a mark may have, the sixth of which counts those of line 3.
+-- Rule 14 as plain facts: three lines of fields, the sixth counting those of line 3, and so many bytes for each bond.
 -- Along the bytes from front to back: what stands past each line is known from what stands past the one before it.
-use Prim.Native.Nat.{ℕ, suc, _+_, _*_, _≤_, _<_}
-use native.Mathlib.Nat.{add-zero}
+use Prim.Native.Nat.{ℕ, _+_, _*_, _≤_}
 use native.Mathlib.Omega.{arith}
 use mathlib.Core.Path.{_≡_, refl, ap, sym, _∙_}
 use mathlib.Core.Bool.{Bool, true, _&&_}
 use mathlib.Core.List.{List, [], _∷_, _++_, append-assoc}
-use lib.ListN.{length, getD, drop, length-append, drop-of-length-le}
-use lib.Seq.{drop-at, drop-drop, drop-cons, getD-drop}
+use lib.ListN.{length, getD, drop, length-append}
 use lib.Dec.{leb, eqb}
 use borrow.Author.Tests.{le-leb, leb-true, eq-eqb, eqb-true}
-use Rattle.graph.proofs.Below.{and-parts}
+use Rattle.graph.proofs.Below.{and-parts, and-both}
 use Rattle.graph.proofs.All.{All}
-use Rattle.search.specs.Mark.{fieldsText, lineFeed, fieldsKept, isFeed, markLength, layoutKept}
-use Rattle.search.proofs.Text.{Fits, valuesOf, fields-length, fields-keep, values-read, fields-split}
+use Rattle.molecule.specs.BondList.{ascending}
+use Rattle.search.specs.Mark.{fieldsText, lineFeed, fieldsKept, isFeed, markBonds, markLength, threeLinesKept}
+use Rattle.search.specs.Mark.{bondLinesKept, bondsFrom, bondsNamed, layoutKept}
+use Rattle.search.proofs.Text.{Fits, valuesOf, fields-length, Line, line-read, line-split}
 
 -- three lines of fields
 abbrev pub textOf : List ℕ → List ℕ → List ℕ → List ℕ
@@ -25,10 +25,11 @@ pub text-length :
     length (textOf head counts atoms) ≡ 91 + 4 * length atoms
 text-length head counts atoms h c = simp (length-append, fields-length, h, c) (omega arith)
 
--- ---- rule 14 as plain facts
+-- ---- rule 14
 
-pub record Layout (bytes : List ℕ) : Type 0 where
-  pub size : length bytes ≡ 91 + 4 * markLength bytes
+-- The three lines, and past them so many bytes for each bond of the fifth field: 9, or none in marks before request F-5
+pub record ThreeLines (perBond : ℕ) (bytes : List ℕ) : Type 0 where
+  pub size : length bytes ≡ 91 + 4 * markLength bytes + perBond * markBonds bytes
   pub most : markLength bytes ≤ 127
   pub head-kept : fieldsKept 4 bytes 0 7 ≡ true
   pub head-ends : getD bytes 28 0 ≡ 10
@@ -37,14 +38,17 @@ pub record Layout (bytes : List ℕ) : Type 0 where
   pub atoms-kept : fieldsKept 4 bytes 90 (markLength bytes) ≡ true
   pub atoms-end : getD bytes (90 + 4 * markLength bytes) 0 ≡ 10
 
-module _ (bytes : List ℕ) where
-  -- the length of p that the bytes name
+module _ (perBond : ℕ) (bytes : List ℕ) where
+  -- the length of p that the bytes name, and the number of bytes that they should have
   abbrev k : ℕ
   k = markLength bytes
 
-  pub layout-of : Layout bytes → layoutKept bytes ≡ true
-  unfolding layoutKept
-  layout-of f =
+  abbrev whole : ℕ
+  whole = 91 + 4 * k + perBond * markBonds bytes
+
+  pub three-lines-of : ThreeLines perBond bytes → threeLinesKept perBond bytes ≡ true
+  unfolding threeLinesKept
+  three-lines-of f =
       rw (
         le-leb 91 (length bytes) (omega arith),
         f .head-kept,
@@ -52,7 +56,7 @@ module _ (bytes : List ℕ) where
         f .counts-kept,
         eq-eqb (getD bytes 89 0) 10 (f .counts-end),
         le-leb k 127 (f .most),
-        eq-eqb (length bytes) (91 + 4 * k) (f .size),
+        eq-eqb (length bytes) whole (f .size),
         f .atoms-kept,
         eq-eqb (getD bytes (90 + 4 * k) 0) 10 (f .atoms-end),
       )
@@ -74,24 +78,24 @@ module _ (bytes : List ℕ) where
   t6 = t5 && leb k 127
 
   abbrev t7 : Bool
-  t7 = t6 && eqb (length bytes) (91 + 4 * k)
+  t7 = t6 && eqb (length bytes) whole
 
   abbrev t8 : Bool
   t8 = t7 && fieldsKept 4 bytes 90 k
 
-  pub layout-facts : layoutKept bytes ≡ true → Layout bytes
-  unfolding layoutKept
-  layout-facts e =
+  pub three-lines-facts : threeLinesKept perBond bytes ≡ true → ThreeLines perBond bytes
+  unfolding threeLinesKept
+  three-lines-facts e =
       let (e8, atoms-end) = and-parts t8 (isFeed bytes (90 + 4 * k)) e in
       let (e7, atoms-kept) = and-parts t7 (fieldsKept 4 bytes 90 k) e8 in
-      let (e6, size) = and-parts t6 (eqb (length bytes) (91 + 4 * k)) e7 in
+      let (e6, size) = and-parts t6 (eqb (length bytes) whole) e7 in
       let (e5, most) = and-parts t5 (leb k 127) e6 in
       let (e4, counts-end) = and-parts t4 (isFeed bytes 89) e5 in
       let (e3, counts-kept) = and-parts t3 (fieldsKept 20 bytes 29 3) e4 in
       let (e2, head-ends) = and-parts t2 (isFeed bytes 28) e3 in
       let (e1, head-kept) = and-parts (leb 91 (length bytes)) (fieldsKept 4 bytes 0 7) e2 in
       record {
-        size = eqb-true (length bytes) (91 + 4 * k) size;
+        size = eqb-true (length bytes) whole size;
         most = leb-true k 127 most;
         head-kept = head-kept;
         head-ends = eqb-true (getD bytes 28 0) 10 head-ends;
@@ -101,111 +105,101 @@ module _ (bytes : List ℕ) where
         atoms-end = eqb-true (getD bytes (90 + 4 * k) 0) 10 atoms-end;
       }
 
--- ---- the text keeps the layout, and its values are those that it was made of
+-- The three lines and the bond lines
+pub record Layout (bytes : List ℕ) : Type 0 where
+  pub lines : ThreeLines 9 bytes
+  pub bonds-kept : bondLinesKept bytes (bondsFrom bytes) (markBonds bytes) ≡ true
+  pub ordered : ascending (0, 0) (bondsNamed bytes) ≡ true
 
--- a line feed at a place, and what stands past it
-feed-here : {rest : List ℕ} (bytes : List ℕ) (at : ℕ) → drop at bytes ≡ 10 ∷ rest → getD bytes at 0 ≡ 10
-feed-here bytes at e =
-    ap (λ k. getD bytes k 0) (sym (add-zero at)) ∙ sym (getD-drop at bytes 0 0) ∙ ap (λ l. getD l 0 0) e
+module _ (bytes : List ℕ) where
+  pub layout-of : Layout bytes → layoutKept bytes ≡ true
+  unfolding layoutKept
+  layout-of f = rw (three-lines-of 9 bytes (f .lines), f .bonds-kept, f .ordered)
 
-past-feed : {rest : List ℕ} (bytes : List ℕ) (at : ℕ) → drop at bytes ≡ 10 ∷ rest → drop (at + 1) bytes ≡ rest
-past-feed bytes at e = sym (drop-drop 1 at bytes) ∙ ap (drop 1) e
+  pub layout-facts : layoutKept bytes ≡ true → Layout bytes
+  unfolding layoutKept
+  layout-facts e =
+      let lines-kept = threeLinesKept 9 bytes in
+      let bonds-kept = bondLinesKept bytes (bondsFrom bytes) (markBonds bytes) in
+      let (kept, ordered) = and-parts (lines-kept && bonds-kept) (ascending (0, 0) (bondsNamed bytes)) e in
+      let (lines, bonds) = and-parts lines-kept bonds-kept kept in
+      record { lines = three-lines-facts 9 bytes lines; bonds-kept = bonds; ordered = ordered }
 
--- what stands past fields
-past-fields :
-    {rest : List ℕ} (c : ℕ) (vs bytes : List ℕ) (at k : ℕ) →
-    length vs ≡ k → drop at bytes ≡ fieldsText c vs ++ rest → drop (at + c * k) bytes ≡ rest
-past-fields {rest} c vs bytes at k l e =
-    sym (drop-drop (c * k) at bytes)
-    ∙ ap (drop (c * k)) e
-    ∙ drop-at (fieldsText c vs) rest (c * k) (fields-length c vs ∙ ap (λ j. c * j) l)
+-- ---- the text of three lines keeps its part of the layout, and its values are those that it was made of
 
--- The bytes are three lines of fields, and their values fit their columns
-pub record LinesOf (bytes head counts atoms : List ℕ) : Type 0 where
-  pub is : bytes ≡ textOf head counts atoms
+-- The bytes are three lines of fields, whose values fit their columns, and then the rest
+pub record LinesOf (bytes head counts atoms rest : List ℕ) : Type 0 where
+  pub is : bytes ≡ textOf head counts atoms ++ rest
   pub seven : length head ≡ 7
   pub three : length counts ≡ 3
   pub heads : All (Fits 4) head
   pub lows : All (Fits 20) counts
   pub fits : All (Fits 4) atoms
 
-module _ {bytes head counts atoms : List ℕ} (l : LinesOf bytes head counts atoms) where
-  -- the third line, and the second and third
-  abbrev line3 : List ℕ
-  line3 = fieldsText 4 atoms ++ lineFeed
+module _ {bytes head counts atoms rest : List ℕ} (l : LinesOf bytes head counts atoms rest) where
+  -- what is read at each line
+  head-line : Line 4 bytes 0 7 head (fieldsText 20 counts ++ 10 ∷ (fieldsText 4 atoms ++ 10 ∷ rest))
+  head-line = line-read (omega arith) (l .heads) (l .seven) (l .is ∙ simp append-assoc)
 
-  abbrev lines23 : List ℕ
-  lines23 = fieldsText 20 counts ++ 10 ∷ line3
+  counts-line : Line 20 bytes 29 3 counts (fieldsText 4 atoms ++ 10 ∷ rest)
+  counts-line = line-read (omega arith) (l .lows) (l .three) (head-line .past 29 refl)
 
-  at-head : drop 0 bytes ≡ fieldsText 4 head ++ 10 ∷ lines23
-  at-head = l .is ∙ simp append-assoc
-
-  head-end : drop 28 bytes ≡ 10 ∷ lines23
-  head-end = past-fields 4 head bytes 0 7 (l .seven) at-head
-
-  at-counts : drop 29 bytes ≡ lines23
-  at-counts = past-feed bytes 28 head-end
-
-  counts-past : drop 89 bytes ≡ 10 ∷ line3
-  counts-past = past-fields 20 counts bytes 29 3 (l .three) at-counts
-
-  at-atoms : drop 90 bytes ≡ line3
-  at-atoms = past-feed bytes 89 counts-past
-
-  atoms-past : drop (90 + 4 * length atoms) bytes ≡ 10 ∷ []
-  atoms-past = past-fields 4 atoms bytes 90 (length atoms) refl at-atoms
+  atoms-line : Line 4 bytes 90 (length atoms) atoms rest
+  atoms-line = line-read (omega arith) (l .fits) refl (counts-line .past 90 refl)
 
   pub head-values : valuesOf 4 bytes 0 7 ≡ head
-  head-values = values-read 4 (omega arith) bytes head _ 0 7 (l .heads) at-head (l .seven)
+  head-values = head-line .values
 
   pub count-values : valuesOf 20 bytes 29 3 ≡ counts
-  count-values = values-read 20 (omega arith) bytes counts _ 29 3 (l .lows) at-counts (l .three)
+  count-values = counts-line .values
 
-  pub atom-values : valuesOf 4 bytes 90 (length atoms) ≡ atoms
-  atom-values = values-read 4 (omega arith) bytes atoms _ 90 (length atoms) (l .fits) at-atoms refl
+  pub mark-bonds-is : markBonds bytes ≡ getD head 4 0
+  mark-bonds-is = ap (λ l. getD l 4 0) head-values
 
   module _ (counted : getD head 5 0 ≡ length atoms) where
     pub mark-length-is : markLength bytes ≡ length atoms
     mark-length-is = ap (λ l. getD l 5 0) head-values ∙ counted
 
-    pub text-layout : length atoms ≤ 127 → Layout bytes
-    text-layout most =
+    -- the third line, its length as the bytes name it
+    third-line : Line 4 bytes 90 (markLength bytes) atoms rest
+    third-line = rw mark-length-is atoms-line
+
+    pub atom-values : valuesOf 4 bytes 90 (markLength bytes) ≡ atoms
+    atom-values = third-line .values
+
+    pub rest-at : drop (bondsFrom bytes) bytes ≡ rest
+    rest-at = third-line .past (bondsFrom bytes) (omega arith)
+
+    pub text-lines :
+        {perBond : ℕ} → length atoms ≤ 127 → length rest ≡ perBond * getD head 4 0 → ThreeLines perBond bytes
+    text-lines {perBond} most size =
         let same : markLength bytes ≡ length atoms = mark-length-is in
-        let size = text-length head counts atoms (l .seven) (l .three) in
+        let three = text-length head counts atoms (l .seven) (l .three) in
+        let all = ap length (l .is) ∙ length-append (textOf head counts atoms) rest in
         record {
-          size = ap length (l .is) ∙ size ∙ ap (λ k. 91 + 4 * k) (sym same);
+          size = rw mark-bonds-is (omega arith);
           most = omega arith;
-          head-kept = fields-keep 4 (omega arith) bytes head _ 0 7 (l .heads) at-head (l .seven);
-          head-ends = feed-here bytes 28 head-end;
-          counts-kept = fields-keep 20 (omega arith) bytes counts _ 29 3 (l .lows) at-counts (l .three);
-          counts-end = feed-here bytes 89 counts-past;
-          atoms-kept = fields-keep 4 (omega arith) bytes atoms _ 90 (markLength bytes) (l .fits) at-atoms (sym same);
-          atoms-end = feed-here {rest = []} bytes (90 + 4 * markLength bytes) (rw same atoms-past);
+          head-kept = head-line .kept;
+          head-ends = head-line .ends;
+          counts-kept = counts-line .kept;
+          counts-end = counts-line .ends;
+          atoms-kept = third-line .kept;
+          atoms-end = third-line .ends;
         }
 
--- ---- bytes that keep the layout are the text of their values
-
-feed-split :
-    (bytes : List ℕ) (at : ℕ) → at < length bytes → getD bytes at 0 ≡ 10 → drop at bytes ≡ 10 ∷ drop (suc at) bytes
-feed-split bytes at h e = drop-cons bytes at 0 h ∙ ap (λ b. b ∷ drop (suc at) bytes) e
-
--- fields that are kept, a line feed and what stands past it
-line-split :
-    (bytes : List ℕ) (c at k : ℕ) (rest : List ℕ) → at + c * k < length bytes →
-    fieldsKept c bytes at k ≡ true → getD bytes (at + c * k) 0 ≡ 10 → drop (suc (at + c * k)) bytes ≡ rest →
-    drop at bytes ≡ fieldsText c (valuesOf c bytes at k) ++ 10 ∷ rest
-line-split bytes c at k rest h kept ends past =
-    let feed = feed-split bytes (at + c * k) h ends in
-    fields-split c bytes at k (omega arith) kept
-    ∙ ap (λ l. fieldsText c (valuesOf c bytes at k) ++ l) (feed ∙ ap (λ l. 10 ∷ l) past)
+-- ---- bytes whose three lines are kept are the text of their values, and what stands past it
 
 pub layout-text :
-    (bytes : List ℕ) → Layout bytes →
-    bytes ≡ textOf (valuesOf 4 bytes 0 7) (valuesOf 20 bytes 29 3) (valuesOf 4 bytes 90 (markLength bytes))
-layout-text bytes f =
+    {perBond : ℕ} (bytes : List ℕ) → ThreeLines perBond bytes →
+    bytes
+    ≡ textOf (valuesOf 4 bytes 0 7) (valuesOf 20 bytes 29 3) (valuesOf 4 bytes 90 (markLength bytes))
+    ++ drop (bondsFrom bytes) bytes
+layout-text {perBond} bytes f =
     let k = markLength bytes in
-    let past : length bytes ≤ suc (90 + 4 * k) = omega arith in
-    let none = drop-of-length-le bytes past in
-    let third = line-split bytes 4 90 k [] (omega arith) (f .atoms-kept) (f .atoms-end) none in
-    let second = line-split bytes 20 29 3 _ (omega arith) (f .counts-kept) (f .counts-end) third in
-    line-split bytes 4 0 7 _ (omega arith) (f .head-kept) (f .head-ends) second ∙ sym (simp append-assoc)
+    let first = line-split 4 bytes 0 7 29 refl (omega arith) (f .head-kept) (f .head-ends) in
+    let second = line-split 20 bytes 29 3 90 refl (omega arith) (f .counts-kept) (f .counts-end) in
+    let third = line-split 4 bytes 90 k (91 + 4 * k) (omega arith) (omega arith) (f .atoms-kept) (f .atoms-end) in
+    first
+    ∙ ap (λ l. fieldsText 4 (valuesOf 4 bytes 0 7) ++ 10 ∷ l) second
+    ∙ ap (λ l. fieldsText 4 (valuesOf 4 bytes 0 7) ++ 10 ∷ (fieldsText 20 (valuesOf 20 bytes 29 3) ++ 10 ∷ l)) third
+    ∙ sym (simp append-assoc)

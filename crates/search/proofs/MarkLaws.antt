@@ -1,161 +1,159 @@
--- The laws of marks (document 01, "Marks" and rules 12 to 17): a saved mark restores the search, an accepted
--- mark is saved again as the same bytes, and rule 12 allows exactly the searches that some mark restores.
--- A mark is three lines of number fields that zeros do not fill, and such a field is the one way to
--- write its value; readings of the definitions stand in Readings and Views.
+-- The laws of marks (document 01, "Marks" and rules 12 to 17, as request F-5 amends them): a saved mark restores the
+-- search, an accepted mark is saved again as the same bytes, and rule 12 allows exactly what some mark restores.
+-- The three lines are those of every mark (Restores, Named); past them stand the bonds of the molecule, line by line.
 use Prim.Native.Nat.{ℕ, _+_, _*_, _≤_, _<_}
 use native.Mathlib.Omega.{arith}
-use mathlib.Core.Path.{_≡_, refl, ap, sym, _∙_}
+use mathlib.Core.Path.{_≡_, refl, ap, ap₂, sym, _∙_}
 use mathlib.Core.Bool.{Bool, true, false, cond}
-use mathlib.Core.List.{List, _++_, reverse, reverse-reverse}
+use mathlib.Core.List.{List, [], _∷_, _++_}
 use mathlib.Core.Logic.{_↔_}
-use lib.ListN.{length, getD, take, drop, length-append, length-drop, length-reverse}
+use lib.ListN.{length, getD, take, drop, length-append, length-drop}
 use lib.Seq.{take-at, drop-at}
 use lib.Dec.{leb, eqb}
-use borrow.Author.Tests.{le-leb, lt-leb, leb-true, eqb-true}
+use borrow.Author.Tests.{le-leb, lt-leb, leb-true, eq-eqb, eqb-true}
 use Rattle.graph.proofs.Below.{and-parts}
-use Rattle.enumeration.specs.Machine.{State}
-use Rattle.enumeration.specs.Trials.{Valid}
-use Rattle.enumeration.specs.RunFacts.{Bounded}
-use Rattle.fields.specs.declared.Number.{Number}
-use Rattle.fields.specs.declared.Number.the-variants.{Value, Bad}
-use Rattle.fields.specs.Field.{limit, readField}
-use Rattle.fields.proofs.Laws.{read-fits}
 use Rattle.refusal.specs.declared.Refusal.{Refusal}
 use Rattle.refusal.specs.declared.Refusal.the-variants as refusal
 use Rattle.molecule.specs.declared.Molecule.{Molecule}
-use Rattle.molecule.specs.Record.{wellFormed}
-use Rattle.molecule.proofs.Bonds.{rule9}
+use Rattle.molecule.specs.Record.{bonded, wellFormed}
+use Rattle.molecule.specs.BondList.{Bond, bondList, sameBonds}
+use Rattle.molecule.specs.Parts.{allBonded}
+use Rattle.molecule.proofs.Bonds.{rule9, bonded-facts}
+use Rattle.molecule.proofs.BondOrder.{bonds-ascend, same-list, same-itself}
+use Rattle.molecule.proofs.BondCount.{bonds-count}
+use Rattle.molecule.proofs.BondLaws.{bonds-bonded}
 use Rattle.search.specs.declared.Search.{Search}
 use Rattle.search.specs.declared.Saved.{Saved}
 use Rattle.search.specs.declared.Saved.the-variants.{Written, Refused}
-use Rattle.search.specs.Place.{familyOf, beginning, searchAt, restorable}
+use Rattle.search.specs.Place.{beginning, restorable}
 use Rattle.search.specs.Entries.{acceptedSearch}
-use Rattle.search.specs.Mark.{markText, saveAnswer, saveOutput, valueOf, valueAt, markLength, markBeginning}
-use Rattle.search.specs.Mark.{markSearch, belongs, restoreMark}
-use Rattle.search.proofs.Text.{valuesOf, values-four, values-length}
-use Rattle.search.proofs.Lines.{textOf, text-length, layout-facts, layout-text}
-pub use Rattle.search.proofs.Readings.{family-lawful, family-atoms, Restorable, restorable-facts, restorable-of, restorable-iff}
+use Rattle.search.specs.Mark.{threeLines, bondLines, markText, saveAnswer, saveOutput, valueAt, markBonds}
+use Rattle.search.specs.Mark.{bondLinesKept, bondsAt, bondsFrom, bondsNamed, belongs, restoreMark}
+use Rattle.search.proofs.Text.{small-fits}
+use Rattle.search.proofs.BondLines.{BondsFit, no-bond, bond-fits, bond-lines-length, bonds-at-length}
+use Rattle.search.proofs.BondLines.{bond-lines-keep, bonds-read, bond-lines-text}
+use Rattle.search.proofs.Lines.{Layout, layout-of, layout-facts}
+pub use Rattle.search.proofs.Readings.{family-lawful, family-atoms, Restorable, restorable-facts}
+pub use Rattle.search.proofs.Readings.{restorable-of, restorable-iff}
 pub use Rattle.search.proofs.Views.{state-search, search-state, restorable-valid, restorable-bounded}
 pub use Rattle.search.proofs.Views.{valid-restorable, valid-full, fresh-restorable, run-restorable}
-use Rattle.search.proofs.Readings.{place-facts}
-use Rattle.search.proofs.Views.{beginning-at, search-length, placed-valid, prefix-most}
-use Rattle.search.proofs.Restores.{headOf, countsOf, mark-text, Restored, restored-facts, restored-of, text-restored}
+use Rattle.search.proofs.Views.{prefix-most}
+use Rattle.search.proofs.Restores.{three-length, Restored, restored-facts, restored-of}
+use Rattle.search.proofs.Restores.{MarkOf, atoms-is, bonds-is, rest-is, lines-are, text-restored}
+use Rattle.search.proofs.Named.{named-restorable, named-full, named-text}
 
--- A mark is 91 + 4 × length bytes
-pub mark-length : (mol : Molecule) (q : Search) → length (markText mol q) ≡ 91 + 4 * length (beginning q)
-mark-length mol q = ap length (mark-text mol q) ∙ text-length (headOf mol q) (countsOf q) (beginning q) refl refl
+-- ---- the mark of a search
+
+-- the bond lines of a molecule
+bonds-size :
+    (mol : Molecule) → wellFormed mol ≡ true → length (bondLines (bondList (mol .rows))) ≡ 9 * mol .bonds
+bonds-size mol formed = bond-lines-length (bondList (mol .rows)) ∙ ap (λ k. 9 * k) (bonds-count mol formed)
+
+bonded-fit : (n : ℕ) (rows : List ℕ) (xs : List Bond) → n ≤ 128 → allBonded n rows xs ≡ true → BondsFit xs
+unfolding allBonded
+bonded-fit n rows [] few e = no-bond
+bonded-fit n rows (x ∷ xs) few e =
+    let (here, more) = and-parts (bonded n rows (x .0) (x .1)) (allBonded n rows xs) e in
+    let f = bonded-facts n rows (x .0) (x .1) here in
+    bond-fits (small-fits (x .0) (omega arith)) (small-fits (x .1) (omega arith)) (bonded-fit n rows xs few more)
+
+-- A mark is 91 + 4 × length + 9 × m bytes
+pub mark-length :
+    (mol : Molecule) (q : Search) → wellFormed mol ≡ true →
+    length (markText mol q) ≡ 91 + 4 * length (beginning q) + 9 * mol .bonds
+unfolding markText
+mark-length mol q formed =
+    length-append (threeLines mol q) (bondLines (bondList (mol .rows)))
+    ∙ ap₂ (λ (a b : ℕ). a + b) (three-length mol q) (bonds-size mol formed)
+
+module _ (mol : Molecule) (q : Search) (formed : wellFormed mol ≡ true) (kept : restorable mol q ≡ true)
+    (full : length (q .prefix) ≡ 128) where
+  abbrev bytes : List ℕ
+  bytes = markText mol q
+
+  abbrev bonds : List Bond
+  bonds = bondList (mol .rows)
+
+  three : MarkOf mol q bytes (bondLines bonds)
+  three = record { formed = formed; kept = kept; full = full; is = unfold markText in refl }
+
+  -- It names the atoms
+  pub mark-atoms : valueAt 4 bytes 12 ≡ mol .atoms
+  mark-atoms = atoms-is three
+
+  -- and the bonds of the molecule,
+  m-is : markBonds bytes ≡ length bonds
+  m-is = bonds-is three ∙ sym (bonds-count mol formed)
+
+  fit : BondsFit bonds
+  fit = bonded-fit (mol .atoms) (mol .rows) bonds (rule9 mol formed .atoms-high) (bonds-bonded mol formed)
+
+  pub mark-names : bondsNamed bytes ≡ bonds
+  mark-names = ap (bondsAt bytes (bondsFrom bytes)) m-is ∙ bonds-read bytes bonds (bondsFrom bytes) fit (rest-is three)
+
+  -- keeps the layout
+  pub mark-layout : Layout bytes
+  mark-layout =
+      record {
+        lines = lines-are three (bonds-size mol formed);
+        bonds-kept =
+            ap (bondLinesKept bytes (bondsFrom bytes)) m-is
+            ∙ bond-lines-keep bytes bonds (bondsFrom bytes) fit (rest-is three);
+        ordered = rw mark-names (bonds-ascend (mol .rows));
+      }
+
+  -- and belongs to the molecule
+  mark-belongs : belongs mol bytes ≡ true
+  unfolding belongs
+  mark-belongs = rw (eq-eqb (valueAt 4 bytes 12) (mol .atoms) mark-atoms, mark-names) (same-itself bonds)
+
+  mark-restored : Restored mol bytes q
+  mark-restored = text-restored three (layout-of bytes mark-layout) mark-belongs
 
 -- The mark of a search that rule 12 allows restores that search
 pub saved-restores :
     (mol : Molecule) (q : Search) → wellFormed mol ≡ true → restorable mol q ≡ true → length (q .prefix) ≡ 128 →
     restoreMark mol (markText mol q) ≡ acceptedSearch q
 saved-restores mol q formed kept full =
-    restored-of mol (markText mol q) q (text-restored mol q formed kept full (markText mol q) (mark-text mol q))
+    restored-of mol (markText mol q) q (mark-restored mol q formed kept full)
 
 -- ---- the search that an accepted mark restores
 
--- the value of a field is at most the limit
-value-most : (bs : List ℕ) → valueOf (readField bs) ≤ limit
-value-most bs = go (readField bs) refl
-  where
-    go : (x : Number) → readField bs ≡ x → valueOf x ≤ limit
-    go (Value v zeros) e = read-fits bs v zeros e .1
-    go Bad e = omega arith
-
-own-facts :
+-- A mark that belongs to a molecule names its atoms and bonds
+pub own-facts :
     (mol : Molecule) (bytes : List ℕ) → belongs mol bytes ≡ true →
-    (valueAt 4 bytes 12 ≡ mol .atoms) × (valueAt 4 bytes 16 ≡ mol .bonds)
+    (valueAt 4 bytes 12 ≡ mol .atoms) × (bondsNamed bytes ≡ bondList (mol .rows))
+unfolding belongs
 own-facts mol bytes e =
-    let (n, m) = and-parts (eqb (valueAt 4 bytes 12) (mol .atoms)) (eqb (valueAt 4 bytes 16) (mol .bonds)) e in
-    (eqb-true (valueAt 4 bytes 12) (mol .atoms) n, eqb-true (valueAt 4 bytes 16) (mol .bonds) m)
-
-same-text :
-    {head₀ head counts₀ counts atoms₀ atoms : List ℕ} → head₀ ≡ head → counts₀ ≡ counts → atoms₀ ≡ atoms →
-    textOf head₀ counts₀ atoms₀ ≡ textOf head counts atoms
-same-text h c a = rw (h, c, a)
+    let named = bondsNamed bytes in
+    let bonds = bondList (mol .rows) in
+    let (n, same) = and-parts (eqb (valueAt 4 bytes 12) (mol .atoms)) (sameBonds named bonds) e in
+    (eqb-true (valueAt 4 bytes 12) (mol .atoms) n, same-list named bonds same)
 
 module _ (mol : Molecule) (bytes : List ℕ) (q : Search) (f : Restored mol bytes q) where
-  -- kind, s and t, and the state that the mark names
-  abbrev kind : ℕ
-  kind = valueAt 4 bytes 0
+  laid : Layout bytes
+  laid = layout-facts bytes (f .layout)
 
-  abbrev s : ℕ
-  s = valueAt 4 bytes 4
+  -- its bond lines are those of the molecule
+  bonds-past : drop (bondsFrom bytes) bytes ≡ bondLines (bondList (mol .rows))
+  bonds-past =
+      bond-lines-text bytes (bondsFrom bytes) (markBonds bytes) (laid .bonds-kept) (laid .lines .size)
+      ∙ ap bondLines (own-facts mol bytes (f .own) .1)
 
-  abbrev t : ℕ
-  t = valueAt 4 bytes 8
+  bonds-named : markBonds bytes ≡ mol .bonds
+  bonds-named =
+      sym (bonds-at-length bytes (bondsFrom bytes) (markBonds bytes))
+      ∙ ap length (own-facts mol bytes (f .own) .1)
+      ∙ bonds-count mol (f .formed)
 
-  abbrev named : State
-  named = record {
-    stack = reverse (markBeginning bytes);
-    next = valueAt 4 bytes 24;
-    trials = valueAt 20 bytes 29;
-    extensions = valueAt 20 bytes 49;
-    listed = valueAt 20 bytes 69;
-  }
-
-  abbrev whole : Search
-  whole = searchAt kind s t named
-
-  named-length : length (named .stack) ≡ markLength bytes
-  named-length =
-      length-reverse (markBeginning bytes)
-      ∙ ap length (values-four bytes 90 (markLength bytes))
-      ∙ values-length 4 bytes 90 (markLength bytes)
-
-  named-search : whole ≡ q
-  named-search = unfold markSearch in (f .search)
-
-  named-valid : Valid (familyOf mol kind s t) named
-  named-valid =
-      let place = place-facts (familyOf mol kind s t) (markBeginning bytes) (valueAt 4 bytes 24) (f .place) in
-      placed-valid (familyOf mol kind s t) named (rw reverse-reverse place)
-
-  named-bounded : Bounded named
-  named-bounded =
-      record {
-        trials-most = value-most (take 20 (drop 29 bytes));
-        extensions-most = value-most (take 20 (drop 49 bytes));
-        listed-most = value-most (take 20 (drop 69 bytes));
-      }
-
-  named-restorable : restorable mol q ≡ true
-  named-restorable =
-      rw (← named-search) (valid-restorable mol kind s t (f .formed) (f .kinds) named named-valid named-bounded)
-
-  named-full : length (q .prefix) ≡ 128
-  named-full =
-      let most = layout-facts bytes (f .layout) .most in
-      rw (← named-search) (search-length kind s t named (omega (arith, named-length)))
-
-  -- its numbers are the values of the fields
-  named-head : headOf mol whole ≡ valuesOf 4 bytes 0 7
-  unfolding searchAt
-  named-head =
-      let (n-is, m-is) = own-facts mol bytes (f .own) in
-      rw (named-length, n-is, m-is)
-
-  named-counts : countsOf whole ≡ valuesOf 20 bytes 29 3
-  unfolding searchAt
-  named-counts = refl
-
-  named-atoms : beginning whole ≡ valuesOf 4 bytes 90 (markLength bytes)
-  named-atoms =
-      beginning-at kind s t named
-      ∙ reverse-reverse (markBeginning bytes)
-      ∙ values-four bytes 90 (markLength bytes)
-
-  named-text : markText mol q ≡ bytes
-  named-text =
-      ap (markText mol) (sym named-search)
-      ∙ mark-text mol whole
-      ∙ same-text named-head named-counts named-atoms
-      ∙ sym (layout-text bytes (layout-facts bytes (f .layout)))
+  saves-again : markText mol q ≡ bytes
+  unfolding markText
+  saves-again = rw (← bonds-past) (named-text f (laid .lines) (own-facts mol bytes (f .own) .0) bonds-named)
 
 -- Any accepted mark, saved again, has the same bytes
 pub restored-saves :
     (mol : Molecule) (bytes : List ℕ) (q : Search) → restoreMark mol bytes ≡ acceptedSearch q → markText mol q ≡ bytes
-restored-saves mol bytes q e = named-text mol bytes q (restored-facts mol bytes q e)
+restored-saves mol bytes q e = saves-again mol bytes q (restored-facts mol bytes q e)
 
 -- An accepted mark restores a search that rule 12 allows, on a molecule that rule 9 allows
 pub restored-restorable :
@@ -163,7 +161,7 @@ pub restored-restorable :
     (wellFormed mol ≡ true) × (restorable mol q ≡ true) × (length (q .prefix) ≡ 128)
 restored-restorable mol bytes q e =
     let f = restored-facts mol bytes q e in
-    (f .formed, named-restorable mol bytes q f, named-full mol bytes q f)
+    (f .formed, named-restorable f, named-full f (laid mol bytes q f .lines))
 
 -- The places of a search that rule 12 allows hold at most 128
 pub restorable-prefix :

@@ -1,13 +1,12 @@
--- A restore is accepted exactly where each of its rules is kept, and a mark is the three lines of its search's numbers.
+-- A restore is accepted exactly where each of its rules is kept, and the three lines of a search's mark restore it.
 -- The tests of a restore are passed one after the other; the numbers of a search that rule 12 allows fit their columns.
-use Prim.Native.Nat.{ℕ, suc, _≤_}
+use Prim.Native.Nat.{ℕ, suc, _+_, _*_, _≤_}
 use native.Mathlib.Omega.{arith}
 use mathlib.Core.Path.{_≡_, refl, ap, sym, _∙_}
 use mathlib.Core.Bool.{Bool, true, false, cond}
-use mathlib.Core.List.{List, [], _∷_}
+use mathlib.Core.List.{List, [], _∷_, _++_}
 use mathlib.Core.Logic.{inl, inr}
-use lib.ListN.{length, getD}
-use borrow.Author.Tests.{eq-eqb}
+use lib.ListN.{length, getD, drop}
 use Rattle.graph.proofs.All.{All, all-of, none, _◁_}
 use Rattle.fields.specs.Field.{limit}
 use Rattle.refusal.specs.declared.Refusal.{Refusal}
@@ -19,25 +18,30 @@ use Rattle.search.specs.declared.Search.{Search}
 use Rattle.search.specs.declared.Made.{Made}
 use Rattle.search.specs.Place.{familyOf, beginning, stateOf, kindKept, placeKept, restorable}
 use Rattle.search.specs.Entries.{acceptedSearch, refusedSearch}
-use Rattle.search.specs.Mark.{markText, valueAt, markLength, layoutKept, markBeginning, markSearch}
-use Rattle.search.specs.Mark.{belongs, restoreMark}
-use Rattle.search.proofs.Text.{Fits, valuesOf, values-four}
-use Rattle.search.proofs.Lines.{textOf, Layout, layout-of, LinesOf, head-values, count-values, atom-values}
-use Rattle.search.proofs.Lines.{mark-length-is, text-layout}
+use Rattle.search.specs.Mark.{threeLines, valueAt, markBonds, bondsFrom, layoutKept, markBeginning, markLength}
+use Rattle.search.specs.Mark.{markSearch, belongs, placedSearch, restoreBy, restoreMark}
+use Rattle.search.proofs.Text.{Fits, small-fits, valuesOf, values-four}
+use Rattle.search.proofs.Lines.{textOf, text-length, ThreeLines, LinesOf, head-values, count-values}
+use Rattle.search.proofs.Lines.{atom-values, rest-at, text-lines}
 use Rattle.search.proofs.Readings.{NextHigh, restorable-facts, restorable-place, kind-small}
 use Rattle.search.proofs.Views.{beginning-length, beginning-range, search-state}
 
 -- ---- an accepted restore
 
-pub record Restored (mol : Molecule) (bytes : List ℕ) (q : Search) : Type 0 where
+-- by whether rules 14 and 15 are kept,
+pub record RestoredBy (laid owned : Bool) (mol : Molecule) (bytes : List ℕ) (q : Search) : Type 0 where
   pub formed : wellFormed mol ≡ true
-  pub layout : layoutKept bytes ≡ true
-  pub own : belongs mol bytes ≡ true
+  pub layout : laid ≡ true
+  pub own : owned ≡ true
   pub kinds : kindKept (mol .atoms) (valueAt 4 bytes 0) (valueAt 4 bytes 4) (valueAt 4 bytes 8) ≡ true
   pub place :
       placeKept (familyOf mol (valueAt 4 bytes 0) (valueAt 4 bytes 4) (valueAt 4 bytes 8))
       (markBeginning bytes) (valueAt 4 bytes 24) ≡ true
   pub search : markSearch bytes ≡ q
+
+-- and of a mark as it now is
+abbrev pub Restored : Molecule → List ℕ → Search → Type 0
+Restored mol bytes q = RestoredBy (layoutKept bytes) (belongs mol bytes) mol bytes q
 
 -- a test that was passed on the way to an accepted answer
 passed :
@@ -65,34 +69,43 @@ module _ (mol : Molecule) (bytes : List ℕ) (q : Search) where
   abbrev rule16 : Made
   rule16 = cond kind-test rule17 (refusedSearch refusal.MarkKind)
 
-  abbrev rule15 : Made
-  rule15 = cond (belongs mol bytes) rule16 (refusedSearch refusal.MarkMolecule)
+  module _ (laid owned : Bool) where
+    abbrev rule15 : Made
+    rule15 = cond owned rule16 (refusedSearch refusal.MarkMolecule)
 
-  abbrev rule14 : Made
-  rule14 = cond (layoutKept bytes) rule15 (refusedSearch refusal.MarkBytes)
+    abbrev rule14 : Made
+    rule14 = cond laid rule15 (refusedSearch refusal.MarkBytes)
+
+    pub by-facts : restoreBy laid owned mol bytes ≡ acceptedSearch q → RestoredBy laid owned mol bytes q
+    unfolding restoreBy placedSearch
+    by-facts e =
+        let (formed, e14) = passed (wellFormed mol) rule14 refusal.Record q e in
+        let (layout, e15) = passed laid rule15 refusal.MarkBytes q e14 in
+        let (own, e16) = passed owned rule16 refusal.MarkMolecule q e15 in
+        let (kinds, e17) = passed kind-test rule17 refusal.MarkKind q e16 in
+        let (place, named) = passed place-test (acceptedSearch (markSearch bytes)) refusal.MarkPlace q e17 in
+        record {
+          formed = formed;
+          layout = layout;
+          own = own;
+          kinds = kinds;
+          place = place;
+          search = ap (λ (m : Made). m .search) named;
+        }
+
+    pub by-of : RestoredBy laid owned mol bytes q → restoreBy laid owned mol bytes ≡ acceptedSearch q
+    unfolding restoreBy placedSearch
+    by-of f = rw (f .formed, f .layout, f .own, f .kinds, f .place, f .search)
 
   pub restored-facts : restoreMark mol bytes ≡ acceptedSearch q → Restored mol bytes q
   unfolding restoreMark
-  restored-facts e =
-      let (formed, e14) = passed (wellFormed mol) rule14 refusal.Record q e in
-      let (layout, e15) = passed (layoutKept bytes) rule15 refusal.MarkBytes q e14 in
-      let (own, e16) = passed (belongs mol bytes) rule16 refusal.MarkMolecule q e15 in
-      let (kinds, e17) = passed kind-test rule17 refusal.MarkKind q e16 in
-      let (place, named) = passed place-test (acceptedSearch (markSearch bytes)) refusal.MarkPlace q e17 in
-      record {
-        formed = formed;
-        layout = layout;
-        own = own;
-        kinds = kinds;
-        place = place;
-        search = ap (λ (m : Made). m .search) named;
-      }
+  restored-facts e = by-facts (layoutKept bytes) (belongs mol bytes) e
 
   pub restored-of : Restored mol bytes q → restoreMark mol bytes ≡ acceptedSearch q
   unfolding restoreMark
-  restored-of f = rw (f .formed, f .layout, f .own, f .kinds, f .place, f .search)
+  restored-of f = by-of (layoutKept bytes) (belongs mol bytes) f
 
--- ---- the mark of a search
+-- ---- the three lines of a search
 
 abbrev pub headOf : Molecule → Search → List ℕ
 headOf mol q = q .kind ∷ q .s ∷ q .t ∷ mol .atoms ∷ mol .bonds ∷ q .len ∷ q .next ∷ []
@@ -100,14 +113,14 @@ headOf mol q = q .kind ∷ q .s ∷ q .t ∷ mol .atoms ∷ mol .bonds ∷ q .le
 abbrev pub countsOf : Search → List ℕ
 countsOf q = q .trials ∷ q .extensions ∷ q .listed ∷ []
 
-pub mark-text : (mol : Molecule) (q : Search) → markText mol q ≡ textOf (headOf mol q) (countsOf q) (beginning q)
-unfolding markText
-mark-text mol q = refl
+pub three-text : (mol : Molecule) (q : Search) → threeLines mol q ≡ textOf (headOf mol q) (countsOf q) (beginning q)
+unfolding threeLines
+three-text mol q = refl
 
--- its numbers fit their columns
-small-fits : (v : ℕ) → v ≤ 9999 → Fits 4 v
-small-fits v h = (omega arith, omega arith)
+pub three-length : (mol : Molecule) (q : Search) → length (threeLines mol q) ≡ 91 + 4 * length (beginning q)
+three-length mol q = ap length (three-text mol q) ∙ text-length (headOf mol q) (countsOf q) (beginning q) refl refl
 
+-- their numbers fit their columns
 count-fits : (v : ℕ) → v ≤ limit → Fits 20 v
 count-fits v h = (omega arith, h)
 
@@ -145,66 +158,80 @@ module _ (mol : Molecule) (q : Search) (formed : wellFormed mol ≡ true) (kept 
       all-of (beginning q)
       (λ i h. small-fits (getD (beginning q) i 0) (omega (arith, beginning-range mol q kept i h)))
 
-  -- ---- restoring it
+-- ---- restoring them, whatever stands past them
 
-  module _ (full : length (q .prefix) ≡ 128) (bytes : List ℕ)
-      (is : bytes ≡ textOf (headOf mol q) (countsOf q) (beginning q)) where
-    len-is : q .len ≡ length (beginning q)
-    len-is = sym (beginning-length q full (restorable-facts mol q kept .short))
+-- The bytes are the three lines of a search that rule 12 allows on a molecule that rule 9 allows, and then the rest
+pub record MarkOf (mol : Molecule) (q : Search) (bytes rest : List ℕ) : Type 0 where
+  pub formed : wellFormed mol ≡ true
+  pub kept : restorable mol q ≡ true
+  pub full : length (q .prefix) ≡ 128
+  pub is : bytes ≡ threeLines mol q ++ rest
 
-    text : LinesOf bytes (headOf mol q) (countsOf q) (beginning q)
-    text = record { is = is; seven = refl; three = refl; heads = head-fits; lows = counts-fit; fits = atoms-fit }
+module _ {mol : Molecule} {q : Search} {bytes rest : List ℕ} (m : MarkOf mol q bytes rest) where
+  len-is : q .len ≡ length (beginning q)
+  len-is = sym (beginning-length q (m .full) (restorable-facts mol q (m .kept) .short))
 
-    heads : valuesOf 4 bytes 0 7 ≡ headOf mol q
-    heads = head-values text
+  text : LinesOf bytes (headOf mol q) (countsOf q) (beginning q) rest
+  text =
+      record {
+        is = m .is ∙ ap (λ l. l ++ rest) (three-text mol q);
+        seven = refl;
+        three = refl;
+        heads = head-fits mol q (m .formed) (m .kept);
+        lows = counts-fit mol q (m .formed) (m .kept);
+        fits = atoms-fit mol q (m .formed) (m .kept);
+      }
 
-    counts : valuesOf 20 bytes 29 3 ≡ countsOf q
-    counts = count-values text
+  heads : valuesOf 4 bytes 0 7 ≡ headOf mol q
+  heads = head-values text
 
-    atoms : markBeginning bytes ≡ beginning q
-    atoms =
-        values-four bytes 90 (markLength bytes)
-        ∙ ap (valuesOf 4 bytes 90) (mark-length-is text len-is)
-        ∙ atom-values text
+  counts : valuesOf 20 bytes 29 3 ≡ countsOf q
+  counts = count-values text
 
-    lines : Layout bytes
-    lines = text-layout text len-is (rw (← len-is) (restorable-facts mol q kept .short))
+  atoms : markBeginning bytes ≡ beginning q
+  atoms = values-four bytes 90 (markLength bytes) ∙ atom-values text len-is
 
-    kind-is : valueAt 4 bytes 0 ≡ q .kind
-    kind-is = ap (λ l. getD l 0 0) heads
+  kind-is : valueAt 4 bytes 0 ≡ q .kind
+  kind-is = ap (λ l. getD l 0 0) heads
 
-    s-is : valueAt 4 bytes 4 ≡ q .s
-    s-is = ap (λ l. getD l 1 0) heads
+  s-is : valueAt 4 bytes 4 ≡ q .s
+  s-is = ap (λ l. getD l 1 0) heads
 
-    t-is : valueAt 4 bytes 8 ≡ q .t
-    t-is = ap (λ l. getD l 2 0) heads
+  t-is : valueAt 4 bytes 8 ≡ q .t
+  t-is = ap (λ l. getD l 2 0) heads
 
-    next-is : valueAt 4 bytes 24 ≡ q .next
-    next-is = ap (λ l. getD l 6 0) heads
+  pub atoms-is : valueAt 4 bytes 12 ≡ mol .atoms
+  atoms-is = ap (λ l. getD l 3 0) heads
 
-    own-is : belongs mol bytes ≡ true
-    own-is =
-        let n-is : valueAt 4 bytes 12 ≡ mol .atoms = ap (λ l. getD l 3 0) heads in
-        let m-is : valueAt 4 bytes 16 ≡ mol .bonds = ap (λ l. getD l 4 0) heads in
-        rw (eq-eqb (valueAt 4 bytes 12) (mol .atoms) n-is, eq-eqb (valueAt 4 bytes 16) (mol .bonds) m-is)
+  pub bonds-is : markBonds bytes ≡ mol .bonds
+  bonds-is = ap (λ l. getD l 4 0) heads
 
-    search-is : markSearch bytes ≡ q
-    unfolding markSearch
-    search-is =
-        let trials-is : valueAt 20 bytes 29 ≡ q .trials = ap (λ l. getD l 0 0) counts in
-        let extensions-is : valueAt 20 bytes 49 ≡ q .extensions = ap (λ l. getD l 1 0) counts in
-        let listed-is : valueAt 20 bytes 69 ≡ q .listed = ap (λ l. getD l 2 0) counts in
-        rw (kind-is, s-is, t-is, next-is, trials-is, extensions-is, listed-is, atoms)
-        (unfold stateOf in (search-state mol q kept full))
+  next-is : valueAt 4 bytes 24 ≡ q .next
+  next-is = ap (λ l. getD l 6 0) heads
 
-    pub text-restored : Restored mol bytes q
-    text-restored =
-        let f = restorable-facts mol q kept in
-        record {
-          formed = formed;
-          layout = layout-of bytes lines;
-          own = own-is;
-          kinds = rw (kind-is, s-is, t-is) (f .kind-kept);
-          place = rw (kind-is, s-is, t-is, next-is, atoms) (restorable-place mol q f);
-          search = search-is;
-        }
+  pub rest-is : drop (bondsFrom bytes) bytes ≡ rest
+  rest-is = rest-at text len-is
+
+  pub lines-are : {perBond : ℕ} → length rest ≡ perBond * mol .bonds → ThreeLines perBond bytes
+  lines-are size = text-lines text len-is (rw (← len-is) (restorable-facts mol q (m .kept) .short)) size
+
+  search-is : markSearch bytes ≡ q
+  unfolding markSearch
+  search-is =
+      let trials-is : valueAt 20 bytes 29 ≡ q .trials = ap (λ l. getD l 0 0) counts in
+      let extensions-is : valueAt 20 bytes 49 ≡ q .extensions = ap (λ l. getD l 1 0) counts in
+      let listed-is : valueAt 20 bytes 69 ≡ q .listed = ap (λ l. getD l 2 0) counts in
+      rw (kind-is, s-is, t-is, next-is, trials-is, extensions-is, listed-is, atoms)
+      (unfold stateOf in (search-state mol q (m .kept) (m .full)))
+
+  pub text-restored : {laid owned : Bool} → laid ≡ true → owned ≡ true → RestoredBy laid owned mol bytes q
+  text-restored layout own =
+      let f = restorable-facts mol q (m .kept) in
+      record {
+        formed = m .formed;
+        layout = layout;
+        own = own;
+        kinds = rw (kind-is, s-is, t-is) (f .kind-kept);
+        place = rw (kind-is, s-is, t-is, next-is, atoms) (restorable-place mol q f);
+        search = search-is;
+      }

@@ -1,4 +1,4 @@
--- Number fields in a row: their text reads back as their values, and bytes that read as values are that text.
+-- Number fields in a row, and lines of them: their text reads back as their values, and what reads so is that text.
 -- Field by field, from the laws of one field; a place is a number of bytes before it.
 use Prim.Native.Nat.{ℕ, zero, suc, _+_, _*_, _^_, _≤_, _<_}
 use native.Mathlib.Nat.{mul-zero, mul-suc, add-zero}
@@ -8,7 +8,7 @@ use mathlib.Core.Path.{_≡_, refl, ap, ap₂, sym, _∙_}
 use mathlib.Core.Bool.{true, false}
 use mathlib.Core.List.{List, [], _∷_, _++_, append-assoc, append-nil}
 use lib.ListN.{length, getD, take, drop, length-append, length-drop, take-append-drop}
-use lib.Seq.{take-at, drop-at, drop-drop, take-add, take-suc, length-take-le}
+use lib.Seq.{take-at, drop-at, drop-drop, drop-cons, take-add, take-suc, getD-drop, length-take-le}
 use borrow.Author.Tests.{not-true}
 use Rattle.graph.proofs.Below.{apart, allBelow-at, allBelow-of}
 use Rattle.graph.proofs.All.{All, _◁_}
@@ -52,6 +52,9 @@ values-length c bytes at (suc k) = ap suc (values-length c bytes (at + c) k)
 -- a value that a field of c columns holds
 abbrev pub Fits : ℕ → ℕ → Type 0
 Fits c v = (v < 10 ^ c) × (v ≤ limit)
+
+pub small-fits : (v : ℕ) → v ≤ 9999 → Fits 4 v
+small-fits v h = (omega arith, omega arith)
 
 -- one place further
 place-on : (c at i : ℕ) → at + c * suc i ≡ at + c + c * i
@@ -138,3 +141,46 @@ module _ (c : ℕ) (bytes : List ℕ) where
       drop at bytes ≡ fieldsText c (valuesOf c bytes at k) ++ drop (at + c * k) bytes
   fields-split at k h e =
       sym (take-append-drop (c * k) (drop at bytes)) ∙ rw (fields-written at k h e, drop-drop (c * k) at bytes)
+
+-- ---- a line: fields and a line feed
+
+-- What is read where the text of values and a line feed stand at a place, and then the rest
+pub record Line (c : ℕ) (bytes : List ℕ) (at k : ℕ) (vs rest : List ℕ) : Type 0 where
+  pub kept : fieldsKept c bytes at k ≡ true
+  pub values : valuesOf c bytes at k ≡ vs
+  pub ends : getD bytes (at + c * k) 0 ≡ 10
+  pub past : (to : ℕ) → to ≡ suc (at + c * k) → drop to bytes ≡ rest
+
+-- what stands past fields
+past-fields :
+    (c : ℕ) (vs rest bytes : List ℕ) (at k : ℕ) → length vs ≡ k → drop at bytes ≡ fieldsText c vs ++ rest →
+    drop (at + c * k) bytes ≡ rest
+past-fields c vs rest bytes at k l e =
+    sym (drop-drop (c * k) at bytes)
+    ∙ ap (drop (c * k)) e
+    ∙ drop-at (fieldsText c vs) rest (c * k) (fields-length c vs ∙ ap (λ j. c * j) l)
+
+pub line-read :
+    {c at k : ℕ} {bytes vs rest : List ℕ} → 1 < c → All (Fits c) vs → length vs ≡ k →
+    drop at bytes ≡ fieldsText c vs ++ 10 ∷ rest → Line c bytes at k vs rest
+line-read {c} {at} {k} {bytes} {vs} {rest} wide fits l e =
+    let feed = past-fields c vs (10 ∷ rest) bytes at k l e in
+    record {
+      kept = fields-keep c wide bytes vs (10 ∷ rest) at k fits e l;
+      values = values-read c wide bytes vs (10 ∷ rest) at k fits e l;
+      ends =
+          ap (λ j. getD bytes j 0) (sym (add-zero (at + c * k)))
+          ∙ sym (getD-drop (at + c * k) bytes 0 0)
+          ∙ ap (λ l. getD l 0 0) feed;
+      past = λ to is. rw (is, ← add-one) (sym (drop-drop 1 (at + c * k) bytes) ∙ ap (drop 1) feed);
+    }
+
+-- the other way round: fields that are kept and a line feed are a line, and then come the bytes past it
+pub line-split :
+    (c : ℕ) (bytes : List ℕ) (at k to : ℕ) → to ≡ suc (at + c * k) → to ≤ length bytes →
+    fieldsKept c bytes at k ≡ true → getD bytes (at + c * k) 0 ≡ 10 →
+    drop at bytes ≡ fieldsText c (valuesOf c bytes at k) ++ 10 ∷ drop to bytes
+line-split c bytes at k to is h kept ends =
+    fields-split c bytes at k (omega arith) kept
+    ∙ ap (λ l. fieldsText c (valuesOf c bytes at k) ++ l)
+    (rw (is, ← ends) (drop-cons bytes (at + c * k) 0 (omega arith)))
