@@ -15,7 +15,7 @@ use Rattle.graph.proofs.Below.{clash, false-of, and-parts, and-both, same-test}
 use Rattle.molecule.specs.declared.Molecule.{Molecule}
 use Rattle.molecule.specs.Record.{cell, bonded, wellFormed}
 use Rattle.molecule.specs.BondList.{Bond, pairOf, bondHere, bondsTo, bondList, ascending, sameBonds}
-use Rattle.molecule.specs.Parts.{allBonded}
+use Rattle.molecule.specs.Parts.{eachBonded}
 use Rattle.molecule.proofs.Rules.{Sound, sound-of-rules}
 use Rattle.molecule.proofs.Bonds.{Bonded, rule9, bonded-facts, bonded-cell, bonded-symmetric, bonded-irreflexive}
 use Rattle.molecule.proofs.Bits.{same-rows}
@@ -28,19 +28,19 @@ use Rattle.molecule.proofs.BondCount.{bonds-count}
 
 module _ (n : ℕ) (rows : List ℕ) where
   all-bonded-of :
-      (xs : List Bond) → ((z : Bond) → List·Memᴰ z xs → bonded n rows (z .0) (z .1) ≡ true) → allBonded n rows xs ≡ true
-  unfolding allBonded
+      (xs : List Bond) → ((z : Bond) → List·Memᴰ z xs → bonded n rows (z .0) (z .1) ≡ true) → eachBonded n rows xs ≡ true
+  unfolding eachBonded
   all-bonded-of [] f = refl
   all-bonded-of (x ∷ xs) f =
       let rest = all-bonded-of xs (λ z m. f z (List·Memᴰ·tail m)) in
-      and-both (bonded n rows (x .0) (x .1)) (allBonded n rows xs) (f x (List·Memᴰ·head refl)) rest
+      and-both (bonded n rows (x .0) (x .1)) (eachBonded n rows xs) (f x (List·Memᴰ·head refl)) rest
 
   all-bonded-at :
-      (xs : List Bond) → allBonded n rows xs ≡ true → (z : Bond) → List·Memᴰ z xs → bonded n rows (z .0) (z .1) ≡ true
-  unfolding allBonded
+      (xs : List Bond) → eachBonded n rows xs ≡ true → (z : Bond) → List·Memᴰ z xs → bonded n rows (z .0) (z .1) ≡ true
+  unfolding eachBonded
   all-bonded-at [] e z m = elim m [ ]
   all-bonded-at (x ∷ xs) e z m =
-      let (here, rest) = and-parts (bonded n rows (x .0) (x .1)) (allBonded n rows xs) e in
+      let (here, rest) = and-parts (bonded n rows (x .0) (x .1)) (eachBonded n rows xs) e in
       elim (List·Memᴰ·cases-cons m) [
         | inl same ↦ rw same here
         | inr later ↦ all-bonded-at xs rest z later
@@ -87,31 +87,31 @@ module _ (mol : Molecule) (formed : wellFormed mol ≡ true) where
           Memᴰ·cast (same-pair (a, b) (pairOf p) (omega arith) (omega arith)) (of-cell rows 16384 p below here)
 
   -- They are bonds of it
-  pub bonds-bonded : allBonded n rows (bondList rows) ≡ true
+  pub bonds-bonded : eachBonded n rows (bondList rows) ≡ true
   bonds-bonded = all-bonded-of n rows (bondList rows) listed-is-bonded
 
   -- a list of ascending pairs
   module _ (xs : List Bond) (ordered : ascending (0, 0) xs ≡ true) where
-    same-there : (eqb (length xs) (mol .bonds) && allBonded n rows xs) ≡ true → xs ≡ bondList rows
+    same-there : (eqb (length xs) (mol .bonds) && eachBonded n rows xs) ≡ true → xs ≡ bondList rows
     same-there e =
-        let (as-many, all) = and-parts (eqb (length xs) (mol .bonds)) (allBonded n rows xs) e in
+        let (as-many, all) = and-parts (eqb (length xs) (mol .bonds)) (eachBonded n rows xs) e in
         let count = eqb-true (length xs) (mol .bonds) as-many in
         let listed = bonds-count mol formed in
         ascend-within (0, 0) (0, 0) xs (bondList rows) ordered (bonds-ascend rows) (λ z m. inside all z m) .same
         (omega (arith, count, listed))
       where
-        inside : allBonded n rows xs ≡ true → (z : Bond) → List·Memᴰ z xs → List·Memᴰ z (bondList rows)
+        inside : eachBonded n rows xs ≡ true → (z : Bond) → List·Memᴰ z xs → List·Memᴰ z (bondList rows)
         inside all z m =
             bonded-is-listed (z .0) (z .1) (ascend-at (0, 0) xs ordered z m .0) (all-bonded-at n rows xs all z m)
 
     -- Ascending pairs are its bonds exactly when they are m and each is a bond of it
-    pub same-bonds : (eqb (length xs) (mol .bonds) && allBonded n rows xs) ≡ sameBonds xs (bondList rows)
+    pub same-bonds : (eqb (length xs) (mol .bonds) && eachBonded n rows xs) ≡ sameBonds xs (bondList rows)
     same-bonds =
-        same-test (eqb (length xs) (mol .bonds) && allBonded n rows xs) (sameBonds xs (bondList rows))
+        same-test (eqb (length xs) (mol .bonds) && eachBonded n rows xs) (sameBonds xs (bondList rows))
         (λ e. ap (λ ys. sameBonds xs ys) (sym (same-there e)) ∙ same-itself xs)
         (λ e. back (same-list xs (bondList rows) e))
       where
-        back : xs ≡ bondList rows → (eqb (length xs) (mol .bonds) && allBonded n rows xs) ≡ true
+        back : xs ≡ bondList rows → (eqb (length xs) (mol .bonds) && eachBonded n rows xs) ≡ true
         back e =
             let count = eq-eqb (length (bondList rows)) (mol .bonds) (bonds-count mol formed) in
             rw (e, count) bonds-bonded

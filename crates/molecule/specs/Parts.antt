@@ -23,6 +23,6 @@ unfoldable pub rowsSound : List ℕ → ℕ → Bool
 rowsSound rows n = allBelow 2048 (byteSound rows n)
 
 -- every pair of a list is a bond of the record
-unfoldable pub allBonded : ℕ → List ℕ → List Bond → Bool
-allBonded n rows [] = true
-allBonded n rows (x ∷ xs) = bonded n rows (x .0) (x .1) && allBonded n rows xs
+unfoldable pub eachBonded : ℕ → List ℕ → List Bond → Bool
+eachBonded n rows [] = true
+eachBonded n rows (x ∷ xs) = bonded n rows (x .0) (x .1) && eachBonded n rows xs

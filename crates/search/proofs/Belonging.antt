@@ -1,5 +1,5 @@
--- A mark knows its molecule (request F-5): bytes that two molecules take up are the mark of one molecule, and the mark
--- of a molecule is refused by rule 15 on every other. The bonds that a mark names tell the record that it belongs to.
+-- A mark belongs to one molecule (request F-5): two on which the same bytes are accepted are one, and the mark of a
+-- molecule is refused by rule 15 on every other. The atoms and bonds that a mark names tell the record.
 use Prim.Native.Nat.{ℕ}
 use mathlib.Core.Path.{_≡_, ap, sym, _∙_}
 use mathlib.Core.Bool.{true, false}
@@ -17,9 +17,16 @@ use Rattle.search.specs.Entries.{acceptedSearch, refusedSearch}
 use Rattle.search.specs.Mark.{markText, belongs, restoreBy, restoreMark}
 use Rattle.search.proofs.Lines.{layout-of}
 use Rattle.search.proofs.Restores.{restored-facts}
-use Rattle.search.proofs.MarkLaws.{mark-atoms, mark-names, mark-layout, own-facts}
+use Rattle.search.proofs.MarkLaws.{Own, own-facts, mark-layout, mark-own}
 
 -- ---- one mark on two molecules
+
+-- bytes that belong to two molecules
+one-owner :
+    {A B : Molecule} {bytes : List ℕ} → wellFormed A ≡ true → wellFormed B ≡ true → Own A bytes → Own B bytes → A ≡ B
+one-owner {A} {B} formed-a formed-b a b =
+    listed-record A B formed-a formed-b
+    (sym (a .same-atoms) ∙ b .same-atoms) (sym (a .same-bonds) ∙ b .same-bonds)
 
 -- Molecules with the same atoms, the same bonds, and the same list for every kind, s and t
 pub record Alike (A B : Molecule) : Type 0 where
@@ -42,9 +49,7 @@ module _ (A B : Molecule) (bytes : List ℕ) (p q : Search) (on-a : restoreMark 
   accepted-on-two =
       let a = restored-facts A bytes p on-a in
       let b = restored-facts B bytes q on-b in
-      let (atoms-a, bonds-a) = own-facts A bytes (a .own) in
-      let (atoms-b, bonds-b) = own-facts B bytes (b .own) in
-      let same = listed-record A B (a .formed) (b .formed) (sym atoms-a ∙ atoms-b) (sym bonds-a ∙ bonds-b) in
+      let same = one-owner (a .formed) (b .formed) (own-facts A bytes (a .own)) (own-facts B bytes (b .own)) in
       (same, sym (a .search) ∙ b .search)
 
   -- so the two have the same atoms, bonds and lists
@@ -57,12 +62,9 @@ module _ (A B : Molecule) (q : Search) (formed-a : wellFormed A ≡ true) (forme
     (kept : restorable A q ≡ true) (full : length (q .prefix) ≡ 128) where
   not-own : (A ≡ B → ⊥) → belongs B (markText A q) ≡ false
   not-own other =
+      let on-a = mark-own A q formed-a kept full in
       false-of (belongs B (markText A q))
-      (λ own.
-      let (atoms, bonds) = own-facts B (markText A q) own in
-      let same-atoms = sym (mark-atoms A q formed-a kept full) ∙ atoms in
-      let same-bonds = sym (mark-names A q formed-a kept full) ∙ bonds in
-      other (listed-record A B formed-a formed-b same-atoms same-bonds))
+      (λ on-b. other (one-owner formed-a formed-b on-a (own-facts B (markText A q) on-b)))
 
   -- The mark of a molecule is refused on every other one, by rule 15: its layout is kept
   pub other-refused : (A ≡ B → ⊥) → restoreMark B (markText A q) ≡ refusedSearch refusal.MarkMolecule
@@ -70,13 +72,14 @@ module _ (A B : Molecule) (q : Search) (formed-a : wellFormed A ≡ true) (forme
   other-refused other =
       rw (formed-b, layout-of (markText A q) (mark-layout A q formed-a kept full), not-own other)
 
-  -- An isomer has another bond somewhere; the lister before request F-5 took up its mark, as n and m agree
+  -- The mark of an isomer, which differs in the bond of some a and b. This was the old lister's fault: it accepted the
+  -- mark, as n and m agree
   pub isomer-refused :
       (a b : ℕ) → (bonded (A .atoms) (A .rows) a b ≡ bonded (B .atoms) (B .rows) a b → ⊥) →
       restoreMark B (markText A q) ≡ refusedSearch refusal.MarkMolecule
   isomer-refused a b differ = other-refused (λ same. differ (alike same .same-bonds a b))
 
-  -- or it has another number of atoms
+  -- The mark of a molecule with another number of atoms
   pub other-atoms-refused :
       (A .atoms ≡ B .atoms → ⊥) → restoreMark B (markText A q) ≡ refusedSearch refusal.MarkMolecule
   other-atoms-refused differ = other-refused (λ same. differ (alike same .same-atoms))

@@ -8,7 +8,7 @@ use mathlib.Core.List.{List, [], _∷_, _++_, append-assoc}
 use lib.ListN.{length, getD, drop, length-append}
 use lib.Dec.{leb, eqb}
 use borrow.Author.Tests.{le-leb, leb-true, eq-eqb, eqb-true}
-use Rattle.graph.proofs.Below.{and-parts, and-both}
+use Rattle.graph.proofs.Below.{and-parts}
 use Rattle.graph.proofs.All.{All}
 use Rattle.molecule.specs.BondList.{ascending}
 use Rattle.search.specs.Mark.{fieldsText, lineFeed, fieldsKept, isFeed, markBonds, markLength, threeLinesKept}
@@ -112,10 +112,6 @@ pub record Layout (bytes : List ℕ) : Type 0 where
   pub ordered : ascending (0, 0) (bondsNamed bytes) ≡ true
 
 module _ (bytes : List ℕ) where
-  pub layout-of : Layout bytes → layoutKept bytes ≡ true
-  unfolding layoutKept
-  layout-of f = rw (three-lines-of 9 bytes (f .lines), f .bonds-kept, f .ordered)
-
   pub layout-facts : layoutKept bytes ≡ true → Layout bytes
   unfolding layoutKept
   layout-facts e =
@@ -124,6 +120,10 @@ module _ (bytes : List ℕ) where
       let (kept, ordered) = and-parts (lines-kept && bonds-kept) (ascending (0, 0) (bondsNamed bytes)) e in
       let (lines, bonds) = and-parts lines-kept bonds-kept kept in
       record { lines = three-lines-facts 9 bytes lines; bonds-kept = bonds; ordered = ordered }
+
+  pub layout-of : Layout bytes → layoutKept bytes ≡ true
+  unfolding layoutKept
+  layout-of f = rw (three-lines-of 9 bytes (f .lines), f .bonds-kept, f .ordered)
 
 -- ---- the text of three lines keeps its part of the layout, and its values are those that it was made of
 

@@ -17,7 +17,7 @@ use Rattle.refusal.specs.declared.Refusal.the-variants as refusal
 use Rattle.molecule.specs.declared.Molecule.{Molecule}
 use Rattle.molecule.specs.Record.{bonded, wellFormed}
 use Rattle.molecule.specs.BondList.{Bond, bondList, sameBonds}
-use Rattle.molecule.specs.Parts.{allBonded}
+use Rattle.molecule.specs.Parts.{eachBonded}
 use Rattle.molecule.proofs.Bonds.{rule9, bonded-facts}
 use Rattle.molecule.proofs.BondOrder.{bonds-ascend, same-list, same-itself}
 use Rattle.molecule.proofs.BondCount.{bonds-count}
@@ -42,6 +42,31 @@ use Rattle.search.proofs.Restores.{three-length, Restored, restored-fac
 use Rattle.search.proofs.Restores.{MarkOf, atoms-is, bonds-is, rest-is, lines-are, text-restored}
 use Rattle.search.proofs.Named.{named-restorable, named-full, named-text}
 
+-- ---- rule 15
+
+-- The mark names the atoms and the bonds of the molecule
+pub record Own (mol : Molecule) (bytes : List ℕ) : Type 0 where
+  pub same-atoms : valueAt 4 bytes 12 ≡ mol .atoms
+  pub same-bonds : bondsNamed bytes ≡ bondList (mol .rows)
+
+module _ (mol : Molecule) (bytes : List ℕ) where
+  pub own-facts : belongs mol bytes ≡ true → Own mol bytes
+  unfolding belongs
+  own-facts e =
+      let named = bondsNamed bytes in
+      let bonds = bondList (mol .rows) in
+      let (n, same) = and-parts (eqb (valueAt 4 bytes 12) (mol .atoms)) (sameBonds named bonds) e in
+      record {
+        same-atoms = eqb-true (valueAt 4 bytes 12) (mol .atoms) n;
+        same-bonds = same-list named bonds same;
+      }
+
+  pub own-of : Own mol bytes → belongs mol bytes ≡ true
+  unfolding belongs
+  own-of own =
+      rw (eq-eqb (valueAt 4 bytes 12) (mol .atoms) (own .same-atoms), own .same-bonds)
+      (same-itself (bondList (mol .rows)))
+
 -- ---- the mark of a search
 
 -- the bond lines of a molecule
@@ -49,11 +74,11 @@ bonds-size :
     (mol : Molecule) → wellFormed mol ≡ true → length (bondLines (bondList (mol .rows))) ≡ 9 * mol .bonds
 bonds-size mol formed = bond-lines-length (bondList (mol .rows)) ∙ ap (λ k. 9 * k) (bonds-count mol formed)
 
-bonded-fit : (n : ℕ) (rows : List ℕ) (xs : List Bond) → n ≤ 128 → allBonded n rows xs ≡ true → BondsFit xs
-unfolding allBonded
+bonded-fit : (n : ℕ) (rows : List ℕ) (xs : List Bond) → n ≤ 128 → eachBonded n rows xs ≡ true → BondsFit xs
+unfolding eachBonded
 bonded-fit n rows [] few e = no-bond
 bonded-fit n rows (x ∷ xs) few e =
-    let (here, more) = and-parts (bonded n rows (x .0) (x .1)) (allBonded n rows xs) e in
+    let (here, more) = and-parts (bonded n rows (x .0) (x .1)) (eachBonded n rows xs) e in
     let f = bonded-facts n rows (x .0) (x .1) here in
     bond-fits (small-fits (x .0) (omega arith)) (small-fits (x .1) (omega arith)) (bonded-fit n rows xs few more)
 
@@ -77,21 +102,16 @@ module _ (mol : Molecule) (q : Search) (formed : wellFormed mol ≡ true) (kept 
   three : MarkOf mol q bytes (bondLines bonds)
   three = record { formed = formed; kept = kept; full = full; is = unfold markText in refl }
 
-  -- It names the atoms
-  pub mark-atoms : valueAt 4 bytes 12 ≡ mol .atoms
-  mark-atoms = atoms-is three
-
-  -- and the bonds of the molecule,
   m-is : markBonds bytes ≡ length bonds
   m-is = bonds-is three ∙ sym (bonds-count mol formed)
 
   fit : BondsFit bonds
   fit = bonded-fit (mol .atoms) (mol .rows) bonds (rule9 mol formed .atoms-high) (bonds-bonded mol formed)
 
-  pub mark-names : bondsNamed bytes ≡ bonds
-  mark-names = ap (bondsAt bytes (bondsFrom bytes)) m-is ∙ bonds-read bytes bonds (bondsFrom bytes) fit (rest-is three)
+  names : bondsNamed bytes ≡ bonds
+  names = ap (bondsAt bytes (bondsFrom bytes)) m-is ∙ bonds-read bytes bonds (bondsFrom bytes) fit (rest-is three)
 
-  -- keeps the layout
+  -- It keeps the layout
   pub mark-layout : Layout bytes
   mark-layout =
       record {
@@ -99,16 +119,15 @@ module _ (mol : Molecule) (q : Search) (formed : wellFormed mol ≡ true) (kept 
         bonds-kept =
             ap (bondLinesKept bytes (bondsFrom bytes)) m-is
             ∙ bond-lines-keep bytes bonds (bondsFrom bytes) fit (rest-is three);
-        ordered = rw mark-names (bonds-ascend (mol .rows));
+        ordered = rw names (bonds-ascend (mol .rows));
       }
 
   -- and belongs to the molecule
-  mark-belongs : belongs mol bytes ≡ true
-  unfolding belongs
-  mark-belongs = rw (eq-eqb (valueAt 4 bytes 12) (mol .atoms) mark-atoms, mark-names) (same-itself bonds)
+  pub mark-own : Own mol bytes
+  mark-own = record { same-atoms = atoms-is three; same-bonds = names }
 
   mark-restored : Restored mol bytes q
-  mark-restored = text-restored three (layout-of bytes mark-layout) mark-belongs
+  mark-restored = text-restored three (layout-of bytes mark-layout) (own-of mol bytes mark-own)
 
 -- The mark of a search that rule 12 allows restores that search
 pub saved-restores :
@@ -119,36 +138,28 @@ saved-restores mol q formed kept full =
 
 -- ---- the search that an accepted mark restores
 
--- A mark that belongs to a molecule names its atoms and bonds
-pub own-facts :
-    (mol : Molecule) (bytes : List ℕ) → belongs mol bytes ≡ true →
-    (valueAt 4 bytes 12 ≡ mol .atoms) × (bondsNamed bytes ≡ bondList (mol .rows))
-unfolding belongs
-own-facts mol bytes e =
-    let named = bondsNamed bytes in
-    let bonds = bondList (mol .rows) in
-    let (n, same) = and-parts (eqb (valueAt 4 bytes 12) (mol .atoms)) (sameBonds named bonds) e in
-    (eqb-true (valueAt 4 bytes 12) (mol .atoms) n, same-list named bonds same)
-
 module _ (mol : Molecule) (bytes : List ℕ) (q : Search) (f : Restored mol bytes q) where
   laid : Layout bytes
   laid = layout-facts bytes (f .layout)
+
+  own : Own mol bytes
+  own = own-facts mol bytes (f .own)
 
   -- its bond lines are those of the molecule
   bonds-past : drop (bondsFrom bytes) bytes ≡ bondLines (bondList (mol .rows))
   bonds-past =
       bond-lines-text bytes (bondsFrom bytes) (markBonds bytes) (laid .bonds-kept) (laid .lines .size)
-      ∙ ap bondLines (own-facts mol bytes (f .own) .1)
+      ∙ ap bondLines (own .same-bonds)
 
-  bonds-named : markBonds bytes ≡ mol .bonds
-  bonds-named =
+  named-count : markBonds bytes ≡ mol .bonds
+  named-count =
       sym (bonds-at-length bytes (bondsFrom bytes) (markBonds bytes))
-      ∙ ap length (own-facts mol bytes (f .own) .1)
+      ∙ ap length (own .same-bonds)
       ∙ bonds-count mol (f .formed)
 
   saves-again : markText mol q ≡ bytes
   unfolding markText
-  saves-again = rw (← bonds-past) (named-text f (laid .lines) (own-facts mol bytes (f .own) .0) bonds-named)
+  saves-again = rw (← bonds-past) (named-text f (laid .lines) (own .same-atoms) named-count)
 
 -- Any accepted mark, saved again, has the same bytes
 pub restored-saves :

@@ -2,10 +2,10 @@
 -- the same bytes. By what is shown of the three lines of every mark: no byte stands past them.
 use Prim.Native.Nat.{ℕ, _+_, _*_, _≤_}
 use native.Mathlib.Omega.{arith}
-use mathlib.Core.Path.{_≡_, refl, ap, sym, _∙_}
+use mathlib.Core.Path.{_≡_, ap, sym, _∙_}
 use mathlib.Core.Bool.{true}
 use mathlib.Core.List.{List, [], _++_, append-nil}
-use lib.ListN.{length, drop, drop-of-length-le}
+use lib.ListN.{length, drop-of-length-le}
 use lib.Dec.{eqb}
 use borrow.Author.Tests.{eq-eqb, eqb-true}
 use Rattle.graph.proofs.Below.{and-parts}
@@ -16,7 +16,7 @@ use Rattle.search.specs.Place.{beginning, restorable}
 use Rattle.search.specs.Entries.{acceptedSearch}
 use Rattle.search.specs.Mark.{threeLines, valueAt, markBonds, bondsFrom}
 use Rattle.search.specs.OldMark.{oldMarkText, oldLayoutKept, oldBelongs, restoreOldMark}
-use Rattle.search.proofs.Lines.{ThreeLines, three-lines-of, three-lines-facts}
+use Rattle.search.proofs.Lines.{three-lines-of, three-lines-facts}
 use Rattle.search.proofs.Restores.{three-length, RestoredBy, by-facts, by-of}
 use Rattle.search.proofs.Restores.{MarkOf, atoms-is, bonds-is, lines-are, text-restored}
 use Rattle.search.proofs.Named.{named-restorable, named-full, named-text}
