@@ -26,6 +26,7 @@ use Rattle.search.specs.declared.Saved.{Saved}
 use Rattle.search.specs.declared.Saved.the-variants.{Written}
 use Rattle.search.specs.Place.{beginning}
 use Rattle.search.specs.Entries.{runSearch, runOutput, endedNumber}
+use Rattle.molecule.proofs.Bonds.{rule9}
 use Rattle.search.specs.Mark.{saveAnswer, saveOutput}
 use Rattle.search.proofs.MarkLaws.{mark-length, save-written, restorable-facts}
 use Rattle.flat.specs.Codes.{wrongLength, answerCode, molecule}
@@ -189,10 +190,11 @@ module _ {rows numbers prefix : List ℕ} {answer : Bool} (test : SizesTold rows
         mark-is = sized-is test left (rw (same-mol, same-q) at (save .1)) mark;
       }
 
--- a mark has at most 91 + 4 × 127 bytes
-pub mark-small : (mol : Molecule) (q : Search) (out : List ℕ) (k : ℕ) → saveAnswer mol q out ≡ Written k → k ≤ 599
+-- a mark has at most 91 + 4 × 127 + 9 × 1,024 bytes
+pub mark-small : (mol : Molecule) (q : Search) (out : List ℕ) (k : ℕ) → saveAnswer mol q out ≡ Written k → k ≤ 9815
 unfolding beginning
 mark-small mol q out k e =
     let wrote = save-written mol q out k e in
     let short = restorable-facts mol q (wrote .kept) .short in
-    omega (arith, wrote .size, mark-length mol q, length-take (q .len) (q .prefix))
+    let few = rule9 mol (wrote .formed) .bonds-high in
+    omega (arith, wrote .size, mark-length mol q (wrote .formed), length-take (q .len) (q .prefix))

@@ -1,16 +1,14 @@
 -- What the entries return and leave, and what a host reads off a mark.
 -- From the definitions, at the tests that were made on the way.
-use Prim.Native.Nat.{ℕ, _+_, _*_, _^_, _≤_, _<_}
+use Prim.Native.Nat.{ℕ, _≤_, _<_}
 use native.Mathlib.Omega.{arith}
-use mathlib.Core.Path.{_≡_, refl, ap, sym, _∙_}
+use mathlib.Core.Path.{_≡_, refl, ap, ap₂, sym, _∙_}
 use mathlib.Core.Bool.{Bool, true, false, _&&_, cond}
 use mathlib.Core.List.{List}
-use lib.ListN.{length, take, drop, length-drop}
-use lib.Seq.{length-take-le}
+use lib.ListN.{length}
 use lib.Dec.{leb}
 use borrow.Author.Tests.{eq-eqb, ne-eqb, le-leb, lt-leb}
-use Rattle.fields.specs.declared.Number.the-variants.{Value}
-use Rattle.fields.proofs.Laws.{read-fits}
+use Rattle.fields.proofs.Laws.{value-fits}
 use Rattle.refusal.specs.declared.Refusal.{Refusal}
 use Rattle.refusal.specs.declared.Answer.the-variants.{Refused}
 use Rattle.molecule.specs.declared.Molecule.{Molecule}
@@ -21,13 +19,13 @@ use Rattle.search.specs.declared.Search.{Search}
 use Rattle.search.specs.declared.Ran.{Ran}
 use Rattle.search.specs.Place.{freshSearch}
 use Rattle.search.specs.Entries.{acceptedSearch, runSearch, runOutput, endedNumber}
-use Rattle.search.specs.Mark.{fieldAt, fieldKept, valueAt, markLength, markText, saveOutput, restoreMark}
+use Rattle.search.specs.Mark.{fieldKept, valueAt, markBonds, markLength, markText, saveOutput, restoreMark}
 use Rattle.search.proofs.Starts.{rings-started}
 use Rattle.mark_writer.specs.Parts.{spliced}
 use Rattle.mark_writer.proofs.Splices.{splice-start}
 use Rattle.counter.specs.declared.Counted.{Counted}
 use Rattle.counter.specs.Count.{countShortest}
-use Rattle.host.specs.Resume.{Resumed, searchFor, runAndSave, markSize, listedIn}
+use Rattle.host.specs.Resume.{Resumed, searchFor, runAndSave, namedSize, markSize, listedIn}
 use Rattle.host.specs.Start.{Started, wroteMark}
 use Rattle.host.specs.Count.{CountedSheet, refusedCount, wroteCount, countSheet}
 use Rattle.host.proofs.Gate.{SheetTaken}
@@ -117,32 +115,44 @@ module _ (bytes : List ℕ) where
     unfolding listedIn
     listed-read e = rw (le-leb 91 (length bytes) room) (sym (ap (λ (t : Bool). cond t (valueAt 20 bytes 69) 0) e))
 
-    pub size-none : fieldKept 4 bytes 20 ≡ false → 0 ≡ markSize bytes
+    pub bonds-none : fieldKept 4 bytes 16 ≡ false → 0 ≡ markSize bytes
     unfolding markSize
-    size-none e =
-        let size = 91 + 4 * markLength bytes in
+    bonds-none e =
+        let size = namedSize bytes in
         rw (le-leb 91 (length bytes) room)
-        (sym (ap (λ (t : Bool). cond (t && leb size (length bytes)) size 0) e))
+        (sym (ap (λ (t : Bool). cond (t && fieldKept 4 bytes 20 && leb size (length bytes)) size 0) e))
 
--- What is known where the field of the length holds k
-pub record LengthRead (bytes : List ℕ) (k : ℕ) : Type 0 where
+    pub length-none : fieldKept 4 bytes 16 ≡ true → fieldKept 4 bytes 20 ≡ false → 0 ≡ markSize bytes
+    unfolding markSize
+    length-none kept e =
+        let size = namedSize bytes in
+        rw (le-leb 91 (length bytes) room)
+        (sym (ap₂ (λ (t u : Bool). cond (t && u && leb size (length bytes)) size 0) kept e))
+
+-- What is known where the bonds and the length of p stand in fields of a mark
+pub record SizeRead (bytes : List ℕ) : Type 0 where
   pub room : 91 ≤ length bytes
-  pub read : fieldAt 4 bytes 20 ≡ Value k false
+  pub bonds-kept : fieldKept 4 bytes 16 ≡ true
+  pub length-kept : fieldKept 4 bytes 20 ≡ true
 
-module _ {bytes : List ℕ} {k : ℕ} (f : LengthRead bytes k) where
-  -- a field of 4 columns
-  pub size-fits : k < 10000
-  size-fits = go (read-fits (take 4 (drop 20 bytes)) k false (f .read) .0)
-    where
-      go : k < 10 ^ length (take 4 (drop 20 bytes)) → k < 10000
-      go h = rw (length-take-le 4 (drop 20 bytes) (rw length-drop (omega (arith, f .room)))) at h
+module _ {bytes : List ℕ} (f : SizeRead bytes) where
+  -- fields of 4 columns
+  pub bonds-small : markBonds bytes < 10000
+  bonds-small = value-fits 4 bytes 16 (omega (arith, f .room))
 
-  pub size-past : length bytes < 91 + 4 * k → 0 ≡ markSize bytes
+  pub length-small : markLength bytes < 10000
+  length-small = value-fits 4 bytes 20 (omega (arith, f .room))
+
+  -- the last test decides
+  size-by : (fits : Bool) → leb (namedSize bytes) (length bytes) ≡ fits → cond fits (namedSize bytes) 0 ≡ markSize bytes
   unfolding markSize
-  size-past h =
-      rw (le-leb 91 (length bytes) (f .room), f .read)
-      (sym (ap (λ (b : Bool). cond b (91 + 4 * k) 0) (lt-leb (91 + 4 * k) (length bytes) h)))
+  size-by fits e =
+      rw (le-leb 91 (length bytes) (f .room))
+      (sym (ap₂ (λ (t u : Bool). cond (t && u && leb (namedSize bytes) (length bytes)) (namedSize bytes) 0)
+      (f .bonds-kept) (f .length-kept) ∙ ap (λ (t : Bool). cond t (namedSize bytes) 0) e))
 
-  pub size-read : 91 + 4 * k ≤ length bytes → 91 + 4 * k ≡ markSize bytes
-  unfolding markSize
-  size-read h = rw (le-leb 91 (length bytes) (f .room), f .read, le-leb (91 + 4 * k) (length bytes) h)
+  pub size-past : length bytes < namedSize bytes → 0 ≡ markSize bytes
+  size-past h = size-by false (lt-leb (namedSize bytes) (length bytes) h)
+
+  pub size-read : namedSize bytes ≤ length bytes → namedSize bytes ≡ markSize bytes
+  size-read h = size-by true (le-leb (namedSize bytes) (length bytes) h)

@@ -1,6 +1,6 @@
 -- The laws of the entry that counts: its numbers, what a refusal leaves, what 0 means, and that kind 3 lists as many.
 -- By its ways; a search that is done has listed them all.
-use Prim.Native.Nat.{ℕ, _≤_}
+use Prim.Native.Nat.{ℕ, _+_, _*_, _≤_}
 use native.Mathlib.Omega.{arith}
 use mathlib.Core.Path.{_≡_, refl, sym, ap, _∙_}
 use mathlib.Core.Logic.{_⊎_, inl, inr}
@@ -161,7 +161,7 @@ module _ (sheet : List ℕ) (s t count : ℕ) where
   -- a call that returned 101, the entry returns 0 and writes the listed count of the mark that the host keeps
   pub count-as-listed :
       (next : List ℕ) → startMark sheet 3 s t next .number ≡ 0 →
-      let first = take 91 (startMark sheet 3 s t next .nextMark) in
+      let first = take (91 + 9 * readSheet sheet .molecule .bonds) (startMark sheet 3 s t next .nextMark) in
       (calls : List HostCall) → HostHistory sheet (keeping first) calls → returnedDone calls ≡ true →
       (answer .number ≡ 0) × (answer .count ≡ listedIn (keptBy (keeping first) calls .mark))
   count-as-listed next zero calls h said =

@@ -1,5 +1,5 @@
 -- The fresh mark, from which a host starts a search of any kind (include/ringlist.h): its bytes, what it restores, and
--- that 599 bytes have room for it.
+-- that 9,815 bytes have room for it.
 -- The bytes by computing; a fresh search keeps rule 12 where its kind, s and t keep rule 16, so its mark restores it.
 use Prim.Native.Nat.{ℕ, _≤_}
 use native.Mathlib.Omega.{arith}
@@ -12,16 +12,19 @@ use borrow.Author.Tests.{leb-true}
 use Rattle.enumeration.specs.Machine.{fresh}
 use Rattle.molecule.specs.declared.Molecule.{Molecule}
 use Rattle.molecule.specs.Record.{wellFormed}
+use Rattle.molecule.specs.BondList.{bondList}
+use Rattle.molecule.proofs.Bonds.{rule9}
 use Rattle.sheet.specs.declared.SheetAnswer.{SheetAnswer}
 use Rattle.search.specs.declared.Made.{Made}
 use Rattle.search.specs.Place.{beginning, searchAt, freshSearch, kindKept}
 use Rattle.search.specs.Entries.{acceptedSearch, startSearch}
-use Rattle.search.specs.Mark.{fieldsText, lineFeed, markText, restoreMark}
+use Rattle.search.specs.Mark.{fieldsText, lineFeed, threeLines, bondLines, markText, restoreMark}
 use Rattle.search.proofs.MarkLaws.{fresh-restorable, saved-restores}
 use Rattle.search.proofs.Views.{search-length}
 use Rattle.search.proofs.Accepts.{started-fresh}
 use Rattle.mark_writer.specs.Parts.{MarkFits}
-use Rattle.host.proofs.Gate.{SearchTaken}
+use Rattle.host.specs.Gate.{markRoom}
+use Rattle.host.proofs.Gate.{SearchTaken, read-formed}
 
 -- the array of a fresh search has 128 places
 pub fresh-full : (kind s t : ℕ) → length (freshSearch kind s t .prefix) ≡ 128
@@ -34,18 +37,20 @@ module _ (R : Molecule) (kind s t : ℕ) where
   unfolding freshSearch searchAt fresh beginning fieldsText
   no-atoms = refl
 
-  -- Its bytes: kind, s, t, n, m, 0 and 1 in line 1, three counts 0 in line 2, an empty line 3
+  -- Its bytes: kind, s, t, n, m, 0 and 1 in line 1, three counts 0 in line 2, an empty line 3, and the bond lines
   pub fresh-mark :
       markText R (freshSearch kind s t)
       ≡ fieldsText 4 (kind ∷ s ∷ t ∷ R .atoms ∷ R .bonds ∷ 0 ∷ 1 ∷ []) ++ lineFeed
       ++ fieldsText 20 (0 ∷ 0 ∷ 0 ∷ []) ++ lineFeed
       ++ lineFeed
-  unfolding markText freshSearch searchAt fresh
+      ++ bondLines (bondList (R .rows))
+  unfolding markText threeLines freshSearch searchAt fresh
   fresh-mark =
       let line1 = fieldsText 4 (kind ∷ s ∷ t ∷ R .atoms ∷ R .bonds ∷ 0 ∷ 1 ∷ []) in
       let line2 = fieldsText 20 (0 ∷ 0 ∷ 0 ∷ []) in
-      ap (λ (l : List ℕ). line1 ++ lineFeed ++ line2 ++ lineFeed ++ l ++ lineFeed) no-atoms
-      ∙ ap (λ (l : List ℕ). l ++ lineFeed) (append-nil (line1 ++ lineFeed ++ line2 ++ lineFeed))
+      let bonds = bondLines (bondList (R .rows)) in
+      ap (λ (l : List ℕ). (line1 ++ lineFeed ++ line2 ++ lineFeed ++ l ++ lineFeed) ++ bonds) no-atoms
+      ∙ ap (λ (l : List ℕ). (l ++ lineFeed) ++ bonds) (append-nil (line1 ++ lineFeed ++ line2 ++ lineFeed))
 
   pub fresh-restores :
       wellFormed R ≡ true → kindKept (R .atoms) kind s t ≡ true →
@@ -55,17 +60,26 @@ module _ (R : Molecule) (kind s t : ℕ) where
 
 -- ---- its room
 
-fresh-fits : (kind s t : ℕ) (next : List ℕ) → 599 ≤ length next → MarkFits (freshSearch kind s t) next
+fresh-fits :
+    (mol : Molecule) (kind s t : ℕ) (next : List ℕ) → wellFormed mol ≡ true → markRoom ≤ length next →
+    MarkFits mol (freshSearch kind s t) next
 unfolding freshSearch searchAt fresh
-fresh-fits kind s t next room = record { short = omega arith; full = fresh-full kind s t; room = omega arith }
+fresh-fits mol kind s t next formed room =
+    record {
+      formed = formed;
+      short = omega arith;
+      full = fresh-full kind s t;
+      room = omega (arith, rule9 mol formed .bonds-high);
+    }
 
 -- the search of an accepted start is the fresh one
 pub start-fits :
     {sheet : List ℕ} (kind s t : ℕ) {read : SheetAnswer} {made : Made} (next : List ℕ) →
-    SearchTaken sheet (λ mol. startSearch mol kind s t) read made → leb 599 (length next) ≡ true →
-    MarkFits (made .search) next
+    SearchTaken sheet (λ mol. startSearch mol kind s t) read made → leb markRoom (length next) ≡ true →
+    MarkFits (read .molecule) (made .search) next
 start-fits kind s t {read} {made} next m room =
-    rw (ap (λ (x : Made). x .search) fresh-made) (fresh-fits kind s t next (leb-true 599 (length next) room))
+    rw (ap (λ (x : Made). x .search) fresh-made)
+    (fresh-fits (read .molecule) kind s t next (read-formed (m .of-sheet)) (leb-true markRoom (length next) room))
   where
     fresh-made : made ≡ acceptedSearch (freshSearch kind s t)
     fresh-made = m .is-made ∙ started-fresh (read .molecule) kind s t (rw (m .is-made) at (m .accepted))

@@ -24,7 +24,7 @@ use Rattle.sheet.specs.Read.{lengthKept, linesKept, atomsOf, bondsOf, bondOf, r
 use Rattle.sheet.proofs.Accepted.{accepted-well-formed}
 use Rattle.search.specs.declared.Search.{Search}
 use Rattle.search.specs.declared.Made.{Made}
-use Rattle.host.specs.Gate.{gated}
+use Rattle.host.specs.Gate.{markRoom, gated}
 
 -- ---- the numbers of the refusals
 
@@ -118,13 +118,13 @@ module _
       search-refused s is-made e = rw (← s .is-read, s .accepted, ← is-made, e)
 
       module _ (m : SearchTaken sheet make read made) where
-        pub room-refused : leb 599 (length next) ≡ false → refuse refusal.MarkRoom ≡ result
+        pub room-refused : leb markRoom (length next) ≡ false → refuse refusal.MarkRoom ≡ result
         unfolding gated
         room-refused h =
             let s = m .of-sheet in
             rw (← s .is-read, s .accepted, ← m .is-made, m .accepted, h)
 
-        pub goes-on : leb 599 (length next) ≡ true → goes (read .molecule) (made .search) ≡ result
+        pub goes-on : leb markRoom (length next) ≡ true → goes (read .molecule) (made .search) ≡ result
         unfolding gated
         goes-on h =
             let s = m .of-sheet in
@@ -135,28 +135,28 @@ module _
 
   -- the last way, of the sheet's own record and the search made on it
   pub went-on :
-      readSheet sheet .answer ≡ Accepted → make mol .answer ≡ Accepted → 599 ≤ length next →
+      readSheet sheet .answer ≡ Accepted → make mol .answer ≡ Accepted → markRoom ≤ length next →
       goes mol (make mol .search) ≡ result
-  went-on read made room = goes-on (search-taken sheet read make made) (le-leb 599 (length next) room)
+  went-on read made room = goes-on (search-taken sheet read make made) (le-leb markRoom (length next) room)
 
   -- A call is turned back by a rule, or goes on
   pub ways :
       {Turned Went : Type 0} (Rule : ℕ → Type 0) →
       ((r : Refusal) → wellFormed mol ≡ true → make mol .answer ≡ Refused r → Rule (numberOf r)) →
       ((r : Refusal) → refuse r ≡ result → GateNumber Rule (numberOf r) → Turned) →
-      (readSheet sheet .answer ≡ Accepted → make mol .answer ≡ Accepted → 599 ≤ length next → Went) →
+      (readSheet sheet .answer ≡ Accepted → make mol .answer ≡ Accepted → markRoom ≤ length next → Went) →
       Turned ⊎ Went
   ways {Turned} {Went} Rule numbers turned went = sheet-way (readSheet sheet .answer) refl
     where
       room-way :
-          readSheet sheet .answer ≡ Accepted → make mol .answer ≡ Accepted → Dec (length next < 599) → Turned ⊎ Went
+          readSheet sheet .answer ≡ Accepted → make mol .answer ≡ Accepted → Dec (length next < markRoom) → Turned ⊎ Went
       room-way read made (yes h) =
-          let refused = room-refused (search-taken sheet read make made) (lt-leb 599 (length next) h) in
+          let refused = room-refused (search-taken sheet read make made) (lt-leb markRoom (length next) h) in
           inl (turned refusal.MarkRoom refused (inr (inl refl)))
       room-way read made (no h) = inr (went read made (omega arith))
 
       search-way : readSheet sheet .answer ≡ Accepted → (x : Answer) → make mol .answer ≡ x → Turned ⊎ Went
-      search-way read Accepted made = room-way read made (decLt (length next) 599)
+      search-way read Accepted made = room-way read made (decLt (length next) markRoom)
       search-way read (Refused r) e =
           let rule = numbers r (accepted-well-formed sheet read) e in
           inl (turned r (search-refused (sheet-taken sheet read) refl e) (inr (inr rule)))

@@ -27,6 +27,7 @@ use Rattle.history.proofs.Demand3.{fresh-sound, fresh-reached, demand3}
 use Rattle.history.proofs.Each.{rings-start}
 use Rattle.history.proofs.FromMark.{first-reached, from-mark}
 use Rattle.history.proofs.Joined.{standing-joined, history-joined}
+use Rattle.host.specs.Gate.{markRoom}
 use Rattle.host.specs.Resume.{searchFor, listedIn}
 use Rattle.host.specs.Calls.{HostCall, returned, isRefused, Kept, keeping, keptAfter, keptBy, HostAllowed}
 use Rattle.host.specs.Calls.{HostHistory, callsIn, allCallsIn, returnedDone, FirstMark}
@@ -34,7 +35,8 @@ use Rattle.host.specs.Calls.{HostGoesOn, HostStands, HostDemand, HostFro
 use Rattle.host.proofs.Answers.{search-restored}
 use Rattle.host.proofs.Fresh.{fresh-restores}
 use Rattle.host.proofs.OneCall as call
-use Rattle.host.proofs.OneCall.{Listing, ReachedIn, Agrees, HandedOn, done-in, on-in, mark-some, mark-counts}
+use Rattle.host.proofs.Sizes.{mark-some}
+use Rattle.host.proofs.OneCall.{Listing, ReachedIn, Agrees, HandedOn, done-in, on-in, mark-counts}
 
 -- what a call does, refused or not
 abbrev does : HostCall → List Call
@@ -61,7 +63,7 @@ module _ {L : Listing} {said : Bool} {k : Kept} {x : Standing} (v : Agrees L sai
     unfolding keptAfter standing
     refused-led e = rw (refused-number c e, or-false said, e) (record { history = tt; agrees = v })
 
-    handed-led : HandedOn L k c → Dec (599 ≤ length (c .next)) → LedBy
+    handed-led : HandedOn L k c → Dec (markRoom ≤ length (c .next)) → LedBy
     handed-led h (no short) = refused-led (call.no-room v c h (omega arith))
     handed-led h (yes room) =
         let stands = call.call-stands v c h room in
@@ -71,7 +73,7 @@ module _ {L : Listing} {said : Bool} {k : Kept} {x : Standing} (v : Agrees L sai
     allowed-led : HostAllowed (L .sheet) k c → LedBy
     allowed-led (inl e) = refused-led e
     allowed-led (inr (same-sheet, same-mark)) =
-        handed-led (record { same-sheet = same-sheet; same-mark = same-mark }) (decLe 599 (length (c .next)))
+        handed-led (record { same-sheet = same-sheet; same-mark = same-mark }) (decLe markRoom (length (c .next)))
 
   -- calls from what is kept and stands now
   host-on : HostGoesOn (L .sheet) (L .mol) k
@@ -292,7 +294,7 @@ pub fresh-accepted :
     (sheet : List ℕ) → readSheet sheet .answer ≡ Accepted →
     (kind s t : ℕ) → kindKept (readSheet sheet .molecule .atoms) kind s t ≡ true →
     (c : HostCall) → c .sheet ≡ sheet → c .mark ≡ markText (readSheet sheet .molecule) (freshSearch kind s t) →
-    599 ≤ length (c .next) → isRefused c ≡ false
+    markRoom ≤ length (c .next) → isRefused c ≡ false
 unfolding keptBy keeping
 fresh-accepted sheet read kind s t kept =
     let first = markText (readSheet sheet .molecule) (freshSearch kind s t) in

@@ -1,6 +1,6 @@
 -- The laws of `ringlist_resume`: which numbers it returns, that a refusal leaves both
 -- outputs as they were, and that neither its run nor its save is refused.
--- An accepted sheet keeps rule 9 and an accepted mark rule 12, a run keeps both, and a mark is at most 599 bytes.
+-- An accepted sheet keeps rule 9 and an accepted mark rule 12, a run keeps both, and a mark is at most 9,815 bytes.
 use Prim.Native.Nat.{ℕ, _+_, _≤_, _<_}
 use native.Mathlib.Decide.{ℕ-discrete}
 use native.Mathlib.Omega.{arith}
@@ -23,6 +23,7 @@ use Rattle.refusal.specs.declared.Answer.the-variants.{Accepted, Refused}
 use Rattle.refusal.specs.Number.{numberOf}
 use Rattle.molecule.specs.declared.Molecule.{Molecule}
 use Rattle.molecule.specs.Record.{wellFormed}
+use Rattle.molecule.proofs.Bonds.{rule9}
 use Rattle.sheet.specs.declared.SheetAnswer.{SheetAnswer}
 use Rattle.sheet.specs.Read.{readSheet}
 use Rattle.sheet.proofs.Accepted.{accepted-well-formed}
@@ -32,16 +33,17 @@ use Rattle.search.specs.declared.Ran.{Ran}
 use Rattle.search.specs.declared.Ended.the-variants.{Stopped}
 use Rattle.search.specs.Place.{familyOf, family, stateOf, searchAt, freshSearch, kindKept, placeKept, restorable}
 use Rattle.search.specs.Entries.{acceptedSearch, startRings, outcome, ran, runSearch, runOutput, endedNumber}
-use Rattle.search.specs.Mark.{valueAt, markText, layoutKept, markBeginning, belongs, restoreMark}
+use Rattle.search.specs.Mark.{valueAt, markText, layoutKept, markBeginning, belongs, placedSearch, restoreBy, restoreMark}
 use Rattle.search.proofs.Restores.{restored-facts}
 use Rattle.search.proofs.Views.{beginning-length}
 use Rattle.search.proofs.MarkLaws.{family-lawful, restorable-facts, restorable-valid, valid-full, fresh-restorable}
 use Rattle.search.proofs.MarkLaws.{run-restorable, mark-length, saved-restores, restored-restorable}
 use Rattle.history.proofs.Entered.{save-wrote}
+use Rattle.host.specs.Gate.{markRoom}
 use Rattle.host.specs.Resume.{Resumed, refusedCall, searchFor, runAndSave, resume, markSize, listedIn}
 use Rattle.host.proofs.Gate.{by-test, Within, within-refused, GateNumber, SearchTaken, read-formed, went-on, ways}
 use Rattle.host.proofs.Answers.{search-fresh, search-restored, listed-short}
-use Rattle.host.proofs.Sizes.{listed-restored, mark-size, mark-listed}
+use Rattle.host.proofs.Sizes.{listed-restored, mark-some, mark-size, mark-listed}
 
 -- ---- the numbers of its refusals
 
@@ -55,7 +57,7 @@ MarkRule x = Within 14 17 (x .answer)
 pub mark-numbers :
     (mol : Molecule) (mark : List ℕ) (r : Refusal) → wellFormed mol ≡ true → searchFor mol mark .answer ≡ Refused r →
     MarkNumber (numberOf r)
-unfolding searchFor startRings restoreMark
+unfolding searchFor startRings restoreMark restoreBy placedSearch
 mark-numbers mol mark r formed e =
     let kind = valueAt 4 mark 0 in
     let s = valueAt 4 mark 4 in
@@ -166,10 +168,15 @@ module _ {mol : Molecule} {q : Search} (ok : Runnable mol q) (budget : ℕ) (rin
           run-keeps-valid (family mol q) (family-lawful mol (q .kind) (q .s) (q .t))
           budget (length rings) (stateOf q) (restorable-valid mol q (ok .kept))
 
-  result-fits : length (markText mol result) ≤ 599
+  result-fits : length (markText mol result) ≤ markRoom
   result-fits =
       let short = restorable-facts mol result result-kept .short in
-      omega (arith, mark-length mol result, beginning-length result result-full short)
+      omega (
+        arith,
+        mark-length mol result (ok .formed),
+        beginning-length result result-full short,
+        rule9 mol (ok .formed) .bonds-high,
+      )
 
   result-listed : result .listed ≡ q .listed + length ws
   unfolding searchAt stateOf
@@ -180,7 +187,7 @@ module _ {mol : Molecule} {q : Search} (ok : Runnable mol q) (budget : ℕ) (rin
 
   result-restores : searchFor mol (markText mol result) ≡ acceptedSearch result
   result-restores =
-      sym (search-restored mol (markText mol result) (λ none. absurd (omega (arith, mark-length mol result))))
+      sym (search-restored mol (markText mol result) (mark-some mol result))
       ∙ saved-restores mol result (ok .formed) result-kept result-full
 
   -- what a host reads off the mark of that search, at the start of a buffer
@@ -244,7 +251,7 @@ module _ (sheet mark : List ℕ) (budget : ℕ) (rings next : List ℕ) where
     pub number-is : answer .number ≡ stopNumber why
     pub rings-are : answer .rings ≡ records words ++ drop (length (records words)) rings
     pub mark-is : answer .nextMark ≡ markText mol returned ++ drop (length (markText mol returned)) next
-    pub mark-fits : length (markText mol returned) ≤ 599
+    pub mark-fits : length (markText mol returned) ≤ markRoom
     pub size-is : markSize (answer .nextMark) ≡ length (markText mol returned)
     pub restores : searchFor mol (markText mol returned) ≡ acceptedSearch returned
     pub counted : listedIn (answer .nextMark) ≡ listedIn mark + length words
@@ -260,14 +267,14 @@ module _ (sheet mark : List ℕ) (budget : ℕ) (rings next : List ℕ) where
       }
 
   module _ (ok : Runnable mol given) (is : runAndSave mol given budget rings next ≡ answer) where
-    written : 599 ≤ length next → answer .nextMark ≡ markText mol returned ++ drop (length (markText mol returned)) next
+    written : markRoom ≤ length next → answer .nextMark ≡ markText mol returned ++ drop (length (markText mol returned)) next
     unfolding runAndSave
     written room =
         sym (ap (λ (x : Resumed). x .nextMark) is)
         ∙ save-wrote mol (ok .formed) returned next (result-kept ok budget rings)
         (omega (arith, result-fits ok budget rings))
 
-    went : 599 ≤ length next → listedIn mark ≡ given .listed → Went
+    went : markRoom ≤ length next → listedIn mark ≡ given .listed → Went
     unfolding runAndSave
     went room listed =
         let run = run-is ok budget rings in
@@ -290,7 +297,7 @@ module _ (sheet mark : List ℕ) (budget : ℕ) (rings next : List ℕ) where
 
   -- Neither the run nor the save is refused
   pub resume-accepted :
-      readSheet sheet .answer ≡ Accepted → searchFor mol mark .answer ≡ Accepted → 599 ≤ length next → Went
+      readSheet sheet .answer ≡ Accepted → searchFor mol mark .answer ≡ Accepted → markRoom ≤ length next → Went
   resume-accepted read made room =
       let formed = accepted-well-formed sheet read in
       let b = begun mol mark formed made in

@@ -5,5 +5,6 @@ pub mod Laws
 pub mod Fresh
 pub mod OneCall
 pub mod History
+pub mod Isomers
 pub mod StartLaws
 pub mod CountLaws

@@ -29,7 +29,6 @@ use Rattle.search.specs.Place.{familyOf, family, stateOf, searchAt, kindKept}
 use Rattle.search.specs.Entries.{acceptedSearch, runSearch, endedNumber}
 use Rattle.search.specs.Mark.{markText, restoreMark}
 use Rattle.search.proofs.Restores.{restored-facts}
-use Rattle.search.proofs.MarkLaws.{mark-length}
 use Rattle.history.specs.Calls.{Call, runs, saves, restores, Standing, afterCall, standing, Allowed, History}
 use Rattle.history.specs.Calls.{isDoneStop, saysDone}
 use Rattle.history.specs.Demand.{Progress, GoesOn}
@@ -37,11 +36,11 @@ use Rattle.history.proofs.Entered.{ranAt, movedBy}
 use Rattle.history.proofs.Reached as history
 use Rattle.history.proofs.Joined.{standing-joined, history-joined}
 use Rattle.history.proofs.Stands as stands
-use Rattle.host.specs.Gate.{gated}
+use Rattle.host.specs.Gate.{markRoom, gated}
 use Rattle.host.specs.Resume.{Resumed, searchFor, resume, markSize, listedIn}
 use Rattle.host.specs.Calls.{HostCall, returned, isRefused, Kept, firstRecords, markLeft, newRecords, keptAfter, callsIn}
 use Rattle.host.proofs.Answers.{search-restored}
-use Rattle.host.proofs.Sizes.{listed-restored}
+use Rattle.host.proofs.Sizes.{listed-restored, mark-some}
 use Rattle.host.proofs.Laws.{stops, Went, resume-accepted}
 
 -- as many records as words are the records of the words
@@ -154,9 +153,6 @@ module _ (L : Listing) {said : Bool} {n : ℕ} {x : Standing} (r : ReachedIn L s
 -- ---- what the entry returns and leaves
 
 -- the mark of a search has bytes, and where it restores the search it has its listed count
-pub mark-some : (mol : Molecule) (q : Search) → length (markText mol q) ≡ 0 → ⊥
-mark-some mol q z = omega (arith, mark-length mol q)
-
 pub mark-counts :
     (mol : Molecule) (mark : List ℕ) (q : Search) → restoreMark mol mark ≡ acceptedSearch q → listedIn mark ≡ q .listed
 mark-counts mol mark q e = listed-restored mol mark q (restored-facts mol mark q e)
@@ -191,7 +187,7 @@ module _ (sheet mark : List ℕ) (budget : ℕ) (rings next : List ℕ) where
 
   answered :
       (mol : Molecule) (q : Search) → readSheet sheet .answer ≡ Accepted → readSheet sheet .molecule ≡ mol →
-      searchFor mol mark ≡ acceptedSearch q → 599 ≤ length next → AnsweredOn mol q
+      searchFor mol mark ≡ acceptedSearch q → markRoom ≤ length next → AnsweredOn mol q
   answered mol q read is named room =
       let made = ap (λ (m : Molecule). searchFor m mark .answer) is ∙ ap (λ (a : Made). a .answer) named in
       subst (AnsweredOn mol) (ap (λ (a : Made). a .search) named)
@@ -222,9 +218,9 @@ module _
   ran-is : runSearch (L .mol) (x .search) (c .budget) (c .rings) .search ≡ ran-to .search
   ran-is = ap (λ (a : Ran). a .search) (ran-in L (v .reached) (c .budget) (c .rings))
 
-  pub no-room : length (c .next) < 599 → isRefused c ≡ true
+  pub no-room : length (c .next) < markRoom → isRefused c ≡ true
   unfolding isRefused gated
-  no-room short = rw (h .same-sheet, h .same-mark, L .read, L .is-record, v .named, lt-leb 599 (length (c .next)) short)
+  no-room short = rw (h .same-sheet, h .same-mark, L .read, L .is-record, v .named, lt-leb markRoom (length (c .next)) short)
 
   ran-reached : (n : ℕ) × ReachedIn L (said || isDoneStop (outcome .stop)) n ran-to
   unfolding saysDone
@@ -237,7 +233,7 @@ module _
 
   -- ---- with room for the mark
 
-  module _ (room : 599 ≤ length (c .next)) where
+  module _ (room : markRoom ≤ length (c .next)) where
     told : Answered (L .mol) (x .search) (c .budget) (c .rings) (c .next) (returned c)
     told =
         rw (h .same-sheet, h .same-mark)

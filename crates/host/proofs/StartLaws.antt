@@ -1,7 +1,7 @@
 -- The laws of the entry that starts a search: which numbers it returns, that a refusal leaves its output as it was,
 -- that otherwise the mark of the fresh search is written, and that demand 3 holds of calls from there on.
 -- By its ways; the mark is a first mark of `host-demand3`.
-use Prim.Native.Nat.{ℕ, _≤_}
+use Prim.Native.Nat.{ℕ, _+_, _*_, _≤_}
 use native.Mathlib.Omega.{arith}
 use mathlib.Core.Path.{_≡_, refl, sym, ap, _∙_}
 use mathlib.Core.Logic.{_⊎_, inl, inr}
@@ -27,6 +27,7 @@ use Rattle.search.proofs.MarkLaws.{mark-length, fresh-restorable}
 use Rattle.search.proofs.Starts.{record-taken}
 use Rattle.search.proofs.Accepts.{started-fresh, started-kept, kept-starts}
 use Rattle.history.specs.Calls.{start, standing}
+use Rattle.host.specs.Gate.{markRoom}
 use Rattle.host.specs.Resume.{markSize}
 use Rattle.host.specs.Start.{Started, refusedStart, startMark}
 use Rattle.host.specs.Calls.{HostCall, keeping, keptBy, HostHistory, allCallsIn, FirstMark, HostDemand}
@@ -75,10 +76,13 @@ kind-numbers mol kind s t r formed e = go (startSearch mol kind s t .answer) e r
 
 -- ---- the fresh mark
 
--- it has 91 bytes
-fresh-size : (mol : Molecule) (kind s t : ℕ) → length (markText mol (freshSearch kind s t)) ≡ 91
-fresh-size mol kind s t =
-    mark-length mol (freshSearch kind s t) ∙ (unfold freshSearch searchAt fresh beginning in refl)
+-- it has 91 bytes and 9 for each bond
+fresh-size :
+    (mol : Molecule) (kind s t : ℕ) → wellFormed mol ≡ true →
+    length (markText mol (freshSearch kind s t)) ≡ 91 + 9 * mol .bonds
+fresh-size mol kind s t formed =
+    let none : length (beginning (freshSearch kind s t)) ≡ 0 = unfold freshSearch searchAt fresh beginning in refl in
+    mark-length mol (freshSearch kind s t) formed ∙ ap (λ (k : ℕ). 91 + 4 * k + 9 * mol .bonds) none
 
 -- ---- the entry
 
@@ -93,6 +97,10 @@ module _ (sheet : List ℕ) (kind s t : ℕ) (next : List ℕ) where
   abbrev pub mark : List ℕ
   mark = markText mol (freshSearch kind s t)
 
+  -- its bytes
+  abbrev pub size : ℕ
+  size = 91 + 9 * mol .bonds
+
   -- It is turned back by a rule, and leaves its output as it was
   pub record Turned : Type 0 where
     pub rule : Refusal
@@ -105,8 +113,8 @@ module _ (sheet : List ℕ) (kind s t : ℕ) (next : List ℕ) where
     pub number-is : answer .number ≡ 0
     pub read : readSheet sheet .answer ≡ Accepted
     pub accepted : startSearch mol kind s t .answer ≡ Accepted
-    pub room : 599 ≤ length next
-    pub mark-is : answer .nextMark ≡ mark ++ drop 91 next
+    pub room : markRoom ≤ length next
+    pub mark-is : answer .nextMark ≡ mark ++ drop size next
 
   turned : (r : Refusal) → refusedStart r next ≡ answer → StartNumber (numberOf r) → Turned
   turned r e h = record {
@@ -117,7 +125,7 @@ module _ (sheet : List ℕ) (kind s t : ℕ) (next : List ℕ) where
   }
 
   began :
-      readSheet sheet .answer ≡ Accepted → startSearch mol kind s t .answer ≡ Accepted → 599 ≤ length next → Began
+      readSheet sheet .answer ≡ Accepted → startSearch mol kind s t .answer ≡ Accepted → markRoom ≤ length next → Began
   began read made room =
       let written = went-on _ _ _ _ _ read made room in
       record {
@@ -129,7 +137,7 @@ module _ (sheet : List ℕ) (kind s t : ℕ) (next : List ℕ) where
             sym (ap (λ (x : Started). x .nextMark) written)
             ∙ ap (λ (x : Made). markText mol (x .search) ++ drop (length (markText mol (x .search))) next)
             (started-fresh mol kind s t made)
-            ∙ ap (λ (k : ℕ). mark ++ drop k next) (fresh-size mol kind s t);
+            ∙ ap (λ (k : ℕ). mark ++ drop k next) (fresh-size mol kind s t (accepted-well-formed sheet read));
       }
 
   either : Turned ⊎ Began
@@ -168,9 +176,9 @@ module _ (sheet : List ℕ) (kind s t : ℕ) (next : List ℕ) where
       go (inl turned) = absurd (not-zero (numberOf (turned .rule)) (turned .ranged) (sym (turned .number-is) ∙ zero))
       go (inr began) = began
 
-  -- Every search that rule 16 allows on the sheet's record is started, where the output has 599 bytes
+  -- Every search that rule 16 allows on the sheet's record is started, where the output has 9,815 bytes
   pub start-accepts :
-      readSheet sheet .answer ≡ Accepted → kindKept (mol .atoms) kind s t ≡ true → 599 ≤ length next → Began
+      readSheet sheet .answer ≡ Accepted → kindKept (mol .atoms) kind s t ≡ true → markRoom ≤ length next → Began
   start-accepts read kept room =
       let made = ap (λ (x : Made). x .answer) (kept-starts mol kind s t (accepted-well-formed sheet read) kept) in
       began read made room
@@ -182,32 +190,33 @@ module _ (sheet : List ℕ) (kind s t : ℕ) (next : List ℕ) where
     pub start-kind : kindKept (mol .atoms) kind s t ≡ true
     start-kind = started-kept mol kind s t (start-began zero .accepted)
 
-    -- the first 91 bytes of the output are the fresh mark
-    pub start-mark : take 91 (answer .nextMark) ≡ mark
+    -- the first bytes of the output are the fresh mark
+    pub start-mark : take size (answer .nextMark) ≡ mark
     start-mark =
-        ap (take 91) (start-began zero .mark-is)
-        ∙ ap (λ (k : ℕ). take k (mark ++ drop 91 next)) (sym (fresh-size mol kind s t))
-        ∙ take-append-seam mark (drop 91 next)
+        let formed = accepted-well-formed sheet (start-began zero .read) in
+        ap (take size) (start-began zero .mark-is)
+        ∙ ap (λ (k : ℕ). take k (mark ++ drop size next)) (sym (fresh-size mol kind s t formed))
+        ∙ take-append-seam mark (drop size next)
 
     -- and ringlist_mark_length says so
-    pub start-size : markSize (answer .nextMark) ≡ 91
+    pub start-size : markSize (answer .nextMark) ≡ size
     start-size =
         let formed = accepted-well-formed sheet (start-began zero .read) in
         ap markSize (start-began zero .mark-is)
         ∙ mark-size mol (freshSearch kind s t) formed (fresh-restorable mol kind s t formed start-kind)
-        (fresh-full kind s t) (drop 91 next)
-        ∙ fresh-size mol kind s t
+        (fresh-full kind s t) (drop size next)
+        ∙ fresh-size mol kind s t formed
 
     -- the mark that it wrote is a first mark
-    pub start-first : FirstMark mol kind s t (take 91 (answer .nextMark))
+    pub start-first : FirstMark mol kind s t (take size (answer .nextMark))
     start-first = (start-kind, inl start-mark)
 
     -- Demand 3 over every sheet, kind, s, t and buffer of a start that returned 0, and every list of calls that
     -- begins with the mark that it wrote
     pub start-demand3 :
-        let first = take 91 (answer .nextMark) in
+        let first = take size (answer .nextMark) in
         (calls : List HostCall) → HostHistory sheet (keeping first) calls →
         HostDemand sheet mol kind s t first calls
         (keptBy (keeping first) calls) (standing (start kind s t) (allCallsIn calls))
     start-demand3 =
-        host-demand3 sheet (start-began zero .read) kind s t (take 91 (answer .nextMark)) start-first
+        host-demand3 sheet (start-began zero .read) kind s t (take size (answer .nextMark)) start-first

@@ -11,7 +11,7 @@ use Rattle.molecule.specs.declared.Molecule.{Molecule}
 use Rattle.search.specs.declared.Search.{Search}
 use Rattle.search.specs.declared.Made.{Made}
 use Rattle.search.specs.Entries.{startRings, runSearch, runOutput, endedNumber}
-use Rattle.search.specs.Mark.{fieldKept, fieldsKept, valueAt, markBonds, markLength, saveOutput, restoreMark}
+use Rattle.search.specs.Mark.{fieldKept, valueAt, markBonds, markLength, saveOutput, restoreMark}
 use Rattle.host.specs.Gate.{gated}
 
 -- What the entry returns, and its two outputs after it
@@ -53,7 +53,12 @@ namedSize bytes = 91 + 4 * markLength bytes + 9 * markBonds bytes
 -- is no field of a mark (one that zeros fill is none), or the buffer has fewer bytes
 unfoldable pub markSize : List ℕ → ℕ
 markSize bytes =
-    cond (leb 91 (length bytes) && fieldsKept 4 bytes 16 2 && leb (namedSize bytes) (length bytes)) (namedSize bytes) 0
+    cond
+    (leb 91 (length bytes)
+    && fieldKept 4 bytes 16
+    && fieldKept 4 bytes 20
+    && leb (namedSize bytes) (length bytes))
+    (namedSize bytes) 0
 
 -- The listed count of a mark; 0 where there is none, as in no bytes or in a field that zeros fill
 unfoldable pub listedIn : List ℕ → ℕ

@@ -4,6 +4,7 @@ ghost use mathlib.Core.Bool.{true};
 ghost use lib.Dec.{leb};
 ghost use Rattle.molecule.specs.Record.{wellFormed};
 ghost use Rattle.search.specs.Place.{restorable};
+ghost use Rattle.host.specs.Gate.{markRoom};
 ghost use Rattle.host.specs.Resume.{searchFor, runAndSave, resume, markSize, listedIn};
 ghost use Rattle.host.specs.Start.{startMark};
 ghost use Rattle.host.specs.Count.{countSheet};
@@ -46,9 +47,9 @@ fn run_and_save(m: Molecule, q: Search, budget: u64, rings: &mut [u8], next_mark
 
 // Rule 13: whether a mark output of so many bytes has room for every mark.
 fn has_room(len: usize) -> bool
-    ensures { λ r. ⌜ r ≡ leb 599 len ⌝ }
+    ensures { λ r. ⌜ r ≡ leb markRoom len ⌝ }
 {
-    len >= 599
+    len >= 9815
 }
 
 // Reads a sheet, restores a mark, runs within a budget and saves: rules 1 to 8, 14 to 17, 13.
@@ -145,7 +146,7 @@ pub extern "C" fn ringlist_count_shortest(sheet: &[u8], s: u64, t: u64, count: &
     }
 }
 
-// The bytes of the mark at the start of a buffer, by the length of p that it names;
+// The bytes of the mark at the start of a buffer, by the bonds and the length of p that it names;
 // 0 where the buffer holds no such mark.
 #[no_mangle]
 pub extern "C" fn ringlist_mark_length(mark: &[u8]) -> usize
@@ -154,14 +155,15 @@ pub extern "C" fn ringlist_mark_length(mark: &[u8]) -> usize
     if mark.len() < 91 {
         return 0;
     }
-    let field = fields::number_at(mark, 4, 20);
-    let Number::Value(k, zeros) = field else {
-        return 0;
-    };
-    if zeros {
+    if !fields::blanks_only(fields::number_at(mark, 4, 16)) {
         return 0;
     }
-    let size = 91 + 4 * (k as usize);
+    if !fields::blanks_only(fields::number_at(mark, 4, 20)) {
+        return 0;
+    }
+    let bonds = fields::value_at(mark, 4, 16) as usize;
+    let len = fields::value_at(mark, 4, 20) as usize;
+    let size = 91 + 4 * len + 9 * bonds;
     if mark.len() < size {
         return 0;
     }

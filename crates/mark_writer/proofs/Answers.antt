@@ -1,5 +1,5 @@
 -- The answers of a save past rules 9 and 12: rule 13, or the mark written.
--- The length of a mark is 91 + 4 × that of its beginning, so the test of the code is the definition's.
+-- A mark is 91 + 4 × length + 9 × m bytes, so the test of the code is the definition's.
 use Prim.Native.Nat.{ℕ, _+_, _*_, _≤_, _<_}
 use native.Mathlib.Omega.{arith}
 use mathlib.Core.Path.{_≡_, ap, sym, _∙_}
@@ -9,6 +9,7 @@ use lib.ListN.{length}
 use Rattle.refusal.specs.declared.Refusal.the-variants as refusal
 use Rattle.molecule.specs.declared.Molecule.{Molecule}
 use Rattle.molecule.specs.Record.{wellFormed}
+use Rattle.molecule.proofs.Bonds.{rule9}
 use Rattle.search.specs.declared.Search.{Search}
 use Rattle.search.specs.declared.Saved.the-variants.{Written, Refused}
 use Rattle.search.specs.Place.{restorable}
@@ -29,24 +30,32 @@ module _ {mol : Molecule} {q : Search} (s : Saving mol q) where
   pub saving-short : q .len ≤ 127
   saving-short = restorable-facts mol q (s .kept) .short
 
-  mark-size : length (markText mol q) ≡ 91 + 4 * q .len
-  mark-size = mark-length mol q ∙ ap (λ k. 91 + 4 * k) (beginning-length q (s .full) saving-short)
+  pub saving-few : mol .bonds ≤ 1024
+  saving-few = rule9 mol (s .formed) .bonds-high
+
+  abbrev size : ℕ
+  size = 91 + 4 * q .len + 9 * mol .bonds
+
+  mark-size : length (markText mol q) ≡ size
+  mark-size =
+      mark-length mol q (s .formed) ∙
+      ap (λ k. 91 + 4 * k + 9 * mol .bonds) (beginning-length q (s .full) saving-short)
 
   module _ (out : List ℕ) where
     pub saved-room :
-        length out < 91 + 4 * q .len →
+        length out < size →
         (Refused refusal.MarkRoom ≡ saveAnswer mol q out) × (out ≡ saveOutput mol q out)
     saved-room h =
         let answer = save-room mol q out (s .formed) (s .kept) (omega (arith, mark-size)) in
         (sym answer, sym (save-refused mol q out refusal.MarkRoom answer))
 
-    module _ (room : 91 + 4 * q .len ≤ length out) where
-      pub saving-fits : MarkFits q out
-      saving-fits = record { short = saving-short; full = s .full; room = room }
+    module _ (room : size ≤ length out) where
+      pub saving-fits : MarkFits mol q out
+      saving-fits = record { formed = s .formed; short = saving-short; full = s .full; room = room }
 
       pub saved-written :
           {last : List ℕ} → last ≡ spliced 0 (markText mol q) out →
-          (Written (91 + 4 * q .len) ≡ saveAnswer mol q out) × (last ≡ saveOutput mol q out)
+          (Written size ≡ saveAnswer mol q out) × (last ≡ saveOutput mol q out)
       unfolding saveOutput
       saved-written put =
           let answer = save-writes mol q out (s .formed) (s .kept) (omega (arith, mark-size)) in

@@ -1,2 +1,4 @@
 pub mod Splices
+pub mod CellBonds
+pub mod BondSplices
 pub mod Answers

@@ -12,13 +12,17 @@ use Rattle.fields.specs.Field.{fieldText}
 use Rattle.fields.proofs.Laws.{field-length}
 use Rattle.fields.proofs.Places.{place-first, place-on, place-fits}
 use Rattle.molecule.specs.declared.Molecule.{Molecule}
+use Rattle.molecule.specs.BondList.{bondList}
+use Rattle.molecule.proofs.Bonds.{rule9}
+use Rattle.molecule.proofs.BondCount.{bonds-count}
 use Rattle.search.specs.declared.Search.{Search}
 use Rattle.search.specs.Place.{beginning}
-use Rattle.search.specs.Mark.{fieldsText, lineFeed, markText}
+use Rattle.search.specs.Mark.{fieldsText, lineFeed, threeLines, bondLines, markText}
 use Rattle.search.proofs.Text.{fields-length, fields-more}
 use Rattle.search.proofs.Views.{beginning-length}
-use Rattle.search.proofs.Restores.{headOf, countsOf}
-use Rattle.mark_writer.specs.Parts.{MarkFits, spliced}
+use Rattle.search.proofs.Restores.{headOf, countsOf, three-length}
+use Rattle.search.proofs.MarkLaws.{mark-length}
+use Rattle.mark_writer.specs.Parts.{spliced, BondsFit, LinesFit, MarkFits}
 
 -- ---- one splice
 
@@ -66,7 +70,7 @@ splice-on l a b at h =
     rw (same-front, same-rest) (ap (λ t. t ++ drop end l) (append-assoc (take at l) a b))
 
 -- the same, where the first splice's list and the second's place are known by equations
-splice-next :
+pub splice-next :
     (l a b out : List ℕ) (at place : ℕ) → out ≡ spliced at a l → place ≡ at + length a → place + length b ≤ length l →
     spliced place b out ≡ spliced at (a ++ b) l
 splice-next l a b out at place e p h = rw (e, p) (splice-on l a b at (omega arith))
@@ -133,18 +137,18 @@ front-more {l} {text} {out} f more k size room e =
       put = e ∙ splice-next l text more out 0 _ (f .put) (omega (arith, f .size)) (omega arith);
     }
 
-module _ {q : Search} {l : List ℕ} (fits : MarkFits q l) where
+module _ {q : Search} {l : List ℕ} (fits : LinesFit q l) where
   pub fits-length : length (beginning q) ≡ q .len
   fits-length = beginning-length q (fits .full) (fits .short)
 
   -- six texts, each put where the one before it ends
-  pub mark-put :
+  pub lines-put :
       (mol : Molecule) {l1 l2 l3 l4 l5 l6 : List ℕ} → l1 ≡ spliced 0 (fieldsText 4 (headOf mol q)) l →
       l2 ≡ spliced 28 lineFeed l1 → l3 ≡ spliced 29 (fieldsText 20 (countsOf q)) l2 → l4 ≡ spliced 89 lineFeed l3 →
       l5 ≡ spliced 90 (fieldsText 4 (beginning q)) l4 → l6 ≡ spliced (90 + 4 * q .len) lineFeed l5 →
-      l6 ≡ spliced 0 (markText mol q) l
-  unfolding markText
-  mark-put mol e1 e2 e3 e4 e5 e6 =
+      l6 ≡ spliced 0 (threeLines mol q) l
+  unfolding threeLines
+  lines-put mol e1 e2 e3 e4 e5 e6 =
       let room = fits .room in
       let size = fields-length 4 (beginning q) ∙ ap (λ k. 4 * k) fits-length in
       let head : Front l _ _ 28 = record { size = fields-length 4 (headOf mol q); put = e1 } in
@@ -153,3 +157,29 @@ module _ {q : Search} {l : List ℕ} (fits : MarkFits q l) where
       let second = front-more counts lineFeed 1 refl (omega arith) e4 in
       let atoms = front-more second (fieldsText 4 (beginning q)) (4 * q .len) size (omega arith) e5 in
       front-more atoms lineFeed 1 refl (omega arith) e6 .put
+
+-- ---- a mark
+
+module _ {mol : Molecule} {q : Search} {l : List ℕ} (fits : MarkFits mol q l) where
+  pub fits-lines : LinesFit q l
+  fits-lines = let room = fits .room in record { short = fits .short; full = fits .full; room = omega arith }
+
+  -- past the three lines there is room for the bond lines
+  pub fits-bonds : (out : List ℕ) → length out ≡ length l → BondsFit (mol .rows) (mol .atoms) out (91 + 4 * q .len)
+  fits-bonds out same =
+      let rule = rule9 mol (fits .formed) in
+      let room = fits .room in
+      record { few = rule .atoms-high; sound = rule .rows-sound; room = omega (arith, bonds-count mol (fits .formed)) }
+
+  -- they are put where the three lines end
+  pub mark-put :
+      {l1 l2 : List ℕ} → l1 ≡ spliced 0 (threeLines mol q) l →
+      l2 ≡ spliced (91 + 4 * q .len) (bondLines (bondList (mol .rows))) l1 → l2 ≡ spliced 0 (markText mol q) l
+  unfolding markText
+  mark-put {l1} e1 e2 =
+      let bonds = bondLines (bondList (mol .rows)) in
+      let len = fits-length fits-lines in
+      let three = three-length mol q in
+      let whole = sym (length-append (threeLines mol q) bonds) ∙ mark-length mol q (fits .formed) in
+      let room = fits .room in
+      e2 ∙ splice-next l (threeLines mol q) bonds l1 0 (91 + 4 * q .len) e1 (omega arith) (omega arith)

@@ -1,4 +1,4 @@
-// The text of a mark (document 01, "Marks"), and saving a search that rules 9 and 12 allow: rule 13.
+// The text of a mark (document 01, "Marks", and request F-5), and saving a search that rules 9 and 12 allow: rule 13.
 ghost use mathlib.Core.Path.{_≡_};
 ghost use mathlib.Core.Bool.{true};
 ghost use mathlib.Core.List.{[], _∷_};
@@ -7,8 +7,11 @@ ghost use lib.ListN.{length};
 ghost use Rattle.fields.specs.Field.{fieldText};
 ghost use Rattle.molecule.specs.Record.{wellFormed};
 ghost use Rattle.search.specs.Place.{restorable};
-ghost use Rattle.search.specs.Mark.{fieldsText, markText, saveAnswer, saveOutput};
-ghost use Rattle.mark_writer.specs.Parts.{MarkFits, spliced};
+ghost use Rattle.search.specs.Mark.{fieldsText, threeLines, bondLines, markText};
+ghost use Rattle.search.specs.Mark.{saveAnswer, saveOutput};
+ghost use Rattle.molecule.specs.BondList.{bondList};
+ghost use Rattle.mark_writer.specs.Parts.{spliced, cellBonds, byteBonds, rowBonds, LinesPut};
+ghost use Rattle.mark_writer.specs.Parts.{CellFits, ByteFits, RowFits, BondsFit, LinesFit, MarkFits};
 use molecule::Molecule;
 use refusal::Refusal;
 use search::Saved;
@@ -59,10 +62,82 @@ fn put_feed(out: &mut [u8], at: usize)
     out[at] = 10;
 }
 
+// The line of one bond.
+fn put_bond(out: &mut [u8], at: usize, a: usize, b: usize)
+    requires { ⌜ at + 9 ≤ length (now out) ⌝ }
+    ensures { λ _. ⌜ now (out .exit) ≡ spliced at (bondLines ((a, b) ∷ [])) (now (out .entry)) ⌝ }
+{
+    put_field(out, at, 4, a as u64);
+    put_field(out, at + 4, 4, b as u64);
+    put_feed(out, at + 8);
+}
+
+// The line of the bond in cell k of a byte of the rows, where it has one above the diagonal, and the place past it.
+fn put_cell(out: &mut [u8], place: usize, rows: &[u8; 2048], at: usize, k: usize) -> usize
+    requires { ⌜ CellFits (now rows) at k (now out) place ⌝ }
+    ensures { λ r. ⌜ LinesPut (cellBonds (now (rows .entry)) at k) place (now (out .entry)) (now (out .exit)) r ⌝ }
+{
+    if (rows[at] >> k) % 2 != 1 {
+        return place;
+    }
+    let row = at / 16;
+    let column = at % 16 * 8 + k;
+    if column <= row {
+        return place;
+    }
+    put_bond(out, place, row + 1, column + 1);
+    place + 9
+}
+
+// The lines of the bonds in the 8 cells of a byte, and the place past them.
+fn put_byte(out: &mut [u8], place: usize, rows: &[u8; 2048], at: usize) -> usize
+    requires { ⌜ ByteFits (now rows) at (now out) place ⌝ }
+    ensures { λ r. ⌜ LinesPut (byteBonds (now (rows .entry)) at) place (now (out .entry)) (now (out .exit)) r ⌝ }
+{
+    if rows[at] == 0 {
+        return place;
+    }
+    let mut end = place;
+    let mut k: usize = 0;
+    while k < 8 {
+        end = put_cell(out, end, rows, at, k);
+        k += 1;
+    }
+    end
+}
+
+// The lines of the bonds in one row of n atoms, and the place past them. Bytes before the diagonal or past n have none.
+fn put_row(out: &mut [u8], place: usize, rows: &[u8; 2048], n: usize, row: usize) -> usize
+    requires { ⌜ RowFits (now rows) n row (now out) place ⌝ }
+    ensures { λ r. ⌜ LinesPut (rowBonds (now (rows .entry)) row) place (now (out .entry)) (now (out .exit)) r ⌝ }
+{
+    let last = (n + 7) / 8;
+    let mut end = place;
+    let mut i = row / 8;
+    while i < last {
+        end = put_byte(out, end, rows, 16 * row + i);
+        i += 1;
+    }
+    end
+}
+
+// The lines of the bonds of n atoms.
+fn put_bonds(out: &mut [u8], at: usize, rows: &[u8; 2048], n: usize)
+    requires { ⌜ BondsFit (now rows) n (now out) at ⌝ }
+    ensures { λ _. ⌜ now (out .exit) ≡ spliced at (bondLines (bondList (now (rows .entry)))) (now (out .entry)) ⌝ }
+{
+    let mut row: usize = 0;
+    let mut place = at;
+    while row < n {
+        place = put_row(out, place, rows, n, row);
+        row += 1;
+    }
+}
+
 // The three lines of a mark, of a search that need not keep rule 12.
-pub fn put_mark(m: Molecule, q: Search, out: &mut [u8])
-    requires { ⌜ MarkFits q (now out) ⌝ }
-    ensures { λ _. ⌜ now (out .exit) ≡ spliced 0 (markText m q) (now (out .entry)) ⌝ }
+pub fn put_three_lines(m: Molecule, q: Search, out: &mut [u8])
+    requires { ⌜ LinesFit q (now out) ⌝ }
+    ensures { λ _. ⌜ now (out .exit) ≡ spliced 0 (threeLines m q) (now (out .entry)) ⌝ }
 {
     let len = q.len;
     let prefix = q.prefix;
@@ -84,6 +159,17 @@ pub fn put_mark(m: Molecule, q: Search, out: &mut [u8])
     put_feed(out, 90 + 4 * len);
 }
 
+// The mark of such a search: three lines, and then a line for each bond.
+pub fn put_mark(m: Molecule, q: Search, out: &mut [u8])
+    requires { ⌜ MarkFits m q (now out) ⌝ }
+    ensures { λ _. ⌜ now (out .exit) ≡ spliced 0 (markText m q) (now (out .entry)) ⌝ }
+{
+    let len = q.len;
+    let rows = m.rows;
+    put_three_lines(m, q, out);
+    put_bonds(out, 91 + 4 * len, &rows, m.atoms);
+}
+
 // Saves a search that rules 9 and 12 allow as a mark: rule 13. Only the mark's bytes are written.
 pub fn save_checked(m: Molecule, q: Search, out: &mut [u8]) -> Saved
     requires { ⌜ (wellFormed m ≡ true) × (restorable m q ≡ true) ⌝ }
@@ -92,7 +178,7 @@ pub fn save_checked(m: Molecule, q: Search, out: &mut [u8]) -> Saved
         (now (out .exit) ≡ saveOutput m q (now (out .entry))) ⌝ }
 {
     let len = q.len;
-    let size = 91 + 4 * len;
+    let size = 91 + 4 * len + 9 * m.bonds;
     if out.len() < size {
         return Saved::Refused(Refusal::MarkRoom);
     }

@@ -28,11 +28,11 @@ numberOf PathEnd = 10
 numberOf SameEnds = 11
 -- a search handed to a run or a save could not be restored from any mark on this molecule
 numberOf Search = 12
--- the mark output is shorter than the mark (host entry: than 599)
+-- the mark output is shorter than the mark (entries for the C host: than 9,815; document 02, F-5)
 numberOf MarkRoom = 13
 -- the mark's bytes do not follow the layout
 numberOf MarkBytes = 14
--- the mark's n or m differs from the molecule's
+-- the mark's n or bonds differ from the molecule's (document 02, F-5)
 numberOf MarkMolecule = 15
 -- the kind is not 0, 1, 2 or 3, or s and t are not 0 and 0 for rings, or break rule 10 or 11 for paths and shortest
 -- paths, or s breaks rule 21 or t is not 0 for rings up to a size

@@ -1,7 +1,8 @@
 -- `mark_writer::save_checked` meets its contract, by rule 13: the size of a mark is that of its text.
 use native.Mathlib.Omega.{arith}
 use borrow.Author.Needs.{needs}
-use Rattle.mark_writer.proofs.Answers.{Saving, saving-short, saving-fits, saved-room, saved-written}
+use Rattle.mark_writer.proofs.Answers.{Saving, saving-short, saving-few, saving-fits}
+use Rattle.mark_writer.proofs.Answers.{saved-room, saved-written}
 use Rattle.mark_writer.proofs.save_checked.Statement.{statement}
 use Rattle.mark_writer.proofs.save_checked.Tie as tie
 
@@ -12,11 +13,8 @@ saving c = record { formed = c .pre .0; kept = c .pre .1; full = search needs }
 
 -- ---- the needs (the argument `(search)` is a place: it is found in c by its type)
 
-mul-size : tie.Need-mul-size
-mul-size c = omega (arith, saving-short (saving (search)))
-
-add-size : tie.Need-add-size
-add-size c = omega (arith, saving-short (saving (search)))
+add-size-2 : tie.Need-add-size-2
+add-size-2 c = omega (arith, saving-short (saving (search)), saving-few (saving (search)))
 
 returns : tie.Need-returns
 returns c = saved-room (saving (search)) _ (c .if1 .taken)
@@ -31,4 +29,9 @@ returns-2 c =
     saved-written (saving (search)) _ (room .if1 .left) (put .put-mark .ensures)
 
 pub save-checked-spec : {M : Type 1} → statement M
-save-checked-spec = tie.close (tie.spec mul-size add-size returns put-mark-requires (λ c. search needs) returns-2)
+save-checked-spec =
+    tie.close
+    (tie.spec
+    (λ c. omega (arith, saving-short (saving (search)))) (λ c. omega (arith, saving-short (saving (search))))
+    (λ c. omega (arith, saving-few (saving (search)))) add-size-2 returns put-mark-requires (λ c. search needs)
+    returns-2)
