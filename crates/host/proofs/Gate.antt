@@ -149,7 +149,8 @@ module _
   ways {Turned} {Went} Rule numbers turned went = sheet-way (readSheet sheet .answer) refl
     where
       room-way :
-          readSheet sheet .answer ≡ Accepted → make mol .answer ≡ Accepted → Dec (length next < markRoom) → Turned ⊎ Went
+          readSheet sheet .answer ≡ Accepted → make mol .answer ≡ Accepted → Dec (length next < markRoom) →
+          Turned ⊎ Went
       room-way read made (yes h) =
           let refused = room-refused (search-taken sheet read make made) (lt-leb markRoom (length next) h) in
           inl (turned refusal.MarkRoom refused (inr (inl refl)))

@@ -1,5 +1,5 @@
--- A mark in a call from C (document 02, F-5): its bond lines are laid out as on a blank-filled sheet, and a call with the
--- mark of an isomer is refused by 15. Line by line; and by the law of the mark of another molecule.
+-- A mark in a call from C (document 02, F-5): its bond lines are laid out as on a blank-filled sheet, and a call with
+-- the mark of an isomer is refused by 15. Line by line; and by the law of the mark of another molecule.
 use Prim.Native.Nat.{ℕ}
 use mathlib.Core.Path.{_≡_, refl, ap, sym, _∙_}
 use mathlib.Core.Bool.{true, false}

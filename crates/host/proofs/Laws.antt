@@ -267,7 +267,9 @@ module _ (sheet mark : List ℕ) (budget : ℕ) (rings next : List ℕ) where
       }
 
   module _ (ok : Runnable mol given) (is : runAndSave mol given budget rings next ≡ answer) where
-    written : markRoom ≤ length next → answer .nextMark ≡ markText mol returned ++ drop (length (markText mol returned)) next
+    written :
+        markRoom ≤ length next →
+        answer .nextMark ≡ markText mol returned ++ drop (length (markText mol returned)) next
     unfolding runAndSave
     written room =
         sym (ap (λ (x : Resumed). x .nextMark) is)

@@ -220,7 +220,9 @@ module _
 
   pub no-room : length (c .next) < markRoom → isRefused c ≡ true
   unfolding isRefused gated
-  no-room short = rw (h .same-sheet, h .same-mark, L .read, L .is-record, v .named, lt-leb markRoom (length (c .next)) short)
+  no-room short =
+      let room = lt-leb markRoom (length (c .next)) short in
+      rw (h .same-sheet, h .same-mark, L .read, L .is-record, v .named, room)
 
   ran-reached : (n : ℕ) × ReachedIn L (said || isDoneStop (outcome .stop)) n ran-to
   unfolding saysDone

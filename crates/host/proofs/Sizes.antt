@@ -36,7 +36,8 @@ listed-kept {bytes = bytes} lines =
     (unfold fieldsKept in (lines .counts-kept)) 2 (omega arith)
 
 -- fields of the first line that say how long a mark is
-head-kept : {perBond : ℕ} {bytes : List ℕ} → ThreeLines perBond bytes → (i : ℕ) → i < 7 → fieldKept 4 bytes (4 * i) ≡ true
+head-kept :
+    {perBond : ℕ} {bytes : List ℕ} → ThreeLines perBond bytes → (i : ℕ) → i < 7 → fieldKept 4 bytes (4 * i) ≡ true
 head-kept {bytes = bytes} lines =
     allBelow-at 7 (λ (i : ℕ). fieldKept 4 bytes (4 * i)) (unfold fieldsKept in (lines .head-kept))
 

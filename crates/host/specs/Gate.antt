@@ -17,8 +17,8 @@ use Rattle.search.specs.declared.Made.{Made}
 abbrev pub markRoom : ℕ
 markRoom = 9815
 
--- The sheet is read (rules 1 to 8), a search is made on its record (by the rules of `make`), so many bytes are asked for
--- the mark output (13), and the call goes on
+-- The sheet is read (rules 1 to 8), a search is made on its record (by the rules of `make`), so many bytes are asked
+-- for the mark output (13), and the call goes on
 unfoldable pub gated :
     {A : Type 0} → (Refusal → A) → List ℕ → (Molecule → Made) → List ℕ → (Molecule → Search → A) → A
 gated refuse sheet make next goes =

@@ -187,8 +187,10 @@ table =
     ∷ sheetRun 6 3 (ends Full (searchWith 0 0 0 (1 ∷ 2 ∷ []) 3 0 2 5) 0) (255 ∷ 255 ∷ 255 ∷ []) sheetMark 144
     -- budget 0 ends spent
     ∷ sheetRun 0 3 (ends Spent (searchWith 0 0 0 [] 1 0 0 0) 0) (255 ∷ 255 ∷ 255 ∷ [])
-    (markOf "   0   0   0   4   5   0   1" "                   0                   0                   0" "" sheetBonds) 136
+    (markOf
+    "   0   0   0   4   5   0   1" "                   0                   0                   0" "" sheetBonds) 136
     -- budget 16 with 8 bytes ends done
     ∷ sheetRun 16 8 (ends Done (searchWith 0 0 0 [] 5 2 3 16) 8) (3 ∷ 1 ∷ 2 ∷ 3 ∷ 3 ∷ 1 ∷ 3 ∷ 4 ∷ [])
-    (markOf "   0   0   0   4   5   0   5" "                  16                   3                   2" "" sheetBonds) 136
+    (markOf
+    "   0   0   0   4   5   0   5" "                  16                   3                   2" "" sheetBonds) 136
     ∷ []
