@@ -1,9 +1,7 @@
--- The bits of the words that the operations make: and, or, difference,
--- one bit, the low bits, the lowest bit, and bytes joined.
--- By induction on the place, a bit at a time from the lowest.
+-- The bits of the words that the operations make: and, or, difference, one bit, the low bits, the lowest bit, and bytes
+-- joined. By induction on the place, a bit at a time from the lowest.
 use Prim.Native.Nat.{ℕ, zero, suc, _+_, _-_, _*_, _/_, _%_, _^_, _≤_, _<_, min}
-use native.Mathlib.Nat.{div-one, zero-div, pow-suc, mod-lt, min-le-left, zero-lt-suc}
-use native.Mathlib.Numerals.{one-add}
+use native.Mathlib.Nat.{zero-div, pow-suc, mod-lt, min-le-left, zero-lt-suc}
 use native.Mathlib.Omega.{arith}
 use native.Mathlib.Decide.{ℕ-discrete}
 use mathlib.Core.Path.{_≡_, refl, ap, ap₂, sym, _∙_}
@@ -15,13 +13,7 @@ use lib.Bits.{bitAnd, bitOr, and-step, and-shr, or-shr, and-mod, or-mod, and-le-
 use lib.Count.{trailingZeros, under}
 use borrow.Author.Tests.{eqb-true, eq-eqb, ne-eqb, lt-ltb, le-ltb}
 use Rattle.molecule.specs.Record.{bit}
-
--- the lowest bit, and the others
-pub bit-first : (x : ℕ) → bit x 0 ≡ eqb (x % 2) 1
-bit-first x = ap (λ (n : ℕ). eqb (n % 2) 1) (div-one x)
-
-pub bit-next : (x k : ℕ) → bit x (suc k) ≡ bit (x / 2) k
-bit-next x k = ap (λ (n : ℕ). eqb (n % 2) 1) (ap (λ (n : ℕ). x / 2 ^ n) (sym (one-add k)) ∙ sym (shr-shr x 1 k))
+use Rattle.molecule.proofs.Bits.{bit-first, bit-half}
 
 pub bit-none : (k : ℕ) → bit 0 k ≡ false
 bit-none k = rw (zero-div (2 ^ k))
@@ -92,20 +84,20 @@ bit-less x y zero =
     less-digit (x % 2) (y % 2) (digit x) (digit y) ∙
     ap₂ (λ (p q : Bool). p && not q) (sym (bit-first x)) (sym (bit-first y))
 bit-less x y (suc k) =
-    bit-next (x - bitAnd x y) k ∙ ap (λ (n : ℕ). bit n k) (and-half x y) ∙ bit-less (x / 2) (y / 2) k ∙
-    ap₂ (λ (p q : Bool). p && not q) (sym (bit-next x k)) (sym (bit-next y k))
+    bit-half (x - bitAnd x y) k ∙ ap (λ (n : ℕ). bit n k) (and-half x y) ∙ bit-less (x / 2) (y / 2) k ∙
+    ap₂ (λ (p q : Bool). p && not q) (sym (bit-half x k)) (sym (bit-half y k))
 
 -- one bit
 
 pub bit-power : (i k : ℕ) → bit (2 ^ i) k ≡ eqb k i
 bit-power zero zero = refl
-bit-power zero (suc k) = bit-next 1 k ∙ bit-none k ∙ sym (eqb·suc-zero k)
+bit-power zero (suc k) = bit-half 1 k ∙ bit-none k ∙ sym (eqb·suc-zero k)
 bit-power (suc i) zero =
     let even : 2 ^ suc i % 2 ≡ 0 = rw (pow-suc 2 i) (omega arith) in
     bit-first (2 ^ suc i) ∙ ap (λ (n : ℕ). eqb n 1) even ∙ sym (eqb·zero-suc i)
 bit-power (suc i) (suc k) =
     let half : 2 ^ suc i / 2 ≡ 2 ^ i = rw (pow-suc 2 i) (omega arith) in
-    bit-next (2 ^ suc i) k ∙ ap (λ (n : ℕ). bit n k) half ∙ bit-power i k ∙ sym (eqb·suc-suc k i)
+    bit-half (2 ^ suc i) k ∙ ap (λ (n : ℕ). bit n k) half ∙ bit-power i k ∙ sym (eqb·suc-suc k i)
 
 -- the low bits
 
@@ -116,7 +108,7 @@ bit-ones (suc i) zero =
     bit-first (2 ^ suc i - 1) ∙ ap (λ (n : ℕ). eqb n 1) odd ∙ sym (lt-ltb 0 (suc i) (omega arith))
 bit-ones (suc i) (suc k) =
     let half : (2 ^ suc i - 1) / 2 ≡ 2 ^ i - 1 = rw (pow-suc 2 i) (omega (arith, pow-pos i)) in
-    bit-next (2 ^ suc i - 1) k ∙ ap (λ (n : ℕ). bit n k) half ∙ bit-ones i k ∙ sym (leb·suc-suc (suc k) i)
+    bit-half (2 ^ suc i - 1) k ∙ ap (λ (n : ℕ). bit n k) half ∙ bit-ones i k ∙ sym (leb·suc-suc (suc k) i)
 
 -- the lowest bit of a word
 
@@ -154,7 +146,7 @@ trailing-set (suc k) n h = split (low-digit n) h (λ q. trailing-set k (n / 2) q
     split (inl e) b rest =
         let below : suc (trailingZeros k (n / 2)) < suc k = rw e at b in
         let set : bit (n / 2) (trailingZeros k (n / 2)) ≡ true = rest (omega arith) in
-        ap (λ (d : ℕ). bit n (under d (trailingZeros k (n / 2)))) e ∙ bit-next n (trailingZeros k (n / 2)) ∙ set
+        ap (λ (d : ℕ). bit n (under d (trailingZeros k (n / 2)))) e ∙ bit-half n (trailingZeros k (n / 2)) ∙ set
     split (inr e) b rest =
         ap (λ (d : ℕ). bit n (under d (trailingZeros k (n / 2)))) e ∙ bit-first n ∙ ap (λ (d : ℕ). eqb d 1) e
 
@@ -163,7 +155,7 @@ unfolding trailingZeros
 trailing-least zero n j b = omega arith
 trailing-least (suc k) n zero b =
     let odd : n % 2 ≡ 1 = eqb-true (n % 2) 1 (sym (bit-first n) ∙ b) in rw odd (omega arith)
-trailing-least (suc k) n (suc j) b = split (low-digit n) (trailing-least k (n / 2) j (sym (bit-next n j) ∙ b))
+trailing-least (suc k) n (suc j) b = split (low-digit n) (trailing-least k (n / 2) j (sym (bit-half n j) ∙ b))
   where
     split : (n % 2 ≡ 0) ⊎ (n % 2 ≡ 1) → trailingZeros k (n / 2) ≤ j → under (n % 2) (trailingZeros k (n / 2)) ≤ suc j
     split (inl e) h = rw e (omega arith)
@@ -179,10 +171,10 @@ module _ (j n : ℕ) (set : bit n (suc j) ≡ true) (least : (i : ℕ) → bit n
   half-one-less = omega (arith, even-low)
 
   half-set : bit (n / 2) j ≡ true
-  half-set = sym (bit-next n j) ∙ set
+  half-set = sym (bit-half n j) ∙ set
 
   half-least : (i : ℕ) → bit (n / 2) i ≡ true → j ≤ i
-  half-least i e = let up : suc j ≤ suc i = least (suc i) (bit-next n i ∙ e) in omega arith
+  half-least i e = let up : suc j ≤ suc i = least (suc i) (bit-half n i ∙ e) in omega arith
 
 at-lowest : (j n : ℕ) → bit n j ≡ true → ((i : ℕ) → bit n i ≡ true → j ≤ i) → bit (n - 1) j ≡ false
 at-lowest zero n set least =
@@ -190,7 +182,7 @@ at-lowest zero n set least =
     let even : (n - 1) % 2 ≡ 0 = omega arith in
     bit-first (n - 1) ∙ ap (λ (d : ℕ). eqb d 1) even
 at-lowest (suc j) n set least =
-    bit-next (n - 1) j ∙ ap (λ (m : ℕ). bit m j) (half-one-less j n set least)
+    bit-half (n - 1) j ∙ ap (λ (m : ℕ). bit m j) (half-one-less j n set least)
     ∙ at-lowest j (n / 2) (half-set j n set least) (half-least j n set least)
 
 above-lowest :
@@ -200,11 +192,11 @@ above-lowest zero n zero set least b d = absurd (d refl)
 above-lowest zero n (suc k) set least b d =
     let odd : n % 2 ≡ 1 = eqb-true (n % 2) 1 (sym (bit-first n) ∙ set) in
     let half : (n - 1) / 2 ≡ n / 2 = omega arith in
-    bit-next (n - 1) k ∙ ap (λ (m : ℕ). bit m k) half ∙ sym (bit-next n k) ∙ b
+    bit-half (n - 1) k ∙ ap (λ (m : ℕ). bit m k) half ∙ sym (bit-half n k) ∙ b
 above-lowest (suc j) n zero set least b d = let low : suc j ≤ 0 = least 0 b in absurd (omega arith)
 above-lowest (suc j) n (suc k) set least b d =
-    bit-next (n - 1) k ∙ ap (λ (m : ℕ). bit m k) (half-one-less j n set least)
-    ∙ above-lowest j (n / 2) k (half-set j n set least) (half-least j n set least) (sym (bit-next n k) ∙ b)
+    bit-half (n - 1) k ∙ ap (λ (m : ℕ). bit m k) (half-one-less j n set least)
+    ∙ above-lowest j (n / 2) k (half-set j n set least) (half-least j n set least) (sym (bit-half n k) ∙ b)
     (λ e. d (ap suc e))
 
 -- `n & (n - 1)` has the bits of n but for its lowest
@@ -227,8 +219,8 @@ bit-low hi zero lo j h = absurd (omega arith)
 bit-low hi (suc k) lo zero h =
     bit-first (hi * 2 ^ suc k + lo) ∙ ap (λ (n : ℕ). eqb n 1) (block-odd hi k lo) ∙ sym (bit-first lo)
 bit-low hi (suc k) lo (suc j) h =
-    bit-next (hi * 2 ^ suc k + lo) j ∙ ap (λ (n : ℕ). bit n j) (block-half hi k lo) ∙
-    bit-low hi k (lo / 2) j (omega arith) ∙ sym (bit-next lo j)
+    bit-half (hi * 2 ^ suc k + lo) j ∙ ap (λ (n : ℕ). bit n j) (block-half hi k lo) ∙
+    bit-low hi k (lo / 2) j (omega arith) ∙ sym (bit-half lo j)
 
 pub bit-high : (hi k lo j : ℕ) → lo < 2 ^ k → bit (hi * 2 ^ k + lo) (k + j) ≡ bit hi j
 bit-high hi k lo j h =

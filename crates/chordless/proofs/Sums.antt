@@ -1,7 +1,7 @@
 -- Laws of the sum over the atoms from 1 to n: of equal terms, of two terms, of one term that is not 0, of sums in
--- either order; and the words that pass a test, by their first atom. By induction on n, and on the lists.
+-- either order; and the words that pass a test, by their first atom. From sums below a bound, and by induction.
 use Prim.Native.Nat.{ℕ, zero, suc, _+_, _≤_, _<_}
-use mathlib.Core.Path.{_≡_, refl, sym, ap}
+use mathlib.Core.Path.{_≡_, refl, sym, ap, _∙_}
 use mathlib.Core.Bool.{Bool, true, false, cond}
 use mathlib.Core.List.{List, [], _∷_, map}
 use mathlib.Core.Logic.{_≢_}
@@ -9,6 +9,7 @@ use native.Mathlib.Omega.{arith}
 use native.Mathlib.Nat.{not-suc-le-zero}
 use native.Mathlib.Decide.{ℕ-discrete}
 use lib.ListN.{length, length-append}
+use Rattle.graph.proofs.Sums.{sum, sum-same, sum-add, sum-none, sum-swap}
 use Rattle.enumeration.specs.Words.{numbersFrom, joined, words, keep}
 use Rattle.enumeration.proofs.Basics.{keep-append, starting}
 use Rattle.chordless.specs.Distance.{Atom, total}
@@ -26,16 +27,19 @@ earlier at other = record { low = at .low; high = omega (arith, at .high) }
 
 -- ---- sums
 
+-- the sum over the numbers below n, each one more
+total-sum : (n : ℕ) (f : ℕ → ℕ) → total n f ≡ sum n (λ i. f (suc i))
+unfolding total sum
+total-sum zero f = refl
+total-sum (suc n) f = ap (λ s. s + f (suc n)) (total-sum n f)
+
 -- equal terms
 pub total-same : (n : ℕ) (f g : ℕ → ℕ) → ((a : ℕ) → Atom n a → f a ≡ g a) → total n f ≡ total n g
-unfolding total
-total-same zero f g h = refl
-total-same (suc n) f g h = omega (arith, total-same n f g (λ a at. h a (more at)), h (suc n) (last n))
+total-same n f g h =
+    simp total-sum (sum-same n _ _ (λ i below. h (suc i) record { low = omega arith; high = below }))
 
 pub total-zero : (n : ℕ) (f : ℕ → ℕ) → ((a : ℕ) → Atom n a → f a ≡ 0) → total n f ≡ 0
-unfolding total
-total-zero zero f h = refl
-total-zero (suc n) f h = omega (arith, total-zero n f (λ a at. h a (more at)), h (suc n) (last n))
+total-zero n f h = total-same n f (λ a. 0) h ∙ simp total-sum (sum-none n)
 
 -- a sum that an atom adds to is not 0
 pub total-of : {n : ℕ} (f : ℕ → ℕ) {a : ℕ} → Atom n a → 1 ≤ f a → 1 ≤ total n f
@@ -72,21 +76,12 @@ total-one (suc n) f {c} at h = elim (ℕ-discrete c (suc n)) [
 ]
 
 pub total-add : (n : ℕ) (f g : ℕ → ℕ) → total n (λ a. f a + g a) ≡ total n f + total n g
-unfolding total
-total-add zero f g = refl
-total-add (suc n) f g =
-    let others = total-add n f g in
-    omega arith
+total-add n f g = simp total-sum (sum-add n (λ i. f (suc i)) (λ i. g (suc i)))
 
 -- two sums in either order
 pub total-swap :
     (m n : ℕ) (f : ℕ → ℕ → ℕ) → total m (λ a. total n (λ b. f a b)) ≡ total n (λ b. total m (λ a. f a b))
-unfolding total
-total-swap zero n f = sym (total-zero n (λ b. 0) (λ b at. refl))
-total-swap (suc m) n f =
-    let others = total-swap m n f in
-    let both = total-add n (λ b. total m (λ a. f a b)) (λ b. f (suc m) b) in
-    omega arith
+total-swap m n f = simp total-sum (sum-swap m n (λ i j. f (suc i) (suc j)))
 
 -- a test that is the same for every term
 pub total-if : (b : Bool) (n : ℕ) (f : ℕ → ℕ) → cond b (total n f) 0 ≡ total n (λ a. cond b (f a) 0)

@@ -1,7 +1,7 @@
 -- The laws of a number field: every number that fits has a text in either filling, each reads back as that number
 -- with the right report, and an accepted field is one of the two, as the report says. By the laws of each filling.
 use Prim.Native.Nat.{ℕ, zero, suc, _+_, _-_, _*_, _/_, _%_, _^_, _≤_, _<_}
-use native.Mathlib.Nat.{pow-suc, one-le-pow, zero-add}
+use native.Mathlib.Nat.{pow-suc, pow-le-pow-right, one-le-pow, zero-add}
 use native.Mathlib.Numerals.{one-add}
 use native.Mathlib.Decide.{decLt}
 use native.Mathlib.Omega.{arith}
@@ -9,15 +9,13 @@ use mathlib.Core.Path.{_≡_, refl, ap, sym, _∙_}
 use mathlib.Core.Bool.{Bool, true, false, cond, true≢false}
 use mathlib.Core.List.{List, [], _∷_, append-nil}
 use mathlib.Core.Logic.{inl, inr}
-use lib.ListN.{length, take, drop, length-append, length-drop}
-use lib.Seq.{length-take-le}
+use lib.ListN.{length, take, drop, length-append, length-take}
 use lib.Dec.{leb, ltb, eqb}
 use borrow.Author.Tests.{lt-ltb, le-ltb, leb-true, eqb-true}
 use Rattle.fields.specs.declared.Number.{Number}
 use Rattle.fields.specs.declared.Number.the-variants.{Value, Bad}
 use Rattle.fields.specs.Field.{limit, isDigit, digits, afterBlanks, zeroFirst, readField, columns}
-use Rattle.fields.specs.Field.{fieldText, zeroText, filledText, isValue, fieldAt, valueOf, valueAt}
-use Rattle.fields.specs.Field.{Refilled}
+use Rattle.fields.specs.Field.{fieldText, zeroText, filledText, isValue, valueOf, valueAt, Refilled}
 use Rattle.fields.proofs.Digits.{passed, both, digits-below, digits-limit, digits-report, zero-whole}
 use Rattle.fields.proofs.Blanks.{text-read, after-blanks}
 use Rattle.fields.proofs.Zeros.{zeros-digits, zeros-lead, zeros-written, columns-whole, texts-agree}
@@ -95,16 +93,21 @@ module _ (bs : List ℕ) (v : ℕ) (zeros : Bool) (reads : readField bs ≡ Valu
           let read = sym (zero-begins rest) ∙ ap readField (sym is) ∙ e in
           is ∙ zeros-written rest v read ∙ ap (λ (l : List ℕ). zeroText (length l) v) (sym is)
 
--- The value of a field within some bytes fits its columns
-pub value-fits : (c : ℕ) (bytes : List ℕ) (at : ℕ) → at + c ≤ length bytes → valueAt c bytes at < 10 ^ c
-value-fits c bytes at room = go (fieldAt c bytes at) refl
+-- The value of a field fits its columns and keeps to the limit, as the 0 of a bad one does
+pub value-bounds : (bs : List ℕ) → let v = valueOf (readField bs) in (v < 10 ^ length bs) × (v ≤ limit)
+value-bounds bs = go (readField bs) refl
   where
-    size : length (take c (drop at bytes)) ≡ c
-    size = length-take-le c (drop at bytes) (rw length-drop (omega arith))
+    go : (x : Number) → readField bs ≡ x → (valueOf x < 10 ^ length bs) × (valueOf x ≤ limit)
+    go (Value v zeros) e = read-fits bs v zeros e
+    go Bad e = (one-le-pow (length bs) 10 (omega arith), omega arith)
 
-    go : (x : Number) → fieldAt c bytes at ≡ x → valueOf x < 10 ^ c
-    go (Value v zeros) e = rw size at (read-fits (take c (drop at bytes)) v zeros e .0)
-    go Bad e = one-le-pow c 10 (omega arith)
+-- within bytes of any length
+pub value-fits : (c : ℕ) (bytes : List ℕ) (at : ℕ) → valueAt c bytes at < 10 ^ c
+value-fits c bytes at =
+    let field = take c (drop at bytes) in
+    let short : length field ≤ c = rw (length-take c (drop at bytes)) (omega arith) in
+    let most : 10 ^ length field ≤ 10 ^ c = pow-le-pow-right (omega arith) short in
+    omega (arith, value-bounds field .0)
 
 -- ---- each text of a number reads back
 

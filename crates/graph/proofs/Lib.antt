@@ -7,3 +7,4 @@ pub mod Passed
 pub mod Pigeon
 pub mod Places
 pub mod Shape
+pub mod Sums

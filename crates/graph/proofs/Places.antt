@@ -1,6 +1,7 @@
 -- Atom lists place by place: atoms in range, and a path as a ring that never closes.
 -- Both follow from the laws of `allBelow`.
 use Prim.Native.Nat.{ℕ, zero, suc, _≤_, _<_}
+use native.Mathlib.Omega.{arith}
 use mathlib.Core.Path.{_≡_, refl}
 use mathlib.Core.Bool.{Bool, true, _&&_, not, Bool·beq, and-false, or-false}
 use mathlib.Core.List.{List}
@@ -22,9 +23,9 @@ zeros-at (suc k) zero = refl
 zeros-at (suc k) (suc i) = zeros-at k i
 
 -- tests that agree below the bound
-pub all-same : (k : ℕ) (p q : ℕ → Bool) → ((i : ℕ) → p i ≡ q i) → allBelow k p ≡ allBelow k q
+pub all-same : (k : ℕ) (p q : ℕ → Bool) → ((i : ℕ) → i < k → p i ≡ q i) → allBelow k p ≡ allBelow k q
 all-same zero p q f = refl
-all-same (suc k) p q f = rw (all-same k p q f, f k)
+all-same (suc k) p q f = rw (all-same k p q (λ i h. f i (omega arith)), f k (omega arith))
 
 pub induces-same :
     (adj : Adjacency) (p q : ℕ → ℕ → Bool) (xs : List ℕ) → ((i j : ℕ) → p i j ≡ q i j) →
@@ -32,7 +33,7 @@ pub induces-same :
 unfolding induces
 induces-same adj p q xs f =
     all-same (length xs) (λ j. allBelow j (λ i. pair p i j)) (λ j. allBelow j (λ i. pair q i j))
-    (λ j. all-same j (λ i. pair p i j) (λ i. pair q i j) (λ i. rw (f i j)))
+    (λ j h. all-same j (λ i. pair p i j) (λ i. pair q i j) (λ i l. rw (f i j)))
   where
     pair : (ℕ → ℕ → Bool) → ℕ → ℕ → Bool
     pair joined i j = not (eqb (atomAt xs i) (atomAt xs j)) && Bool·beq (adj (atomAt xs i) (atomAt xs j)) (joined i j)

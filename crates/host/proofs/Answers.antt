@@ -138,10 +138,10 @@ pub record SizeRead (bytes : List ℕ) : Type 0 where
 module _ {bytes : List ℕ} (f : SizeRead bytes) where
   -- fields of 4 columns
   pub bonds-small : markBonds bytes < 10000
-  bonds-small = value-fits 4 bytes 16 (omega (arith, f .room))
+  bonds-small = value-fits 4 bytes 16
 
   pub length-small : markLength bytes < 10000
-  length-small = value-fits 4 bytes 20 (omega (arith, f .room))
+  length-small = value-fits 4 bytes 20
 
   -- the last test decides
   size-by : (fits : Bool) → leb (namedSize bytes) (length bytes) ≡ fits → cond fits (namedSize bytes) 0 ≡ markSize bytes

@@ -1,7 +1,8 @@
 -- The bits of a number: how many there are, and that they tell it, as the cells of rows of bytes tell the rows.
 -- By halving: bit k + 1 of a number is bit k of its half.
 use Prim.Native.Nat.{ℕ, zero, suc, _+_, _*_, _/_, _%_, _^_, _<_}
-use native.Mathlib.Nat.{pow-suc, pow-zero, div-one, div-div-eq-div-mul, mul-comm}
+use native.Mathlib.Nat.{pow-suc, pow-zero, div-one}
+use native.Mathlib.Numerals.{one-add}
 use native.Mathlib.Omega.{arith}
 use mathlib.Core.Path.{_≡_, ap, ap₂, sym, _∙_}
 use mathlib.Core.Bool.{Bool, true, false, cond}
@@ -10,23 +11,21 @@ use mathlib.Core.Logic.{_⊎_, inl, inr}
 use lib.ListN.{getD}
 use lib.Seq.{ext-getD}
 use lib.Dec.{eqb}
+use lib.Pow.{shr-shr}
 use lib.Count.{ones, ones-step, ones-le}
 use borrow.Author.Tests.{eqb-true, eqb-false}
 use Rattle.graph.proofs.Below.{either}
+use Rattle.graph.proofs.Sums.{sum, sum-first}
 use Rattle.molecule.specs.Record.{bit, cell}
 use Rattle.molecule.proofs.Rules.{Rows}
-use Rattle.molecule.proofs.Sums.{sum, sum-same, sum-first}
 
 -- ---- halving
 
-half-shift : (x k : ℕ) → x / 2 ^ suc k ≡ x / 2 / 2 ^ k
-half-shift x k = ap (λ p. x / p) (pow-suc 2 k ∙ mul-comm (2 ^ k) 2) ∙ sym (div-div-eq-div-mul x 2 (2 ^ k))
-
 pub bit-half : (x k : ℕ) → bit x (suc k) ≡ bit (x / 2) k
-bit-half x k = ap (λ y. eqb (y % 2) 1) (half-shift x k)
+bit-half x k = ap (λ n. eqb (n % 2) 1) (ap (λ n. x / 2 ^ n) (sym (one-add k)) ∙ sym (shr-shr x 1 k))
 
 pub bit-first : (x : ℕ) → bit x 0 ≡ eqb (x % 2) 1
-bit-first x = ap (λ y. eqb (y % 2) 1) (ap (λ p. x / p) (pow-zero 2) ∙ div-one x)
+bit-first x = ap (λ n. eqb (n % 2) 1) (div-one x)
 
 -- ---- how many there are
 
@@ -48,11 +47,7 @@ ones-bits (suc w) x h =
     let p = pow-suc 2 w in
     let first : x % 2 ≡ number (bit x 0) = digit (x % 2) (omega arith) ∙ ap number (sym (bit-first x)) in
     let later = ones-bits w (x / 2) (omega arith) in
-    let halves = sum-same w (λ k. number (bit (x / 2) k)) (λ k. number (bit x (suc k))) half-bit in
-    ones-step x ∙ ap₂ _+_ first (later ∙ halves) ∙ sym (sum-first w (λ k. number (bit x k)))
-  where
-    half-bit : (k : ℕ) → k < w → number (bit (x / 2) k) ≡ number (bit x (suc k))
-    half-bit k h = ap number (sym (bit-half x k))
+    ones-step x ∙ ap₂ _+_ first (simp bit-half later) ∙ sym (sum-first w (λ k. number (bit x k)))
 
 -- ---- they tell the number
 

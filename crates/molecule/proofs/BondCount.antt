@@ -11,12 +11,12 @@ use lib.Dec.{ltb}
 use lib.Count.{ones}
 use borrow.Author.Tests.{lt-ltb, le-ltb, eqb-true}
 use Rattle.graph.proofs.Below.{false-of, same-test}
+use Rattle.graph.proofs.Sums.{sum, sum-same, sum-first, sum-rows, sum-grid, sum-mirror}
 use Rattle.molecule.specs.declared.Molecule.{Molecule}
 use Rattle.molecule.specs.Record.{bit, cell, onesOf, wellFormed}
 use Rattle.molecule.specs.BondList.{pairOf, bondHere, bondsTo, bondList}
 use Rattle.molecule.proofs.Rules.{Rows, Sound, sound-of-rules}
 use Rattle.molecule.proofs.Bonds.{rule9}
-use Rattle.molecule.proofs.Sums.{sum, sum-same, sum-first, sum-rows, sum-grid, sum-mirror}
 use Rattle.molecule.proofs.Bits.{number, ones-bits}
 
 -- ---- the ones of rows, cell by cell

@@ -6,9 +6,9 @@ use native.Mathlib.Decide.{decLt}
 use native.Mathlib.Omega.{arith}
 use mathlib.Core.Path.{_≡_, refl, ap, ap₂, sym, _∙_}
 use mathlib.Core.Bool.{true, false, _&&_}
-use mathlib.Core.List.{List, [], _∷_, List·Memᴰ, List·Memᴰ·head, List·Memᴰ·tail, List·Memᴰ·cases-cons, Memᴰ·cast}
+use mathlib.Core.List.{List, [], _∷_, List·Memᴰ, List·Memᴰ·cases-cons, Memᴰ·cast}
 use mathlib.Core.Logic.{inl, inr}
-use lib.ListN.{length}
+use lib.ListN.{length, getD}
 use lib.Dec.{eqb}
 use borrow.Author.Tests.{lt-ltb, eq-eqb, eqb-true}
 use Rattle.graph.proofs.Below.{clash, false-of, and-parts, and-both, same-test}
@@ -21,19 +21,21 @@ use Rattle.molecule.proofs.Bonds.{Bonded, rule9, bonded-facts, bonded-c
 use Rattle.molecule.proofs.Bits.{same-rows}
 use Rattle.molecule.proofs.BondOrder.{same-pair, same-list, same-itself, bonds-ascend}
 use Rattle.molecule.proofs.BondOrder.{here-parts, cell-of, of-cell}
-use Rattle.molecule.proofs.BondWithin.{ascend-at, ascend-within}
+use Rattle.molecule.proofs.BondWithin.{mem-at, ascend-at, ascend-within}
 use Rattle.molecule.proofs.BondCount.{bonds-count}
 
 -- ---- every pair of a list is a bond
 
 module _ (n : ℕ) (rows : List ℕ) where
-  all-bonded-of :
-      (xs : List Bond) → ((z : Bond) → List·Memᴰ z xs → bonded n rows (z .0) (z .1) ≡ true) → eachBonded n rows xs ≡ true
+  pub all-bonded-of :
+      (xs : List Bond) →
+      ((k : ℕ) → k < length xs → let x = getD xs k (0, 0) in bonded n rows (x .0) (x .1) ≡ true) →
+      eachBonded n rows xs ≡ true
   unfolding eachBonded
   all-bonded-of [] f = refl
   all-bonded-of (x ∷ xs) f =
-      let rest = all-bonded-of xs (λ z m. f z (List·Memᴰ·tail m)) in
-      and-both (bonded n rows (x .0) (x .1)) (eachBonded n rows xs) (f x (List·Memᴰ·head refl)) rest
+      let rest = all-bonded-of xs (λ k h. f (suc k) (omega arith)) in
+      and-both (bonded n rows (x .0) (x .1)) (eachBonded n rows xs) (f 0 (omega arith)) rest
 
   all-bonded-at :
       (xs : List Bond) → eachBonded n rows xs ≡ true → (z : Bond) → List·Memᴰ z xs → bonded n rows (z .0) (z .1) ≡ true
@@ -62,7 +64,7 @@ module _ (mol : Molecule) (formed : wellFormed mol ≡ true) where
   abbrev rows : List ℕ
   rows = mol .rows
 
-  listed-is-bonded : (x : Bond) → List·Memᴰ x (bondList rows) → bonded n rows (x .0) (x .1) ≡ true
+  pub listed-is-bonded : (x : Bond) → List·Memᴰ x (bondList rows) → bonded n rows (x .0) (x .1) ≡ true
   unfolding bondList Sound
   listed-is-bonded x m =
       let at = cell-of rows 16384 x m in
@@ -88,11 +90,14 @@ module _ (mol : Molecule) (formed : wellFormed mol ≡ true) where
 
   -- They are bonds of it
   pub bonds-bonded : eachBonded n rows (bondList rows) ≡ true
-  bonds-bonded = all-bonded-of n rows (bondList rows) listed-is-bonded
+  bonds-bonded =
+      all-bonded-of n rows (bondList rows)
+      (λ k h. listed-is-bonded (getD (bondList rows) k (0, 0)) (mem-at (bondList rows) k h))
 
   -- a list of ascending pairs
   module _ (xs : List Bond) (ordered : ascending (0, 0) xs ≡ true) where
-    same-there : (eqb (length xs) (mol .bonds) && eachBonded n rows xs) ≡ true → xs ≡ bondList rows
+    -- where they are m and each is a bond of it, they are its list
+    pub same-there : (eqb (length xs) (mol .bonds) && eachBonded n rows xs) ≡ true → xs ≡ bondList rows
     same-there e =
         let (as-many, all) = and-parts (eqb (length xs) (mol .bonds)) (eachBonded n rows xs) e in
         let count = eqb-true (length xs) (mol .bonds) as-many in

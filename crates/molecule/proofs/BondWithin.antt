@@ -1,13 +1,13 @@
--- Ascending lists of bonds, one inside the other: the first is no longer than the second, and the same where it is as
--- long. By induction on the second list: its head is the head of the first one, or comes before all of that list.
-use Prim.Native.Nat.{_≤_, _<_}
+-- Ascending lists of bonds: an earlier bond comes before a later one; a list inside another is no longer than it, and
+-- the same where it is as long. By induction on the list, for two on the outer one: its head comes before its tail.
+use Prim.Native.Nat.{ℕ, zero, suc, _≤_, _<_}
 use native.Mathlib.Omega.{arith}
 use mathlib.Core.Path.{_≡_, refl, ap, ap₂, sym}
 use mathlib.Core.Bool.{true, false, _&&_}
 use mathlib.Core.List.{List, [], _∷_, List·Memᴰ, List·Memᴰ·head, List·Memᴰ·tail}
 use mathlib.Core.List.{List·Memᴰ·cases-cons, List·Memᴰ·not-nil}
 use mathlib.Core.Logic.{_⊎_, inl, inr}
-use lib.ListN.{length}
+use lib.ListN.{length, getD}
 use lib.Dec.{ltb, eqb}
 use borrow.Author.Tests.{ltb-true, eqb-true}
 use Rattle.graph.proofs.Below.{either, and-parts}
@@ -32,7 +32,7 @@ before-both x y z (inl less) (inr (same, more)) = inl (omega arith)
 before-both x y z (inr (same, less)) (inl more) = inl (omega arith)
 before-both x y z (inr (same, less)) (inr (also, more)) = inr (omega arith, omega arith)
 
-before-differs : (x y : Bond) → Before x y → x ≡ y → ⊥
+pub before-differs : (x y : Bond) → Before x y → x ≡ y → ⊥
 before-differs x y (inl less) e = let same = ap (λ (z : Bond). z .0) e in omega arith
 before-differs x y (inr (left, less)) e = let same = ap (λ (z : Bond). z .1) e in omega arith
 
@@ -60,6 +60,23 @@ ascend-at x (y ∷ ys) a z m = go (ascend-parts x y ys a) (List·Memᴰ·cases-c
     go (low, after, rest) (inr m) more =
         let (low′, after′) = more rest z m in
         (low′, before-both x y z after after′)
+
+-- bond k of a list is one of it
+pub mem-at : (xs : List Bond) (k : ℕ) → k < length xs → List·Memᴰ (getD xs k (0, 0)) xs
+mem-at [] k h = absurd (omega arith)
+mem-at (x ∷ xs) zero h = List·Memᴰ·head refl
+mem-at (x ∷ xs) (suc k) h = List·Memᴰ·tail (mem-at xs k (omega arith))
+
+-- An earlier bond of an ascending list comes before a later one
+pub ascend-order :
+    (x : Bond) (xs : List Bond) → ascending x xs ≡ true → (j k : ℕ) → j < k → k < length xs →
+    Before (getD xs j (0, 0)) (getD xs k (0, 0))
+ascend-order x [] a j k h l = absurd (omega arith)
+ascend-order x (y ∷ ys) a j zero h l = absurd (omega arith)
+ascend-order x (y ∷ ys) a zero (suc k) h l =
+    ascend-at y ys (ascend-parts x y ys a .2) (getD ys k (0, 0)) (mem-at ys k (omega arith)) .1
+ascend-order x (y ∷ ys) a (suc j) (suc k) h l =
+    ascend-order y ys (ascend-parts x y ys a .2) j k (omega arith) (omega arith)
 
 -- ---- one list inside the other
 

@@ -4,7 +4,6 @@ pub mod Rules
 pub mod Ends
 pub mod BondOrder
 pub mod BondWithin
-pub mod Sums
 pub mod Bits
 pub mod BondCount
 pub mod BondLaws

@@ -1,6 +1,5 @@
--- The tests of the record check together are the rules of the rows:
--- every bit that is set is within n, off the diagonal and mirrored.
--- A place of the rows is a row and a column, and the other way round.
+-- The tests of the record check together are the rules of the rows: every bit that is set is within n, off the
+-- diagonal and mirrored. A place of the rows is a row and a column, and the other way round.
 use Prim.Native.Nat.{ℕ, _+_, _-_, _*_, _/_, _%_, _≤_, _<_}
 use native.Mathlib.Decide.{decLt}
 use native.Mathlib.Omega.{arith}
@@ -33,12 +32,14 @@ pub bytes-of-rows : (rows : List ℕ) → rowsOfBytes rows ≡ true → Rows row
 unfolding rowsOfBytes
 bytes-of-rows rows e =
     let (size, bytes) = and-parts (eqb (length rows) 2048) (allBelow 2048 (λ at. ltb (getD rows at 0) 256)) e in
-    record { size = eqb-true (length rows) 2048 size; byte = λ at. go at bytes (eqb-true (length rows) 2048 size) (decLt at 2048) }
+    let whole = eqb-true (length rows) 2048 size in
+    record { size = whole; byte = λ at. go at bytes whole (decLt at 2048) }
   where
     go :
         (at : ℕ) → allBelow 2048 (λ at. ltb (getD rows at 0) 256) ≡ true → length rows ≡ 2048 → Dec (at < 2048) →
         getD rows at 0 < 256
-    go at bytes size (yes h) = ltb-true (getD rows at 0) 256 (allBelow-at 2048 (λ at. ltb (getD rows at 0) 256) bytes at h)
+    go at bytes size (yes h) =
+        ltb-true (getD rows at 0) 256 (allBelow-at 2048 (λ at. ltb (getD rows at 0) 256) bytes at h)
     go at bytes size (no h) =
         let past : length rows ≤ at = omega arith in
         omega (arith, List·getD-eq-default rows 0 past)

@@ -1,4 +1,4 @@
--- The bonds of a molecule record as a list (document 02, F-5): from its rows alone, lower atom first, in dictionary order.
+-- The bonds of a record as a list (document 02, F-5): from its rows alone, lower atom first, in dictionary order.
 use Prim.Native.Nat.{ℕ, zero, suc, _/_, _%_}
 use mathlib.Core.Bool.{Bool, true, false, _&&_, _||_, cond}
 use mathlib.Core.List.{List, [], _∷_, _++_}

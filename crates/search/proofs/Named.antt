@@ -1,6 +1,6 @@
 -- The search that an accepted mark restores: rule 12 allows it, and the bytes begin with its three lines.
 -- Its numbers are the values of the fields, and fields that zeros do not fill are the text of their values.
-use Prim.Native.Nat.{ℕ, _≤_}
+use Prim.Native.Nat.{ℕ}
 use native.Mathlib.Omega.{arith}
 use mathlib.Core.Path.{_≡_, refl, ap, sym, _∙_}
 use mathlib.Core.Bool.{Bool, true}
@@ -9,28 +9,17 @@ use lib.ListN.{length, take, drop, length-reverse}
 use Rattle.enumeration.specs.Machine.{State}
 use Rattle.enumeration.specs.Trials.{Valid}
 use Rattle.enumeration.specs.RunFacts.{Bounded}
-use Rattle.fields.specs.declared.Number.{Number}
-use Rattle.fields.specs.declared.Number.the-variants.{Value, Bad}
-use Rattle.fields.specs.Field.{limit, readField}
-use Rattle.fields.proofs.Laws.{read-fits}
+use Rattle.fields.proofs.Laws.{value-bounds}
 use Rattle.molecule.specs.declared.Molecule.{Molecule}
 use Rattle.search.specs.declared.Search.{Search}
 use Rattle.search.specs.Place.{familyOf, beginning, searchAt, restorable}
-use Rattle.search.specs.Mark.{threeLines, valueOf, valueAt, markBonds, markLength, bondsFrom, markBeginning}
+use Rattle.search.specs.Mark.{threeLines, valueAt, markBonds, markLength, bondsFrom, markBeginning}
 use Rattle.search.specs.Mark.{markSearch}
 use Rattle.search.proofs.Text.{valuesOf, values-four, values-length}
 use Rattle.search.proofs.Lines.{textOf, ThreeLines, layout-text}
 use Rattle.search.proofs.Readings.{place-facts}
 use Rattle.search.proofs.Views.{beginning-at, search-length, placed-valid, valid-restorable}
 use Rattle.search.proofs.Restores.{headOf, countsOf, three-text, RestoredBy}
-
--- the value of a field is at most the limit
-value-most : (bs : List ℕ) → valueOf (readField bs) ≤ limit
-value-most bs = go (readField bs) refl
-  where
-    go : (x : Number) → readField bs ≡ x → valueOf x ≤ limit
-    go (Value v zeros) e = read-fits bs v zeros e .1
-    go Bad e = omega arith
 
 same-text :
     {head₀ head counts₀ counts atoms₀ atoms : List ℕ} → head₀ ≡ head → counts₀ ≡ counts → atoms₀ ≡ atoms →
@@ -78,9 +67,9 @@ module _ {laid owned : Bool} {mol : Molecule} {bytes : List ℕ} {q : Search}
   named-bounded : Bounded named
   named-bounded =
       record {
-        trials-most = value-most (take 20 (drop 29 bytes));
-        extensions-most = value-most (take 20 (drop 49 bytes));
-        listed-most = value-most (take 20 (drop 69 bytes));
+        trials-most = value-bounds (take 20 (drop 29 bytes)) .1;
+        extensions-most = value-bounds (take 20 (drop 49 bytes)) .1;
+        listed-most = value-bounds (take 20 (drop 69 bytes)) .1;
       }
 
   pub named-restorable : restorable mol q ≡ true

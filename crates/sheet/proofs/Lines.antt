@@ -1,20 +1,20 @@
 -- One line of a sheet, by what its fields and its end are, and the loop that stores their numbers.
 -- The definitions go by tests, so each case follows by rewriting them.
 use Prim.Native.Nat.{ℕ, min, _+_, _*_, _^_, _≤_, _<_}
-use native.Mathlib.Nat.{pow-le-pow-right, eq-or-lt-of-le}
+use native.Mathlib.Nat.{eq-or-lt-of-le}
 use native.Mathlib.Omega.{arith}
 use mathlib.Core.Path.{_≡_, refl, ap, ap₂, sym, _∙_}
 use mathlib.Core.Bool.{Bool, true, false, true≢false}
 use mathlib.Core.List.{List}
 use mathlib.Core.Logic.{⊎-elim}
-use lib.ListN.{length, getD, set, take, drop, length-set, length-take}
+use lib.ListN.{length, getD, set, length-set}
 use lib.Seq.{getD-set-same, getD-set-other}
 use borrow.Author.Tests.{eq-eqb, ne-eqb}
 use Rattle.graph.specs.Every.{allBelow}
 use Rattle.graph.proofs.Loops.{all-fails, all-more}
 use Rattle.fields.specs.declared.Number.the-variants.{Value, Bad}
 use Rattle.fields.specs.Field.{fieldAt}
-use Rattle.fields.proofs.Laws.{read-fits}
+use Rattle.fields.proofs.Laws.{value-fits}
 use Rattle.sheet.specs.declared.Entry.{Entry}
 use Rattle.sheet.specs.Bonds.{Bond}
 use Rattle.sheet.specs.Read.{lineKept, lineOf}
@@ -57,13 +57,7 @@ module _ {s : List ℕ} {i : ℕ} where
 
 -- the value of a field of 4 columns has at most 4 digits
 pub field-small : (s : List ℕ) (at : ℕ) {v : ℕ} {zeros : Bool} → fieldAt 4 s at ≡ Value v zeros → v < 2 ^ 16
-field-small s at {v} {zeros} e =
-    let fits = read-fits (take 4 (drop at s)) v zeros e .0 in
-    let short : length (take 4 (drop at s)) ≤ 4 = rw (length-take 4 (drop at s)) (omega arith) in
-    small (length (take 4 (drop at s))) short fits
-  where
-    small : (k : ℕ) → k ≤ 4 → v < 10 ^ k → v < 2 ^ 16
-    small k h f = let most : 10 ^ k ≤ 10 ^ 4 = pow-le-pow-right (omega arith) h in omega arith
+field-small s at e = let fits = rw e at (value-fits 4 s at) in omega arith
 
 -- ---- the list of values, with the numbers a and b of line i put at place k of it
 

@@ -10,6 +10,7 @@ use lib.Dec.{leb, eqb}
 use borrow.Author.Tests.{leb-true, eqb-true}
 use Rattle.graph.specs.Every.{allBelow}
 use Rattle.graph.proofs.Below.{and-parts, allBelow-at, allBelow-of}
+use Rattle.graph.proofs.Places.{all-same}
 use Rattle.fields.specs.declared.Number.{Number}
 use Rattle.fields.specs.declared.Number.the-variants.{Value, Bad}
 use Rattle.fields.specs.Field.{fieldAt, isValue, valueOf, valueAt, Refilled}
@@ -21,7 +22,7 @@ use Rattle.sheet.specs.Bonds.{Bond}
 use Rattle.sheet.specs.Read.{lengthKept, lineKept, linesKept, lineOf, refusedSheet, readBonds}
 use Rattle.sheet.specs.Read.{fewAtoms, fewBonds, sizeKept, readNumbers, readSheet}
 use Rattle.sheet.specs.OtherFillings.{fourAt, OtherFillings, fieldBefore, lineKeptBefore, lineBefore, readBefore}
-use Rattle.sheet.proofs.Same.{all-same, bonds-same}
+use Rattle.sheet.proofs.Same.{bonds-same}
 use Rattle.sheet.proofs.Accepted.{kept-on}
 
 -- the same numbers in as many bytes

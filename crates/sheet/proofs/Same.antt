@@ -3,16 +3,12 @@
 use Prim.Native.Nat.{ℕ, zero, suc, _<_}
 use native.Mathlib.Omega.{arith}
 use mathlib.Core.Path.{_≡_, refl, ap₂, sym, _∙_}
-use mathlib.Core.Bool.{Bool, _&&_, not}
-use Rattle.graph.specs.Every.{allBelow}
+use mathlib.Core.Bool.{not}
+use Rattle.graph.proofs.Places.{all-same}
 use Rattle.sheet.specs.Bonds.{Bond, atomsKept, noneToItself, samePair, noneTwice, withBond, rowsOf}
 use Rattle.sheet.specs.Read.{readBonds}
 use Rattle.sheet.proofs.Tables.{isNew}
 use Rattle.sheet.proofs.Stored.{within, differs, atoms-kept-is, none-to-itself-is}
-
-pub all-same : (k : ℕ) (p q : ℕ → Bool) → ((i : ℕ) → i < k → p i ≡ q i) → allBelow k p ≡ allBelow k q
-all-same zero p q f = refl
-all-same (suc k) p q f = ap₂ (λ a b. a && b) (all-same k p q (λ i h. f i (omega arith))) (f k (omega arith))
 
 module _ {bond bond′ : ℕ → Bond} {m : ℕ} (same : (k : ℕ) → k < m → bond k ≡ bond′ k) where
   atoms-same : (n : ℕ) → atomsKept n bond m ≡ atomsKept n bond′ m
@@ -29,7 +25,7 @@ module _ {bond bond′ : ℕ → Bond} {m : ℕ} (same : (k : ℕ) → k < m →
       ∙ all-same m (differs bond) (differs bond′) (λ k h. rw (same k h))
       ∙ sym (none-to-itself-is bond′ m)
 
-  pub twice-same : noneTwice bond m ≡ noneTwice bond′ m
+  twice-same : noneTwice bond m ≡ noneTwice bond′ m
   unfolding noneTwice
   twice-same = all-same m (isNew bond) (isNew bond′) new-same
     where

@@ -4,7 +4,7 @@ use Prim.Native.Nat.{ℕ, _+_, _*_, _≤_, _<_}
 use native.Mathlib.Numerals.{add-one}
 use native.Mathlib.Omega.{arith}
 use mathlib.Core.Path.{_≡_, refl, sym, _∙_}
-use mathlib.Core.Bool.{Bool, true, false, _&&_, not, and-true}
+use mathlib.Core.Bool.{Bool, true, false, _&&_, not, and-true, and-false}
 use mathlib.Core.List.{List}
 use lib.ListN.{getD}
 use lib.Dec.{eqb}
@@ -42,10 +42,6 @@ module _ (values : List ℕ) (k : ℕ) where
   pub bond-read : storedBond values k ≡ (left, right)
   unfolding stored
   bond-read = rw (add-one k)
-
-and-false : (b : Bool) → b && false ≡ false
-and-false true = refl
-and-false false = refl
 
 -- ---- the bonds passed
 

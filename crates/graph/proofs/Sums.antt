@@ -40,7 +40,7 @@ sum-rows (suc a) b f =
     let less = sum-rows a b f in
     ap (λ k. sum k f) (suc-mul a b) ∙ sum-after (a * b) b f ∙ ap (λ s. s + sum b (λ j. f (a * b + j))) less
 
-sum-none : (k : ℕ) → sum k (λ i. 0) ≡ 0
+pub sum-none : (k : ℕ) → sum k (λ i. 0) ≡ 0
 unfolding sum
 sum-none zero = refl
 sum-none (suc k) = let less = sum-none k in omega (arith, less)
@@ -49,9 +49,7 @@ sum-none (suc k) = let less = sum-none k in omega (arith, less)
 pub sum-swap : (a b : ℕ) (f : ℕ → ℕ → ℕ) → sum a (λ i. sum b (f i)) ≡ sum b (λ j. sum a (λ i. f i j))
 unfolding sum
 sum-swap zero b f = sym (sum-none b)
-sum-swap (suc a) b f =
-    let less = sum-swap a b f in
-    ap (λ s. s + sum b (f a)) less ∙ sym (sum-add b (λ j. sum a (λ i. f i j)) (f a))
+sum-swap (suc a) b f = let less = sum-swap a b f in simp sum-add (omega (arith, less))
 
 -- equal terms in every row and column
 pub sum-grid :
@@ -62,12 +60,4 @@ sum-grid a b f g e =
 
 -- each term and its mirror image
 pub sum-mirror : (k : ℕ) (f : ℕ → ℕ → ℕ) → sum k (λ i. sum k (λ j. f i j + f j i)) ≡ 2 * sum k (λ i. sum k (f i))
-sum-mirror k f =
-    let both = sum-add k (λ i. sum k (f i)) (λ i. sum k (λ j. f j i)) in
-    let same = sum-swap k k f in
-    omega (arith, each, both, same)
-  where
-    each : sum k (λ i. sum k (λ j. f i j + f j i)) ≡ sum k (λ i. sum k (f i) + sum k (λ j. f j i))
-    each =
-        sum-same k (λ i. sum k (λ j. f i j + f j i)) (λ i. sum k (f i) + sum k (λ j. f j i))
-        (λ i h. sum-add k (f i) (λ j. f j i))
+sum-mirror k f = let same = sum-swap k k f in simp sum-add (omega (arith, same))
