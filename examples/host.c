@@ -12,8 +12,9 @@
    start cuts it off, and the slice is made again from the old mark. No ring is lost, none comes twice. A first STATE,
    of 0 bytes and no mark, is there before OUT gets its first byte. The temporary file STATE.new is never read.
 
-   Nothing is written before all is checked: a STATE that is not whole or was made with another sheet, an OUT with bytes
-   in it and no STATE, an OUT that another host has locked, and any refusal are errors that leave both files alone. */
+   Nothing is written before all is checked: a STATE that is not whole or was made with another sheet, one of the former
+   layout, whose mark has no bond lines, an OUT with bytes in it and no STATE, an OUT that another host has locked, and
+   any refusal are errors that leave both files alone. */
 #define _POSIX_C_SOURCE 200809L
 #define _FILE_OFFSET_BITS 64
 #include "ringlist.h"
@@ -29,10 +30,11 @@
 #include <sys/stat.h>
 #include <unistd.h>
 
-#define MARK 599     /* the longest mark */
+#define MARK 9815    /* the longest mark */
 #define RINGS 65536  /* bytes of records in a slice */
 #define HEAD 42      /* the first line of STATE, see write_head */
 #define WRONG "not what this host wrote for this sheet"
+#define FORMER "a state of the former layout: its mark has no bond lines"
 
 static uint8_t sheet[65530]; /* a longer file reads as 65,530 bytes, no multiple of 9: refusal 1 */
 static uint8_t rings[RINGS];
@@ -115,6 +117,19 @@ static void write_state(const char *state, const char *head, const uint8_t *mark
     sync_folder(state);
 }
 
+/* The number in the 4 columns from `at` on. */
+static size_t number_at(const uint8_t *mark, size_t at) {
+    char field[5] = {0};
+    memcpy(field, mark + at, 4);
+    return strtoul(field, NULL, 10);
+}
+
+/* A mark of the former layout: it names bonds, and ends with its third line. */
+static int is_former(const uint8_t *mark, size_t len) {
+    return len >= 91 && mark[28] == '\n' && mark[89] == '\n' && mark[len - 1] == '\n' && number_at(mark, 16) > 0 &&
+           len == 91 + 4 * number_at(mark, 20);
+}
+
 /* The lines of the records in `rings`; returns their bytes. */
 static size_t ring_lines(uint64_t records) {
     size_t len = 0;
@@ -164,6 +179,7 @@ int main(int words, char **word) {
 
     /* A call with no budget and no room tells whether sheet and mark are accepted. */
     uint32_t answer = ringlist_resume(sheet, sheet_len, mark[now], mark_len, 0, NULL, 0, mark[!now], MARK);
+    if (answer == 14 && is_former(mark[now], mark_len)) fail(state, FORMER);
     if (answer < 101) refuse(answer);
     if ((stop == 101 || stop == 102) && answer != stop) fail(state, WRONG);
 

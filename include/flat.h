@@ -97,8 +97,10 @@ uint32_t flat_run(uint64_t atoms, uint64_t bonds,
                   uint8_t *prefix, size_t prefix_len,
                   uint64_t budget, uint8_t *out, size_t out_len);
 
-/* Writes the mark of the search: the number of its bytes (91 + 4 * length), or
-   9, 12, 13: refused. (No mark has 200 bytes.) */
+/* Writes the mark of the search, three lines and a line for each bond: the
+   number of its bytes (91 + 4 * length + 9 * bonds), or 9, 12, 13: refused. (A
+   mark may have 200 bytes, as with 9 bonds and a length of 7; whether 200 is its
+   length or says that a length was wrong, the lengths handed over tell.) */
 uint32_t flat_save(uint64_t atoms, uint64_t bonds,
                    const uint8_t *rows, size_t rows_len,
                    const uint64_t *numbers, size_t numbers_len,
@@ -106,7 +108,10 @@ uint32_t flat_save(uint64_t atoms, uint64_t bonds,
                    uint8_t *mark, size_t mark_len);
 
 /* 0: the mark's search is written (used and made 0); 9, 14, 15, 16, 17:
-   refused. A field that zeros fill falls under 14: marks have blanks only. */
+   refused. A field that zeros fill falls under 14: marks have blanks only; and so
+   do bond lines that are not as many as the mark names, or not each with its lower
+   atom first and later in dictionary order than the one above it. Bond lines that
+   keep this and are not the record's fall under 15. */
 uint32_t flat_restore(uint64_t atoms, uint64_t bonds,
                       const uint8_t *rows, size_t rows_len,
                       const uint8_t *mark, size_t mark_len,

@@ -9,7 +9,19 @@
    may also start without a mark. ringlist_count_shortest works out the number
    of shortest paths without listing them. examples/minimal.c is a whole host
    in twenty lines; examples/host.c keeps its mark in a file and goes on after
-   being killed. */
+   being killed.
+
+   What a host has to change that was written before marks had bond lines
+   (request F-5). The mark output of ringlist_resume and ringlist_start has at
+   least 9,815 bytes, where 599 were enough; with fewer the call is refused
+   (13). A file or buffer that keeps marks needs as much: a mark has 9 bytes
+   more for each bond. ringlist_mark_length counts them, and gives 0 for bytes
+   that are a mark of before and no more. Such a mark is refused (14) on every
+   sheet that is accepted, and its search is to be started anew; but the marks
+   of molecules without bonds are the same bytes as before, and are taken. A
+   mark of another molecule is now always refused (15), an isomer's too, so
+   that a host need not see to that itself. The functions, their parameters and
+   the records are as they were. */
 #ifndef RINGLIST_H
 #define RINGLIST_H
 
@@ -30,14 +42,14 @@ extern "C" {
               Each field of a sheet may have its own filling.
    mark       the mark that the call before wrote, or ringlist_start, mark_len
               bytes exactly; mark_len 0 starts a fresh search for all rings, as
-              the mark of ringlist_start with kind 0 does. A mark belongs to any
-              sheet with its n and m; that is checked (15), and that its place
-              is open there (17), and no more. So hand it only to the sheet
-              that it was made with.
+              the mark of ringlist_start with kind 0 does. A mark has its
+              molecule's bonds, and belongs to the sheets with the same n and
+              the same bonds, in whatever order these and their two atoms stand
+              there; that is checked (15), and that its place is open (17).
    budget     the most trials that this call makes. It may be 0.
    rings      the ring output, rings_len bytes.
-   next_mark  the mark output, next_mark_len bytes, at least 599, the length of
-              the longest mark.
+   next_mark  the mark output, next_mark_len bytes, at least 9,815: no mark is
+              longer.
 
    Taken on trust, and nothing else: the four stretches are real memory of the
    lengths given, readable and, the two outputs, writable for as long as the
@@ -60,16 +72,19 @@ extern "C" {
        ringlist_listed(next_mark, next_mark_len) - ringlist_listed(mark, mark_len)
 
    Next mark. It stands at the start of the output, 91 + 4 * (atoms in the
-   present beginning) bytes, that is ringlist_mark_length(next_mark,
+   present beginning) + 9 * m bytes, that is ringlist_mark_length(next_mark,
    next_mark_len); the bytes past it keep their values. It is text of three
-   lines. Line 1: kind (0 rings, 1 paths, 2 rings of at most s atoms, 3
-   shortest paths), s and t (0 and 0 for kind 0, the two ends for kinds 1 and
-   3, the largest size and 0 for kind 2), n, m, the number of atoms in the
-   present beginning, and the next atom, 4 columns each. Line 2: trials,
-   extensions and rings listed so far, 20 columns each. Line 3: the atoms of
-   the beginning, 4 columns each. Blanks fill the fields of a mark, whatever
-   fills those of the sheet; a mark with a field that zeros fill, also "0000"
-   for 0, is refused (14).
+   lines, and then of m bond lines. Line 1: kind (0 rings, 1 paths, 2 rings of
+   at most s atoms, 3 shortest paths), s and t (0 and 0 for kind 0, the two
+   ends for kinds 1 and 3, the largest size and 0 for kind 2), n, m, the number
+   of atoms in the present beginning, at most 127, and the next atom, 4 columns
+   each. Line 2: trials, extensions and rings listed so far, 20 columns each.
+   Line 3: the atoms of the beginning, 4 columns each. A bond line: the two
+   atoms of a bond, 4 columns each, the lower first; each bond of the molecule
+   has one, in dictionary order, by the first atom and then by the second. Each
+   line ends with a line feed. Blanks fill the fields of a mark, whatever fills
+   those of the sheet; a mark with a field that zeros fill, also "0000" for 0,
+   is refused (14).
 
    Returned when the call was accepted:
      101  done: all rings that follow the mark have been listed; from a fresh
@@ -95,15 +110,17 @@ extern "C" {
        7  a bond joins an atom to itself
        8  two bonds join the same two atoms, in either order
       14  the mark's bytes do not follow the layout, in which zeros fill no
-          field
-      15  the mark's n or m differs from the sheet's
+          field: so also when it has not as many bond lines as its m says, or a
+          bond line has not its lower atom first, is out of order or comes
+          twice, whatever atoms it names
+      15  the mark's n or bonds differ from the sheet's
       16  the mark's kind is not 0, 1, 2 or 3, or its s and t are not 0 and 0
           for kind 0, or not two different atoms for kinds 1 and 3, or not a
           size from 3 to 128 and 0 for kind 2
       17  the mark's beginning is not open, or its next atom is 0 or above n
           (n + 1 is allowed with no beginning: the mark of a search that is
           done)
-      13  the mark output is shorter than 599 bytes
+      13  the mark output is shorter than 9,815 bytes
    No other number comes back.
 
    A mark of kind 1 lists the chordless paths from s to t in the same way, as
@@ -135,7 +152,7 @@ uint32_t ringlist_resume(const uint8_t *sheet, size_t sheet_len,
               from atom s to atom t, which differ. 2: the rings of at most s
               atoms, s from 3 to 128, with t = 0. 3: the shortest paths from
               atom s to atom t, which differ.
-   next_mark  the mark output, next_mark_len bytes, at least 599 as for
+   next_mark  the mark output, next_mark_len bytes, at least 9,815 as for
               ringlist_resume.
 
    The sheet and the mark output are taken on trust as there: real memory of the
@@ -143,11 +160,11 @@ uint32_t ringlist_resume(const uint8_t *sheet, size_t sheet_len,
    the call. All else is checked.
 
    Returned when the search is started: 0. The mark stands at the start of the
-   output, 91 bytes, that is ringlist_mark_length(next_mark, next_mark_len); the
-   bytes past them keep their values. Its line 1 has kind, s, t, n, m, 0 and 1,
-   its line 2 three counts 0, and its line 3 is empty. ringlist_resume takes it
-   on the same sheet, and with it no member of the list is lost and none comes
-   twice, as from any mark.
+   output, 91 + 9 * m bytes, that is ringlist_mark_length(next_mark,
+   next_mark_len); the bytes past them keep their values. Its line 1 has kind,
+   s, t, n, m, 0 and 1, its line 2 three counts 0, its line 3 is empty, and the
+   bond lines follow. ringlist_resume takes it on the same sheet, and with it no
+   member of the list is lost and none comes twice, as from any mark.
 
    Returned when it was refused, by the first rule that is broken in the order
    1 to 8, 16, then 10 and 11 or 21, then 13. A refused call writes nothing.
@@ -157,10 +174,10 @@ uint32_t ringlist_resume(const uint8_t *sheet, size_t sheet_len,
       10  for kinds 1 and 3, s or t is 0 or above n
       11  for kinds 1 and 3, s equals t
       21  for kind 2, s is below 3 or above 128
-      13  the mark output is shorter than 599 bytes
+      13  the mark output is shorter than 9,815 bytes
    No other number comes back. Rule 16 of ringlist_resume allows whatever it
    starts; and whatever that rule allows it starts, on a sheet that is accepted
-   and with an output of 599 bytes. */
+   and with an output of 9,815 bytes. */
 uint32_t ringlist_start(const uint8_t *sheet, size_t sheet_len,
                         uint64_t kind, uint64_t s, uint64_t t,
                         uint8_t *next_mark, size_t next_mark_len);
@@ -191,8 +208,9 @@ uint32_t ringlist_count_shortest(const uint8_t *sheet, size_t sheet_len,
                                  uint64_t s, uint64_t t, uint64_t *count);
 
 /* The bytes of the mark at the start of a buffer: 91 + 4 * the number in
-   columns 21 to 24 of its first line. 0 where the buffer has fewer bytes than
-   that, or fewer than 91, or those columns hold no number; a field that zeros
+   columns 21 to 24 of its first line, its atoms in the beginning, + 9 * that in
+   columns 17 to 20, its bonds. 0 where the buffer has fewer bytes than that, or
+   fewer than 91, or one of the two fields holds no number; a field that zeros
    fill, as "0002", is none in a mark. The rest of the mark is not looked at. */
 size_t ringlist_mark_length(const uint8_t *mark, size_t mark_len);
 

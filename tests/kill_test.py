@@ -2,8 +2,8 @@
 """Kills the example host (examples/host.c) and lets it go on, until the listing
 is done; its output must then be that of ringlist, byte for byte. First at each
 of its steps in turn (tests/c/host_steps.c), then at random moments. Before
-that, what the host says to files that it cannot use, to a second host on the
-same output, and to a full disk.
+that, what the host says to files that it cannot use, to states of the former
+layout, to a second host on the same output, and to a full disk.
 
     [KILLS=N] kill_test.py HOST HOST_STEPS RINGLIST EXAMPLES FOLDER
 
@@ -37,6 +37,7 @@ HANG = 3600  # seconds: only a host that hangs needs so long
 HEAD = 42  # bytes of the first line of a state
 LAST = (101, 102)  # the stops of a listing that is done
 WRONG = b"not what this host wrote for this sheet"
+FORMER = b"a state of the former layout: its mark has no bond lines"
 
 
 def checksum(sheet):
@@ -306,13 +307,22 @@ def wrong_files(host, examples, folder):
     state, out, _ = listing.files()
     open_state = state[:20] + b" 103" + state[24:]  # as if not finished
     fresh = b"%20d%4d" % (0, 0) + state[24:HEAD]
+    if not state.endswith(b"   7   8\n"):
+        sys.exit("kill_test: the last bond of cubane is 7 8: %r" % state)
     for message, wrong in [(b"refused 14\n", open_state[:-1]),
-                           (b"refused 15\n", open_state.replace(b"   8  12", b"   8  13")),
+                           (b"refused 14\n", open_state[:-9]),
+                           (b"refused 14\n", open_state + b"   7   8\n"),
+                           (b"refused 14\n", open_state + b" " * 599),
+                           (b"refused 14\n", open_state[:-9] + b"   8   7\n"),
+                           (b"refused 14\n", open_state.replace(b"   8  12", b"   8  13")),
+                           (b"refused 15\n", open_state.replace(b"   8  12", b"   9  12")),
+                           (b"refused 15\n", open_state[:-9] + b"   7   9\n"),
+                           (b"refused 15\n", open_state[:-9].replace(b"   8  12", b"   8  11")),
                            (b"refused 16\n", open_state.replace(b"\n   0", b"\n   2", 1)),
                            (b"refused 17\n", open_state.replace(b"   0   9\n", b"   0  10\n")),
                            (b"refused 17\n", state.replace(b"   0   9\n", b"   0  10\n")),
                            (WRONG, b""), (WRONG, b"\n"), (WRONG, state[:HEAD - 1]),
-                           (WRONG, state[:HEAD]), (WRONG, state + b" " * 599),
+                           (WRONG, state[:HEAD]), (WRONG, state + b" " * 9815),
                            (WRONG, b"x" + state), (WRONG, state[1:]),
                            (WRONG, state[:19] + b"x" + state[20:]),
                            (WRONG, b"+" + state[1:]), (WRONG, b"0" + state[1:]),
@@ -340,13 +350,13 @@ def wrong_files(host, examples, folder):
     put(listing.out, out)
 
     # Another sheet: of a finished listing; and, with as many atoms and bonds (cuneane, an isomer
-    # of cubane), of one that is not finished, which the right checksum would let through.
+    # of cubane), of one that is not finished, also with the right checksum.
     says(WRONG, listing, [host, gonane] + listing.command[2:])
     put(sheet, contents(cubane).replace(b"   1   5\n", b"   1   3\n")
         .replace(b"   2   3\n", b"   2   5\n"))
     says(WRONG, listing, [host, sheet] + listing.command[2:])
     listing = Listing(host, cubane, folder, 5)
-    says(b"File too large", listing, limit=200)
+    says(b"File too large", listing, limit=len(out) - 1)
     if listing.head()[1] not in (103, 104):
         sys.exit("kill_test: the listing should not be finished")
     says(WRONG, listing, [host, sheet] + listing.command[2:])
@@ -354,7 +364,8 @@ def wrong_files(host, examples, folder):
     isomer = Listing(host, sheet, folder, 5)
     put(isomer.state, state[:24] + b" %016x\n" % isomer.sum + state[HEAD:])
     put(isomer.out, out)
-    isomer.finish()
+    says(b"refused 15\n", isomer)
+    isomer.again().finish()
 
     # Words that are no budget, one file for two, and a name with no room for ".new".
     listing = Listing(host, cubane, folder, 5)
@@ -366,6 +377,38 @@ def wrong_files(host, examples, folder):
         says(b"usage: host SHEET STATE OUT BUDGET", listing, command)
     long = folder + "/" * (4093 - len(folder + "state")) + "state"
     says(b"File name too long", listing, [host, cubane, long, listing.out, "5"])
+
+
+def former_states(host, ringlist, examples, folder):
+    """States as they were before marks had bond lines, written here by hand: the
+    host says what they are and leaves them, byte for byte. That of a molecule
+    without bonds is still right."""
+    listing = Listing(host, os.path.join(examples, "cubane.sheet"), folder, 1)
+    counts = b"%20d%20d%20d\n"
+    # After the first trial, which opens 1; after the last; and the first of all, without a mark.
+    opened = b"   0   0   0   8  12   1   1\n" + counts % (1, 1, 0) + b"   1\n"
+    ended = b"   0   0   0   8  12   0   9\n" + counts % (208, 25, 10) + b"\n"
+    for stop, mark, out in [(103, opened, b""), (103, opened, b"   1   2"),
+                            (101, ended, listed(ringlist, listing.command[1]))]:
+        state = b"%20d%4d %016x\n" % (len(out) if stop == 101 else 0, stop, listing.sum) + mark
+        put(listing.state, state)
+        put(listing.out, out)
+        says(FORMER, listing)
+        if contents(listing.state) != state or contents(listing.out) != out:
+            sys.exit("kill_test: the former state has changed")
+        # Cut, or with a byte more, it is no such state.
+        for wrong in (state[:-1], state + b"\n", state[:HEAD + 20] + b"   3" + state[HEAD + 24:]):
+            put(listing.state, wrong)
+            says(b"refused 14\n", listing)
+    put(listing.state, b"%20d%4d %016x\n" % (0, 0, listing.sum))
+    end(listing, listed(ringlist, listing.command[1]))
+    sheet = os.path.join(folder, "sheet")
+    put(sheet, b"   3   0\n")
+    listing = Listing(host, sheet, folder, 1)
+    mark = b"   0   0   0   3   0   0   2\n" + counts % (1, 0, 0) + b"\n"
+    put(listing.state, b"%20d%4d %016x\n" % (0, 103, listing.sum) + mark)
+    put(listing.out, b"")
+    end(listing, listed(ringlist, sheet))
 
 
 def second_host(host, examples, folder):
@@ -392,7 +435,7 @@ def full_disk(host, ringlist, examples, folder):
         sheet = os.path.join(examples, name + ".sheet")
         expected = listed(ringlist, sheet)
         listing = Listing(host, sheet, folder, budget)
-        for limit in [0, HEAD - 1, HEAD, HEAD + 91, 220, len(expected) // 2, len(expected) - 1]:
+        for limit in [0, HEAD - 1, HEAD, HEAD + 91, 220, 250, len(expected) // 2, len(expected) - 1]:
             if limit < len(expected):
                 says(b"File too large", listing, limit=limit)
                 listing.check(expected, "a file of %d bytes" % limit)
@@ -439,9 +482,11 @@ def main():
     all_kills = int(os.environ.get("KILLS", "240"))
     os.makedirs(folder, exist_ok=True)
     wrong_files(host, examples, folder)
+    former_states(host, ringlist, examples, folder)
     second_host(host, examples, folder)
     full_disk(host, ringlist, examples, folder)
-    print("kill_test: wrong files, a second host and a full disk: as they should be", flush=True)
+    print("kill_test: wrong files, former states, a second host and a full disk: as they should be",
+          flush=True)
     steps(host, host_steps, ringlist, examples, folder)
     rng = random.Random(20)
     unit = short_listing(host, examples, folder)

@@ -594,12 +594,14 @@ static uint32_t restore(search *given, const char *mark, size_t len) {
 }
 
 /* The document's mark: kind 0, s and t 0, 4 atoms, 5 bonds, 2 atoms in p, next
-   atom 3; 5 trials, 2 extensions, 0 listed; p = 1 2. Line ends included,
-   29 + 61 + 9 = 99 bytes. */
+   atom 3; 5 trials, 2 extensions, 0 listed; p = 1 2; and the five bonds, lower
+   atom first, in dictionary order. Line ends included, 29 + 61 + 9 + 5 * 9 = 144
+   bytes. */
 #define LINE_1 "   0   0   0   4   5   2   3\n"
 #define LINE_2 "                   5                   2                   0\n"
 #define LINE_3 "   1   2\n"
-static const char full_mark[] = LINE_1 LINE_2 LINE_3;
+#define BONDS "   1   2\n   1   3\n   1   4\n   2   3\n   3   4\n"
+static const char full_mark[] = LINE_1 LINE_2 LINE_3 BONDS;
 
 /* A mark refused, and the search left alone. */
 static void mark_refused(const char *mark, size_t len, uint32_t rule, int line) {
@@ -698,18 +700,19 @@ static void two_rings_up_to(void) {
     static const char mark[] =
         "   2   4   0   6   7   2   6\n"
         "                   0                   0                   0\n"
-        "   1   4\n";
-    EQUAL(flat_restore(6, 7, rows, ROWS, (const uint8_t *)mark, 99, now.numbers, NUMBERS,
+        "   1   4\n"
+        "   1   2\n   1   3\n   1   4\n   1   5\n   2   3\n   4   6\n   5   6\n";
+    EQUAL(flat_restore(6, 7, rows, ROWS, (const uint8_t *)mark, 162, now.numbers, NUMBERS,
                        now.prefix, PLACES), 0);
     IS(&now, "\1\4", 2, 4, 0, 2, 6, 0, 0, 0, 0, 0);
-    uint8_t saved[100];
-    memset(saved, PATTERN, 100);
-    EQUAL(flat_save(6, 7, rows, ROWS, now.numbers, NUMBERS, now.prefix, PLACES, saved, 100), 99);
-    CHECK(memcmp(saved, mark, 99) == 0 && saved[99] == PATTERN);
+    uint8_t saved[163];
+    memset(saved, PATTERN, 163);
+    EQUAL(flat_save(6, 7, rows, ROWS, now.numbers, NUMBERS, now.prefix, PLACES, saved, 163), 162);
+    CHECK(memcmp(saved, mark, 162) == 0 && saved[162] == PATTERN);
     now.numbers[1] = 3;
     search before = now;
     EQUAL(flat_run(6, 7, rows, ROWS, now.numbers, NUMBERS, now.prefix, PLACES, 9, out, 16), 12);
-    EQUAL(flat_save(6, 7, rows, ROWS, now.numbers, NUMBERS, now.prefix, PLACES, saved, 100), 12);
+    EQUAL(flat_save(6, 7, rows, ROWS, now.numbers, NUMBERS, now.prefix, PLACES, saved, 163), 12);
     CHECK(same(&now, &before));
 }
 
@@ -741,6 +744,25 @@ static void three_rings_up_to(void) {
         IS(&now, "", 2, size, 0, 0, 7, trials, extensions, listed, used, trials);
         CHECK(memcmp(out, all, used) == 0 && all_are(out + used, 17 - used, PATTERN));
     }
+    /* The mark of the molecule above, which has as many atoms and bonds, from a
+       place that is open in both: 15, and nothing written. Then its own. */
+    static const char isomer[] =
+        "   0   0   0   6   7   1   2\n"
+        "                   0                   0                   0\n"
+        "   1\n"
+        "   1   2\n   1   3\n   1   4\n   1   5\n   2   3\n   4   6\n   5   6\n";
+    static const char own[] =
+        "   0   0   0   6   7   1   2\n"
+        "                   0                   0                   0\n"
+        "   1\n"
+        "   1   2\n   1   4\n   2   3\n   2   5\n   3   4\n   4   6\n   5   6\n";
+    search before = now;
+    EQUAL(flat_restore(6, 7, rows, ROWS, (const uint8_t *)isomer, 158, now.numbers, NUMBERS,
+                       now.prefix, PLACES), 15);
+    CHECK(same(&now, &before));
+    EQUAL(flat_restore(6, 7, rows, ROWS, (const uint8_t *)own, 158, now.numbers, NUMBERS,
+                       now.prefix, PLACES), 0);
+    IS(&now, "\1", 0, 0, 0, 1, 2, 0, 0, 0, 0, 0);
 }
 
 /* The same functions on the document's sheet: what they refuse. */
@@ -782,15 +804,15 @@ static void refused_up_to(void) {
     EQUAL(run(&now, 11, out, 8), 101);
     IS(&now, "", 2, 128, 0, 0, 5, 16, 3, 2, 8, 11);
     /* 16 in marks, before 17. */
-    MARK_REFUSED("   2   2   0   4   5   2   0\n" LINE_2 LINE_3, 16);
-    MARK_REFUSED("   2 129   0   4   5   2   3\n" LINE_2 LINE_3, 16);
-    MARK_REFUSED("   2 259   0   4   5   2   3\n" LINE_2 LINE_3, 16);
-    MARK_REFUSED("   2   3   1   4   5   2   3\n" LINE_2 LINE_3, 16);
-    MARK_REFUSED("   3   3   0   4   5   2   3\n" LINE_2 LINE_3, 16);
-    MARK_REFUSED("   2   3   0   4   5   2   0\n" LINE_2 LINE_3, 17);
-    MARK_REFUSED("   2   3   0   4   5   2   3\n" LINE_2 "   1   4\n", 17);
-    MARK_REFUSED("   2   2   0   5   5   2   3\n" LINE_2 LINE_3, 15);
-    MARK_REFUSED("0002   3   0   4   5   2   3\n" LINE_2 LINE_3, 14);
+    MARK_REFUSED("   2   2   0   4   5   2   0\n" LINE_2 LINE_3 BONDS, 16);
+    MARK_REFUSED("   2 129   0   4   5   2   3\n" LINE_2 LINE_3 BONDS, 16);
+    MARK_REFUSED("   2 259   0   4   5   2   3\n" LINE_2 LINE_3 BONDS, 16);
+    MARK_REFUSED("   2   3   1   4   5   2   3\n" LINE_2 LINE_3 BONDS, 16);
+    MARK_REFUSED("   3   3   0   4   5   2   3\n" LINE_2 LINE_3 BONDS, 16);
+    MARK_REFUSED("   2   3   0   4   5   2   0\n" LINE_2 LINE_3 BONDS, 17);
+    MARK_REFUSED("   2   3   0   4   5   2   3\n" LINE_2 "   1   4\n" BONDS, 17);
+    MARK_REFUSED("   2   2   0   5   5   2   3\n" LINE_2 LINE_3 BONDS, 15);
+    MARK_REFUSED("0002   3   0   4   5   2   3\n" LINE_2 LINE_3 BONDS, 14);
     /* 9 before 21: the bond 1-2 has lost one of its bits. And 200 before both. */
     rows[0] = 0x0C;
     now = before;
@@ -845,25 +867,27 @@ static void shortest(void) {
     static const char mark[] =
         "   3   1   4   6   7   2   6\n"
         "                   0                   0                   0\n"
-        "   1   5\n";
-    uint8_t changed[100];
-    memcpy(changed, mark, 99);
-    EQUAL(flat_restore(6, 7, rows, ROWS, changed, 99, now.numbers, NUMBERS, now.prefix, PLACES), 0);
+        "   1   5\n"
+        "   1   2\n   1   5\n   1   6\n   2   3\n   3   4\n   4   5\n   4   6\n";
+    uint8_t changed[162];
+    memcpy(changed, mark, 162);
+    EQUAL(flat_restore(6, 7, rows, ROWS, changed, 162, now.numbers, NUMBERS, now.prefix, PLACES), 0);
     IS(&now, "\1\5", 3, 1, 4, 2, 6, 0, 0, 0, 0, 0);
-    uint8_t saved[100];
-    memset(saved, PATTERN, 100);
-    EQUAL(flat_save(6, 7, rows, ROWS, now.numbers, NUMBERS, now.prefix, PLACES, saved, 100), 99);
-    CHECK(memcmp(saved, mark, 99) == 0 && saved[99] == PATTERN);
+    uint8_t saved[163];
+    memset(saved, PATTERN, 163);
+    EQUAL(flat_save(6, 7, rows, ROWS, now.numbers, NUMBERS, now.prefix, PLACES, saved, 163), 162);
+    CHECK(memcmp(saved, mark, 162) == 0 && saved[162] == PATTERN);
     search before = now;
     changed[97] = '2';
-    EQUAL(flat_restore(6, 7, rows, ROWS, changed, 99, now.numbers, NUMBERS, now.prefix, PLACES), 17);
+    EQUAL(flat_restore(6, 7, rows, ROWS, changed, 162, now.numbers, NUMBERS, now.prefix, PLACES),
+          17);
     CHECK(same(&now, &before));
     changed[3] = '1';
-    EQUAL(flat_restore(6, 7, rows, ROWS, changed, 99, now.numbers, NUMBERS, now.prefix, PLACES), 0);
+    EQUAL(flat_restore(6, 7, rows, ROWS, changed, 162, now.numbers, NUMBERS, now.prefix, PLACES), 0);
     now.numbers[0] = 3;
     before = now;
     EQUAL(flat_run(6, 7, rows, ROWS, now.numbers, NUMBERS, now.prefix, PLACES, 9, out, 16), 12);
-    EQUAL(flat_save(6, 7, rows, ROWS, now.numbers, NUMBERS, now.prefix, PLACES, saved, 100), 12);
+    EQUAL(flat_save(6, 7, rows, ROWS, now.numbers, NUMBERS, now.prefix, PLACES, saved, 163), 12);
     CHECK(same(&now, &before));
 }
 
@@ -904,14 +928,14 @@ static void refused_shortest(void) {
     IS(&now, "", 3, 2, 4, 0, 5, 16, 3, 2, 8, 10);
     CHECK(memcmp(out, "\3\2\1\4\3\2\3\4", 8) == 0);
     /* 16 in marks, before 17; and 17: no shortest path from 1 to 3 begins 1 2. */
-    MARK_REFUSED("   3   0   0   4   5   2   0\n" LINE_2 LINE_3, 16);
-    MARK_REFUSED("   3   1   0   4   5   2   3\n" LINE_2 LINE_3, 16);
-    MARK_REFUSED("   3   1   5   4   5   2   3\n" LINE_2 LINE_3, 16);
-    MARK_REFUSED("   3   1   1   4   5   2   3\n" LINE_2 LINE_3, 16);
-    MARK_REFUSED("   4   1   3   4   5   2   3\n" LINE_2 LINE_3, 16);
-    MARK_REFUSED("   3   1   3   4   5   2   3\n" LINE_2 LINE_3, 17);
-    MARK_REFUSED("   3   1   3   5   5   2   3\n" LINE_2 LINE_3, 15);
-    MARK_REFUSED("0003   1   3   4   5   2   3\n" LINE_2 LINE_3, 14);
+    MARK_REFUSED("   3   0   0   4   5   2   0\n" LINE_2 LINE_3 BONDS, 16);
+    MARK_REFUSED("   3   1   0   4   5   2   3\n" LINE_2 LINE_3 BONDS, 16);
+    MARK_REFUSED("   3   1   5   4   5   2   3\n" LINE_2 LINE_3 BONDS, 16);
+    MARK_REFUSED("   3   1   1   4   5   2   3\n" LINE_2 LINE_3 BONDS, 16);
+    MARK_REFUSED("   4   1   3   4   5   2   3\n" LINE_2 LINE_3 BONDS, 16);
+    MARK_REFUSED("   3   1   3   4   5   2   3\n" LINE_2 LINE_3 BONDS, 17);
+    MARK_REFUSED("   3   1   3   5   5   2   3\n" LINE_2 LINE_3 BONDS, 15);
+    MARK_REFUSED("0003   1   3   4   5   2   3\n" LINE_2 LINE_3 BONDS, 14);
     /* 9 before 10 and 11: the bond 1-2 has lost one of its bits. And 200 before
        them all. */
     rows[0] = 0x0C;
@@ -1031,6 +1055,100 @@ static void counts(void) {
     NOT_COUNTED(128, 367, 1, 124, 26);
 }
 
+/* A mark of the document's place with other bond lines. */
+#define BONDS_REFUSED(bonds, rule) MARK_REFUSED(LINE_1 LINE_2 LINE_3 bonds, rule)
+
+/* Bond lines on the document's record, whose bonds are 1-2, 1-3, 1-4, 2-3, 3-4.
+   14: the layout, the lower atom first and the order, over the whole mark; 15: any
+   other bonds. */
+static void bond_lines(void) {
+    /* As many lines as the first line says: m alone one more, one fewer, others. */
+    MARK_REFUSED("   0   0   0   4   6   2   3\n" LINE_2 LINE_3 BONDS, 14);
+    MARK_REFUSED("   0   0   0   4   4   2   3\n" LINE_2 LINE_3 BONDS, 14);
+    MARK_REFUSED("   0   0   0   4   0   2   3\n" LINE_2 LINE_3 BONDS, 14);
+    MARK_REFUSED("   0   0   0   41025   2   3\n" LINE_2 LINE_3 BONDS, 14);
+    MARK_REFUSED("   0   0   0   49999   2   3\n" LINE_2 LINE_3 BONDS, 14);
+    BONDS_REFUSED("   1   2\n   1   3\n   1   4\n   2   3\n", 14);
+    BONDS_REFUSED(BONDS "   3   5\n", 14);
+    /* Both changed: another number of bonds. */
+    MARK_REFUSED("   0   0   0   4   6   2   3\n" LINE_2 LINE_3 BONDS "   3   5\n", 15);
+    MARK_REFUSED("   0   0   0   4   0   2   3\n" LINE_2 LINE_3, 15);
+    MARK_REFUSED("   0   0   0   4   1   2   3\n" LINE_2 LINE_3 "   1   2\n", 15);
+    /* Out of order, as on the sheet, repeated, reversed, one atom twice. */
+    BONDS_REFUSED("   1   3\n   1   2\n   1   4\n   2   3\n   3   4\n", 14);
+    BONDS_REFUSED("   1   2\n   2   3\n   3   4\n   1   4\n   1   3\n", 14);
+    BONDS_REFUSED("   1   2\n   1   2\n   1   4\n   2   3\n   3   4\n", 14);
+    BONDS_REFUSED("   1   2\n   1   3\n   1   4\n   2   3\n   2   3\n", 14);
+    BONDS_REFUSED("   2   1\n   1   3\n   1   4\n   2   3\n   3   4\n", 14);
+    BONDS_REFUSED("   1   2\n   1   3\n   1   4\n   2   3\n   4   3\n", 14);
+    BONDS_REFUSED("   1   2\n   1   3\n   1   4\n   2   2\n   3   4\n", 14);
+    /* Filled by zeros, other bytes, other line ends. */
+    BONDS_REFUSED("00010002\n   1   3\n   1   4\n   2   3\n   3   4\n", 14);
+    BONDS_REFUSED("   1   2\n   1   3\n   1   4\n   2   3\n   30004\n", 14);
+    BONDS_REFUSED("   1  02\n   1   3\n   1   4\n   2   3\n   3   4\n", 14);
+    BONDS_REFUSED("   1   2\n   1   3\n   1   x\n   2   3\n   3   4\n", 14);
+    BONDS_REFUSED("   1   2\n   1   3\n   1   4\r   2   3\n   3   4\n", 14);
+    BONDS_REFUSED("   1   2\n   1   3\n   1   4\n   2   3\n   3   4 ", 14);
+    /* Another bond, and atoms that the molecule does not have. */
+    BONDS_REFUSED("   1   2\n   1   3\n   1   4\n   2   4\n   3   4\n", 15);
+    BONDS_REFUSED("   0   2\n   1   3\n   1   4\n   2   3\n   3   4\n", 15);
+    BONDS_REFUSED("   1   2\n   1   3\n   1   4\n   2   3\n   3   5\n", 15);
+    BONDS_REFUSED("   1   2\n   1   3\n   1   4\n   2   3\n 259 260\n", 15);
+    BONDS_REFUSED("   1   2\n   1   3\n   1   4\n   2   3\n99989999\n", 15);
+    /* A strange atom and a wrong order: 14. */
+    BONDS_REFUSED("   1   2\n   0   3\n   1   4\n   2   3\n   3   4\n", 14);
+    BONDS_REFUSED("   1   2\n   1   3\n   1   4\n   2   3\n   5   0\n", 14);
+    BONDS_REFUSED("99989999\n   1   3\n   1   4\n   2   3\n   3   4\n", 14);
+    BONDS_REFUSED("   0   2\n   1   3\n   1   4\n   3   4\n   2   3\n", 14);
+    /* 15 comes before 16 and 17. */
+    MARK_REFUSED("   4   0   0   4   5   2   0\n" LINE_2 LINE_3
+                 "   1   2\n   1   3\n   1   4\n   2   4\n   3   4\n", 15);
+}
+
+/* Molecules of no bonds and of one, and a mark of 200 bytes, which is also what a
+   wrong length gives: nine bonds, and seven atoms in p. */
+static void other_bonds(void) {
+    static const char none[] =
+        "   0   0   0   4   0   0   1\n"
+        "                   0                   0                   0\n\n";
+    static const char one[] =
+        "   1   3   2   4   1   1   2\n"
+        "                   0                   0                   0\n   3\n   2   3\n";
+    search now;
+    uint8_t saved[300];
+    memset(rows, 0, ROWS);
+    EQUAL(flat_restore(4, 0, rows, ROWS, (const uint8_t *)none, 91, now.numbers, NUMBERS,
+                       now.prefix, PLACES), 0);
+    EQUAL(flat_save(4, 0, rows, ROWS, now.numbers, NUMBERS, now.prefix, PLACES, saved, 91), 91);
+    CHECK(memcmp(saved, none, 91) == 0);
+    EQUAL(flat_restore(4, 0, rows, ROWS, (const uint8_t *)one, 104, now.numbers, NUMBERS,
+                       now.prefix, PLACES), 15);
+    rows[16] = 0x04;
+    rows[32] = 0x02;
+    EQUAL(flat_restore(4, 1, rows, ROWS, (const uint8_t *)one, 104, now.numbers, NUMBERS,
+                       now.prefix, PLACES), 0);
+    EQUAL(flat_save(4, 1, rows, ROWS, now.numbers, NUMBERS, now.prefix, PLACES, saved, 103), 13);
+    EQUAL(flat_save(4, 1, rows, ROWS, now.numbers, NUMBERS, now.prefix, PLACES, saved, 104), 104);
+    CHECK(memcmp(saved, one, 104) == 0);
+    EQUAL(flat_restore(4, 1, rows, ROWS, (const uint8_t *)none, 91, now.numbers, NUMBERS,
+                       now.prefix, PLACES), 15);
+    /* A chain of ten atoms. */
+    memset(rows, 0, ROWS);
+    for (int a = 1; a < 10; a++) {
+        join(a, a + 1);
+    }
+    EQUAL(flat_start_paths(10, 9, rows, ROWS, 1, 10, now.numbers, NUMBERS, now.prefix, PLACES), 0);
+    for (int length = 0; length < 7; length++) {
+        now.prefix[length] = (uint8_t)(length + 1);
+    }
+    now.numbers[3] = 7;
+    memset(saved, PATTERN, sizeof saved);
+    EQUAL(flat_save(10, 9, rows, ROWS, now.numbers, NUMBERS, now.prefix, PLACES, saved, 199), 13);
+    CHECK(all_are(saved, sizeof saved, PATTERN));
+    EQUAL(flat_save(10, 9, rows, ROWS, now.numbers, NUMBERS, now.prefix, PLACES, saved, 300), 200);
+    CHECK(memcmp(saved + 191, "   9  10\n", 9) == 0 && all_are(saved + 200, 100, PATTERN));
+}
+
 /* The document's sheet has the rings 1 2 3 and 1 3 4. The trials of a fresh
    ring search, with p and the atom tried, 4 for each p (n * (extensions + 1)
    = 4 * 4 = 16):
@@ -1092,29 +1210,40 @@ static void searches(void) {
     EQUAL(run(&now, 0, out, 0), 101);
     IS(&now, "", 0, 0, 0, 0, 5, 16, 3, 2, 0, 0);
 
-    /* The mark of the full run: exactly 99 bytes, and 98 are too few. */
-    CHECK(sizeof full_mark - 1 == 99);
-    EQUAL(save(&full, mark, 99), 99);
-    CHECK(memcmp(mark, full_mark, 99) == 0 && all_are(mark + 99, 601, PATTERN));
-    EQUAL(save(&full, mark, 700), 99);
-    CHECK(memcmp(mark, full_mark, 99) == 0 && all_are(mark + 99, 601, PATTERN));
-    EQUAL(save(&full, mark, 98), 13);
+    /* The mark of the full run: exactly 144 bytes, and 143 are too few. */
+    CHECK(sizeof full_mark - 1 == 144);
+    EQUAL(save(&full, mark, 144), 144);
+    CHECK(memcmp(mark, full_mark, 144) == 0 && all_are(mark + 144, 556, PATTERN));
+    EQUAL(save(&full, mark, 700), 144);
+    CHECK(memcmp(mark,
+                 "   0   0   0   4   5   2   3\n"
+                 "                   5                   2                   0\n"
+                 "   1   2\n"
+                 "   1   2\n"
+                 "   1   3\n"
+                 "   1   4\n"
+                 "   2   3\n"
+                 "   3   4\n",
+                 144) == 0 && all_are(mark + 144, 556, PATTERN));
+    EQUAL(save(&full, mark, 143), 13);
+    EQUAL(save(&full, mark, 99), 13);
     EQUAL(save(&full, mark, 0), 13);
     CHECK(all_are(mark, 700, PATTERN));
     /* Restored, it runs on as before. */
     memset(&now, PATTERN, sizeof now);
-    EQUAL(restore(&now, full_mark, 99), 0);
+    EQUAL(restore(&now, full_mark, 144), 0);
     IS(&now, "\1\2", 0, 0, 0, 2, 3, 5, 2, 0, 0, 0);
     EQUAL(run(&now, 11, out, 8), 101);
     IS(&now, "", 0, 0, 0, 0, 5, 16, 3, 2, 8, 11);
     CHECK(memcmp(out, "\3\1\2\3\3\1\3\4", 8) == 0);
     /* The mark of a done search: no atoms in line 3. */
-    EQUAL(save(&now, mark, 91), 91);
+    EQUAL(save(&now, mark, 135), 13);
+    EQUAL(save(&now, mark, 136), 136);
     CHECK(memcmp(mark,
                  "   0   0   0   4   5   0   5\n"
                  "                  16                   3                   2\n"
-                 "\n",
-                 91) == 0);
+                 "\n" BONDS,
+                 136) == 0);
 
     /* Paths 2 to 4: 2 1 4 and 2 3 4, 16 trials; 1 to 3: 1 3 only, 8 trials. */
     EQUAL(start_paths(&now, 2, 4), 0);
@@ -1169,47 +1298,54 @@ static void searches(void) {
 
     /* 14: the layout. */
     MARK_REFUSED("", 14);
-    mark_refused(full_mark, 98, 14, __LINE__);
-    MARK_REFUSED(LINE_1 LINE_2 LINE_3 "\n", 14);
-    MARK_REFUSED(LINE_1 LINE_2 "   1  02\n", 14);
-    MARK_REFUSED(LINE_1 LINE_2 "   1   2 ", 14);
-    MARK_REFUSED("   0   0   0   4   5   3   3\n" LINE_2 LINE_3, 14);
-    MARK_REFUSED("   0   0   0   4   5   1   3\n" LINE_2 LINE_3, 14);
-    MARK_REFUSED("   0   0   0   4   5 128   3\n" LINE_2 LINE_3, 14);
-    MARK_REFUSED(LINE_1 "                   5                   210000000000000000000\n" LINE_3, 14);
+    mark_refused(full_mark, 143, 14, __LINE__);
+    mark_refused(full_mark, 135, 14, __LINE__);
+    /* The mark without its bond lines: the one of before. */
+    mark_refused(full_mark, 99, 14, __LINE__);
+    MARK_REFUSED(LINE_1 LINE_2 LINE_3 "\n" BONDS, 14);
+    MARK_REFUSED(LINE_1 LINE_2 LINE_3 BONDS "\n", 14);
+    MARK_REFUSED(LINE_1 LINE_2 "   1  02\n" BONDS, 14);
+    MARK_REFUSED(LINE_1 LINE_2 "   1   2 " BONDS, 14);
+    MARK_REFUSED("   0   0   0   4   5   3   3\n" LINE_2 LINE_3 BONDS, 14);
+    MARK_REFUSED("   0   0   0   4   5   1   3\n" LINE_2 LINE_3 BONDS, 14);
+    MARK_REFUSED("   0   0   0   4   5 128   3\n" LINE_2 LINE_3 BONDS, 14);
+    MARK_REFUSED(LINE_1 "                   5                   210000000000000000000\n" LINE_3 BONDS, 14);
     /* Each field of the mark filled by zeros, then all. */
-    MARK_REFUSED("0000   0   0   4   5   2   3\n" LINE_2 LINE_3, 14);
-    MARK_REFUSED("   00000   0   4   5   2   3\n" LINE_2 LINE_3, 14);
-    MARK_REFUSED("   0   00000   4   5   2   3\n" LINE_2 LINE_3, 14);
-    MARK_REFUSED("   0   0   00004   5   2   3\n" LINE_2 LINE_3, 14);
-    MARK_REFUSED("   0   0   0   40005   2   3\n" LINE_2 LINE_3, 14);
-    MARK_REFUSED("   0   0   0   4   50002   3\n" LINE_2 LINE_3, 14);
-    MARK_REFUSED("   0   0   0   4   5   20003\n" LINE_2 LINE_3, 14);
-    MARK_REFUSED(LINE_1 "00000000000000000005                   2                   0\n" LINE_3, 14);
-    MARK_REFUSED(LINE_1 "                   500000000000000000002                   0\n" LINE_3, 14);
-    MARK_REFUSED(LINE_1 "                   5                   200000000000000000000\n" LINE_3, 14);
-    MARK_REFUSED(LINE_1 LINE_2 "0001   2\n", 14);
-    MARK_REFUSED(LINE_1 LINE_2 "   10002\n", 14);
+    MARK_REFUSED("0000   0   0   4   5   2   3\n" LINE_2 LINE_3 BONDS, 14);
+    MARK_REFUSED("   00000   0   4   5   2   3\n" LINE_2 LINE_3 BONDS, 14);
+    MARK_REFUSED("   0   00000   4   5   2   3\n" LINE_2 LINE_3 BONDS, 14);
+    MARK_REFUSED("   0   0   00004   5   2   3\n" LINE_2 LINE_3 BONDS, 14);
+    MARK_REFUSED("   0   0   0   40005   2   3\n" LINE_2 LINE_3 BONDS, 14);
+    MARK_REFUSED("   0   0   0   4   50002   3\n" LINE_2 LINE_3 BONDS, 14);
+    MARK_REFUSED("   0   0   0   4   5   20003\n" LINE_2 LINE_3 BONDS, 14);
+    MARK_REFUSED(LINE_1 "00000000000000000005                   2                   0\n" LINE_3 BONDS, 14);
+    MARK_REFUSED(LINE_1 "                   500000000000000000002                   0\n" LINE_3 BONDS, 14);
+    MARK_REFUSED(LINE_1 "                   5                   200000000000000000000\n" LINE_3 BONDS, 14);
+    MARK_REFUSED(LINE_1 LINE_2 "0001   2\n" BONDS, 14);
+    MARK_REFUSED(LINE_1 LINE_2 "   10002\n" BONDS, 14);
     MARK_REFUSED("0000000000000004000500020003\n"
                  "000000000000000000050000000000000000000200000000000000000000\n"
-                 "00010002\n", 14);
-    /* 15: n or m. 16: kind, s, t. 17: p or c. */
-    MARK_REFUSED("   0   0   0   5   5   2   3\n" LINE_2 LINE_3, 15);
-    MARK_REFUSED("   0   0   0   4   6   2   3\n" LINE_2 LINE_3, 15);
-    MARK_REFUSED("   2   0   0   4   5   2   3\n" LINE_2 LINE_3, 16);
-    MARK_REFUSED("   3   0   0   4   5   2   3\n" LINE_2 LINE_3, 16);
-    MARK_REFUSED("   0   1   3   4   5   2   3\n" LINE_2 LINE_3, 16);
-    MARK_REFUSED("   1   1   5   4   5   2   3\n" LINE_2 LINE_3, 16);
-    MARK_REFUSED("   1   1   1   4   5   2   3\n" LINE_2 LINE_3, 16);
-    MARK_REFUSED("   0   0   0   4   5   2   0\n" LINE_2 LINE_3, 17);
-    MARK_REFUSED("   0   0   0   4   5   2   5\n" LINE_2 LINE_3, 17);
-    MARK_REFUSED(LINE_1 LINE_2 "   1   4\n", 17);
-    MARK_REFUSED(LINE_1 LINE_2 "   1 258\n", 17);
-    MARK_REFUSED("   1   2   4   4   5   2   3\n" LINE_2 LINE_3, 17);
+                 "00010002\n"
+                 "00010002\n00010003\n00010004\n00020003\n00030004\n", 14);
+    /* 15: n or the bonds. 16: kind, s, t. 17: p or c. */
+    MARK_REFUSED("   0   0   0   5   5   2   3\n" LINE_2 LINE_3 BONDS, 15);
+    MARK_REFUSED("   0   0   0   4   4   2   3\n" LINE_2 LINE_3
+                 "   1   2\n   1   3\n   1   4\n   2   3\n", 15);
+    MARK_REFUSED("   2   0   0   4   5   2   3\n" LINE_2 LINE_3 BONDS, 16);
+    MARK_REFUSED("   3   0   0   4   5   2   3\n" LINE_2 LINE_3 BONDS, 16);
+    MARK_REFUSED("   0   1   3   4   5   2   3\n" LINE_2 LINE_3 BONDS, 16);
+    MARK_REFUSED("   1   1   5   4   5   2   3\n" LINE_2 LINE_3 BONDS, 16);
+    MARK_REFUSED("   1   1   1   4   5   2   3\n" LINE_2 LINE_3 BONDS, 16);
+    MARK_REFUSED("   0   0   0   4   5   2   0\n" LINE_2 LINE_3 BONDS, 17);
+    MARK_REFUSED("   0   0   0   4   5   2   5\n" LINE_2 LINE_3 BONDS, 17);
+    MARK_REFUSED(LINE_1 LINE_2 "   1   4\n" BONDS, 17);
+    MARK_REFUSED(LINE_1 LINE_2 "   1 258\n" BONDS, 17);
+    MARK_REFUSED("   1   2   4   4   5   2   3\n" LINE_2 LINE_3 BONDS, 17);
+    bond_lines();
     /* Each before the next. */
-    MARK_REFUSED("   2   0   0   5   5   2   0\n" LINE_2 "   1  02\n", 14);
-    MARK_REFUSED("   2   0   0   5   5   2   0\n" LINE_2 LINE_3, 15);
-    MARK_REFUSED("   2   0   0   4   5   2   0\n" LINE_2 LINE_3, 16);
+    MARK_REFUSED("   2   0   0   5   5   2   0\n" LINE_2 "   1  02\n" BONDS, 14);
+    MARK_REFUSED("   2   0   0   5   5   2   0\n" LINE_2 LINE_3 BONDS, 15);
+    MARK_REFUSED("   2   0   0   4   5   2   0\n" LINE_2 LINE_3 BONDS, 16);
 
     /* 9 before all that: the bond 1-2 has lost one of its bits. */
     rows[0] = 0x0C;
@@ -1229,7 +1365,7 @@ static void searches(void) {
     EQUAL(flat_start_paths(4, 5, rows, ROWS, 1, 2, now.numbers, 9, now.prefix, PLACES), 200);
     EQUAL(flat_run(4, 5, rows, ROWS, now.numbers, NUMBERS, now.prefix, 127, 1, out, 16), 200);
     EQUAL(flat_save(4, 5, rows, ROWS, now.numbers, 0, now.prefix, PLACES, mark, 700), 200);
-    EQUAL(flat_restore(4, 5, rows, ROWS, mark, 99, now.numbers, NUMBERS, now.prefix, 0), 200);
+    EQUAL(flat_restore(4, 5, rows, ROWS, mark, 144, now.numbers, NUMBERS, now.prefix, 0), 200);
     CHECK(same(&now, &before));
 }
 
@@ -1246,6 +1382,7 @@ int main(void) {
     shortest();
     refused_shortest();
     counts();
+    other_bonds();
     printf("C test: %u checks, %u failed\n", checks, failures);
     return failures == 0 ? 0 : 1;
 }

@@ -10,7 +10,7 @@
 
 #define PATTERN 0xA5
 #define MARGIN 64
-#define MARK 599
+#define MARK 9815
 #define STACK (256 * 1024)
 
 static unsigned checks;
@@ -115,12 +115,14 @@ static const char document[] =
 
 #define SHEET document, sizeof document - 1
 
-/* The document's mark of 99 bytes: kind 0, s and t 0, 4 atoms, 5 bonds, 2 atoms
-   in p, next atom 3; 5 trials, 2 extensions, 0 listed; p = 1 2. */
+/* The document's mark of 144 bytes: kind 0, s and t 0, 4 atoms, 5 bonds, 2 atoms
+   in p, next atom 3; 5 trials, 2 extensions, 0 listed; p = 1 2; and the five
+   bonds, lower atom first, in dictionary order. */
 #define LINE_1 "   0   0   0   4   5   2   3\n"
 #define LINE_2 "                   5                   2                   0\n"
 #define LINE_3 "   1   2\n"
-static const char full_mark[] = LINE_1 LINE_2 LINE_3;
+#define BONDS "   1   2\n   1   3\n   1   4\n   2   3\n   3   4\n"
+static const char full_mark[] = LINE_1 LINE_2 LINE_3 BONDS;
 
 /* The search on that sheet, trial by trial. The rings are 1 2 3 and 1 3 4.
      1: -    1  open     p = 1
@@ -152,14 +154,14 @@ static const struct {
 static const char records[] = "\3\1\2\3\3\1\3\4";
 
 /* The mark after a number of trials; returns its bytes. */
-static size_t mark_after(int trials, char mark[128]) {
-    return (size_t)sprintf(mark, "   0   0   0   4   5%4d%4d\n%20d%20d%20d\n%s\n",
+static size_t mark_after(int trials, char mark[160]) {
+    return (size_t)sprintf(mark, "   0   0   0   4   5%4d%4d\n%20d%20d%20d\n%s\n" BONDS,
                            after[trials].length, after[trials].next, trials,
                            after[trials].extensions, after[trials].listed, after[trials].p);
 }
 
 static void document_by_budget(void) {
-    char mark[128], start[128];
+    char mark[160], start[160];
     /* From any number of trials to any later one. */
     for (int from = 0; from <= 16; from++) {
         size_t start_len = mark_after(from, start);
@@ -183,17 +185,27 @@ static void document_by_budget(void) {
     /* Done stays done, whatever the budget and the output. */
     size_t mark_len = mark_after(16, mark);
     wrote(call(SHEET, mark, mark_len, 0, 0, MARK), 101, "", 0, mark, mark_len, __LINE__);
-    wrote(call(SHEET, mark, mark_len, UINT64_MAX, 99, 700), 101, "", 0, mark, mark_len, __LINE__);
+    wrote(call(SHEET, mark, mark_len, UINT64_MAX, 99, MARK + 1), 101, "", 0, mark, mark_len, __LINE__);
 }
 
 static void document_by_output(void) {
-    char mark[128];
+    char mark[160];
     const size_t full_len = sizeof full_mark - 1;
     /* Three bytes: budget 5 ends spent, budget 6 ends full after 5 trials, with
-       p = 1 2, next atom 3 and a mark of 99 bytes. */
-    EQUAL(full_len, 99);
-    EQUAL(mark_after(5, mark), 99);
-    CHECK(memcmp(mark, full_mark, 99) == 0);
+       p = 1 2, next atom 3 and a mark of 144 bytes. */
+    EQUAL(full_len, 144);
+    EQUAL(mark_after(5, mark), 144);
+    CHECK(memcmp(mark, full_mark, 144) == 0);
+    CHECK(memcmp(full_mark,
+                 "   0   0   0   4   5   2   3\n"
+                 "                   5                   2                   0\n"
+                 "   1   2\n"
+                 "   1   2\n"
+                 "   1   3\n"
+                 "   1   4\n"
+                 "   2   3\n"
+                 "   3   4\n",
+                 144) == 0);
     wrote(call(SHEET, NULL, 0, 5, 3, MARK), 103, "", 0, full_mark, full_len, __LINE__);
     wrote(call(SHEET, NULL, 0, 6, 3, MARK), 104, "", 0, full_mark, full_len, __LINE__);
     wrote(call(SHEET, NULL, 0, UINT64_MAX, 0, MARK), 104, "", 0, full_mark, full_len, __LINE__);
@@ -210,7 +222,7 @@ static void document_by_output(void) {
     wrote(call(SHEET, NULL, 0, 0, 3, MARK), 103, "", 0, mark, mark_len, __LINE__);
     mark_len = mark_after(16, mark);
     wrote(call(SHEET, NULL, 0, 16, 8, MARK), 101, records, 8, mark, mark_len, __LINE__);
-    wrote(call(SHEET, NULL, 0, 16, 30, 700), 101, records, 8, mark, mark_len, __LINE__);
+    wrote(call(SHEET, NULL, 0, 16, 30, 2 * MARK), 101, records, 8, mark, mark_len, __LINE__);
 }
 
 /* The document's sheet filled by zeros, and by both: the same answers, rings and
@@ -220,7 +232,7 @@ static void document_by_filling(void) {
         "00040005\n00010002\n00020003\n00030004\n00010004\n00010003\n",
         "0004   5\n   10002\n0002   3\n   30004\n00010004\n   1   3\n",
     };
-    char mark[128], start[128];
+    char mark[160], start[160];
     for (int i = 0; i < 2; i++) {
         for (int trials = 0; trials <= 16; trials++) {
             size_t mark_len = mark_after(trials, mark);
@@ -263,66 +275,92 @@ static void refusals(void) {
 
     /* The mark. */
     REFUSED(document, "x", MARK, 14);
-    REFUSED(document, LINE_1 LINE_2 "   1   2", MARK, 14);
-    REFUSED(document, LINE_1 LINE_2 LINE_3 "\n", MARK, 14);
-    REFUSED(document, LINE_1 LINE_2 "   1  02\n", MARK, 14);
+    REFUSED(document, LINE_1 LINE_2 "   1   2" BONDS, MARK, 14);
+    REFUSED(document, LINE_1 LINE_2 LINE_3 "\n" BONDS, MARK, 14);
+    REFUSED(document, LINE_1 LINE_2 "   1  02\n" BONDS, MARK, 14);
     /* Fields filled by zeros, of 4 columns and of 20. */
-    REFUSED(document, LINE_1 LINE_2 "   10002\n", MARK, 14);
-    REFUSED(document, "0000   0   0   4   5   2   3\n" LINE_2 LINE_3, MARK, 14);
-    REFUSED(document, "   0   0   00004   5   2   3\n" LINE_2 LINE_3, MARK, 14);
-    REFUSED(document, "   0   0   0   4   50002   3\n" LINE_2 LINE_3, MARK, 14);
-    REFUSED(document, LINE_1 "00000000000000000005                   2                   0\n" LINE_3,
+    REFUSED(document, LINE_1 LINE_2 "   10002\n" BONDS, MARK, 14);
+    REFUSED(document, "0000   0   0   4   5   2   3\n" LINE_2 LINE_3 BONDS, MARK, 14);
+    REFUSED(document, "   0   0   00004   5   2   3\n" LINE_2 LINE_3 BONDS, MARK, 14);
+    REFUSED(document, "   0   0   0   4   50002   3\n" LINE_2 LINE_3 BONDS, MARK, 14);
+    REFUSED(document, LINE_1 "00000000000000000005                   2                   0\n" LINE_3 BONDS,
             MARK, 14);
-    REFUSED(document, LINE_1 "                   5                   200000000000000000000\n" LINE_3,
+    REFUSED(document, LINE_1 "                   5                   200000000000000000000\n" LINE_3 BONDS,
             MARK, 14);
-    REFUSED(document, "   2   0   0   9   5   2   0\n" LINE_2 "   1\n", MARK, 14);
-    REFUSED(document, "   2   0   0   5   5   2   0\n" LINE_2 LINE_3, MARK, 15);
-    REFUSED(document, "   0   0   0   4   4   2   3\n" LINE_2 LINE_3, MARK, 15);
-    REFUSED(document, "   3   0   0   4   5   2   0\n" LINE_2 LINE_3, MARK, 16);
-    REFUSED(document, "   2   0   0   4   5   2   0\n" LINE_2 LINE_3, MARK, 16);
-    REFUSED(document, "   2   2   0   4   5   2   0\n" LINE_2 LINE_3, MARK, 16);
-    REFUSED(document, "   2 129   0   4   5   2   3\n" LINE_2 LINE_3, MARK, 16);
-    REFUSED(document, "   2   3   1   4   5   2   3\n" LINE_2 LINE_3, MARK, 16);
-    REFUSED(document, "   2   3   0   4   5   2   3\n" LINE_2 "   1   4\n", MARK, 17);
-    REFUSED(document, "   2   3   0   4   5   2   3\n" LINE_2 LINE_3, 598, 13);
-    REFUSED(document, "   3   3   0   4   5   2   3\n" LINE_2 LINE_3, MARK, 16);
-    REFUSED(document, "   3   1   1   4   5   2   3\n" LINE_2 LINE_3, MARK, 16);
-    REFUSED(document, "   3   1   5   4   5   2   3\n" LINE_2 LINE_3, MARK, 16);
-    REFUSED(document, "   4   1   3   4   5   2   3\n" LINE_2 LINE_3, MARK, 16);
-    REFUSED(document, "   3   1   3   4   5   2   3\n" LINE_2 LINE_3, MARK, 17);
-    REFUSED(document, "   3   2   4   4   5   2   3\n" LINE_2 "   2   1\n", 598, 13);
-    REFUSED(document, "   0   1   0   4   5   2   3\n" LINE_2 LINE_3, MARK, 16);
-    REFUSED(document, "   1   1   1   4   5   1   1\n" LINE_2 "   1\n", MARK, 16);
-    REFUSED(document, "   1   1   5   4   5   1   1\n" LINE_2 "   1\n", MARK, 16);
-    REFUSED(document, "   0   0   0   4   5   2   3\n" LINE_2 "   1   4\n", MARK, 17);
-    REFUSED(document, "   0   0   0   4   5   2   3\n" LINE_2 "   2   3\n", MARK, 17);
-    REFUSED(document, "   0   0   0   4   5   2   0\n" LINE_2 LINE_3, MARK, 17);
-    REFUSED(document, "   0   0   0   4   5   2   5\n" LINE_2 LINE_3, MARK, 17);
+    REFUSED(document, "   2   0   0   9   5   2   0\n" LINE_2 "   1\n" BONDS, MARK, 14);
+    REFUSED(document, "   2   0   0   5   5   2   0\n" LINE_2 LINE_3 BONDS, MARK, 15);
+    REFUSED(document, "   0   0   0   4   4   2   3\n" LINE_2 LINE_3 BONDS, MARK, 14);
+    /* The mark of 99 bytes of before, which has no bond lines. */
+    REFUSED(document, LINE_1 LINE_2 LINE_3, MARK, 14);
+    REFUSED(document, LINE_1 LINE_2 LINE_3, 0, 14);
+    /* Bond lines: one too few, one too many, zeros, a line end, out of order,
+       repeated, the higher atom first, one atom twice, and that with a strange atom. */
+    REFUSED(document, LINE_1 LINE_2 LINE_3 "   1   2\n   1   3\n   1   4\n   2   3\n", MARK, 14);
+    REFUSED(document, LINE_1 LINE_2 LINE_3 BONDS "   3   5\n", MARK, 14);
+    REFUSED(document, LINE_1 LINE_2 LINE_3 "   1   2\n   1   3\n   1   4\n   2   3\n0003   4\n", MARK, 14);
+    REFUSED(document, LINE_1 LINE_2 LINE_3 "   1   2\n   1   3\n   1   4\n   2   3\n   30004\n", MARK, 14);
+    REFUSED(document, LINE_1 LINE_2 LINE_3 "   1   2\n   1   3\n   1   4\n   2   3\n   3   4\r", MARK, 14);
+    REFUSED(document, LINE_1 LINE_2 LINE_3 "   1   3\n   1   2\n   1   4\n   2   3\n   3   4\n", MARK, 14);
+    REFUSED(document, LINE_1 LINE_2 LINE_3 "   1   2\n   1   2\n   1   4\n   2   3\n   3   4\n", MARK, 14);
+    REFUSED(document, LINE_1 LINE_2 LINE_3 "   1   2\n   1   3\n   1   4\n   3   2\n   3   4\n", MARK, 14);
+    REFUSED(document, LINE_1 LINE_2 LINE_3 "   1   2\n   1   3\n   1   4\n   2   3\n   4   4\n", MARK, 14);
+    REFUSED(document, LINE_1 LINE_2 LINE_3 "   1   2\n   0   3\n   1   4\n   2   3\n   3   4\n", MARK, 14);
+    REFUSED(document, LINE_1 LINE_2 LINE_3 "   1   2\n   1   3\n   1   4\n   2   3\n9999   0\n", MARK, 14);
+    /* Other bonds: those of another molecule, fewer, more, and strange atoms. */
+    REFUSED(document, LINE_1 LINE_2 LINE_3 "   1   2\n   1   4\n   2   3\n   2   4\n   3   4\n", MARK, 15);
+    REFUSED(document, "   0   0   0   4   4   2   3\n" LINE_2 LINE_3 "   1   2\n   1   3\n   1   4\n   2   3\n",
+            MARK, 15);
+    REFUSED(document, "   0   0   0   4   0   2   3\n" LINE_2 LINE_3, MARK, 15);
+    REFUSED(document, "   0   0   0   4   6   2   3\n" LINE_2 LINE_3 BONDS "   3   5\n", MARK, 15);
+    REFUSED(document, LINE_1 LINE_2 LINE_3 "   0   2\n   1   3\n   1   4\n   2   3\n   3   4\n", MARK, 15);
+    REFUSED(document, LINE_1 LINE_2 LINE_3 "   1   2\n   1   3\n   1   4\n   2   3\n99989999\n", 0, 15);
+    REFUSED(document, "   3   0   0   4   5   2   0\n" LINE_2 LINE_3 BONDS, MARK, 16);
+    REFUSED(document, "   2   0   0   4   5   2   0\n" LINE_2 LINE_3 BONDS, MARK, 16);
+    REFUSED(document, "   2   2   0   4   5   2   0\n" LINE_2 LINE_3 BONDS, MARK, 16);
+    REFUSED(document, "   2 129   0   4   5   2   3\n" LINE_2 LINE_3 BONDS, MARK, 16);
+    REFUSED(document, "   2   3   1   4   5   2   3\n" LINE_2 LINE_3 BONDS, MARK, 16);
+    REFUSED(document, "   2   3   0   4   5   2   3\n" LINE_2 "   1   4\n" BONDS, MARK, 17);
+    REFUSED(document, "   2   3   0   4   5   2   3\n" LINE_2 LINE_3 BONDS, MARK - 1, 13);
+    REFUSED(document, "   3   3   0   4   5   2   3\n" LINE_2 LINE_3 BONDS, MARK, 16);
+    REFUSED(document, "   3   1   1   4   5   2   3\n" LINE_2 LINE_3 BONDS, MARK, 16);
+    REFUSED(document, "   3   1   5   4   5   2   3\n" LINE_2 LINE_3 BONDS, MARK, 16);
+    REFUSED(document, "   4   1   3   4   5   2   3\n" LINE_2 LINE_3 BONDS, MARK, 16);
+    REFUSED(document, "   3   1   3   4   5   2   3\n" LINE_2 LINE_3 BONDS, MARK, 17);
+    REFUSED(document, "   3   2   4   4   5   2   3\n" LINE_2 "   2   1\n" BONDS, MARK - 1, 13);
+    REFUSED(document, "   0   1   0   4   5   2   3\n" LINE_2 LINE_3 BONDS, MARK, 16);
+    REFUSED(document, "   1   1   1   4   5   1   1\n" LINE_2 "   1\n" BONDS, MARK, 16);
+    REFUSED(document, "   1   1   5   4   5   1   1\n" LINE_2 "   1\n" BONDS, MARK, 16);
+    REFUSED(document, "   0   0   0   4   5   2   3\n" LINE_2 "   1   4\n" BONDS, MARK, 17);
+    REFUSED(document, "   0   0   0   4   5   2   3\n" LINE_2 "   2   3\n" BONDS, MARK, 17);
+    REFUSED(document, "   0   0   0   4   5   2   0\n" LINE_2 LINE_3 BONDS, MARK, 17);
+    REFUSED(document, "   0   0   0   4   5   2   5\n" LINE_2 LINE_3 BONDS, MARK, 17);
 
-    /* The room for the next mark, though this one would be of 91 bytes. */
+    /* The room for the next mark, though this one would be of 136 bytes. */
     REFUSED(document, "", 0, 13);
-    REFUSED(document, "", 598, 13);
-    REFUSED(document, LINE_1 LINE_2 LINE_3, 99, 13);
+    REFUSED(document, "", MARK - 1, 13);
+    REFUSED(document, "", 599, 13);
+    REFUSED(document, LINE_1 LINE_2 LINE_3 BONDS, 144, 13);
+    REFUSED(document, LINE_1 LINE_2 LINE_3 BONDS, 599, 13);
 
     /* All of them: the sheet comes first, then the mark, then the room. */
     REFUSED("   4   2\n   1   2\n   2   1\n", "x", 0, 8);
     REFUSED("", "x", 0, 1);
-    REFUSED("   4   2\n   1   2\n   2   1\n", LINE_1 LINE_2 LINE_3, 0, 8);
-    REFUSED("   4   2\n   1   2\n   2   1\n", "", 598, 8);
+    REFUSED("   4   2\n   1   2\n   2   1\n", LINE_1 LINE_2 LINE_3 BONDS, 0, 8);
+    REFUSED("   4   2\n   1   2\n   2   1\n", "", MARK - 1, 8);
     REFUSED(document, "x", 0, 14);
-    REFUSED(document, "   0   0   0   4   5   2   5\n" LINE_2 LINE_3, 598, 17);
+    REFUSED(document, "   0   0   0   4   5   2   5\n" LINE_2 LINE_3 BONDS, MARK - 1, 17);
 }
 
 /* A stretch of length 0 is not touched, whatever its pointer. */
 static void zero_lengths(void) {
     uint8_t *nowhere[2] = {NULL, (uint8_t *)1};
-    uint8_t next[MARK];
+    static uint8_t next[MARK];
     for (int i = 0; i < 2; i++) {
         uint8_t *any = nowhere[i];
         EQUAL(ringlist_resume(any, 0, any, 0, 5, any, 0, any, 0), 1);
         EQUAL(ringlist_resume((const uint8_t *)SHEET, any, 0, 5, any, 0, any, 0), 13);
         EQUAL(ringlist_resume((const uint8_t *)SHEET, any, 0, 5, any, 0, next, MARK), 103);
-        CHECK(memcmp(next, full_mark, 99) == 0);
+        CHECK(memcmp(next, full_mark, 144) == 0);
         EQUAL(ringlist_start(any, 0, 0, 0, 0, any, 0), 1);
         EQUAL(ringlist_start((const uint8_t *)SHEET, 0, 0, 0, any, 0), 13);
         uint64_t number = 7;
@@ -337,35 +375,117 @@ static void zero_lengths(void) {
     CHECK(memcmp(next, "   0   0   0   0   0   0   1\n", 29) == 0);
 }
 
-/* The sheet and the mark may overlap: here the last line of the mark ends with
-   the first line of the sheet. Bonds 1-2, 2-7, 7-6, 6-3, 3-1 make the ring
-   1 2 7 6 3, and 4-5 is the sixth bond; p = 1 2 7 6 and the next atom is 3. */
+/* The sheet and the mark may overlap: here the third line of the mark ends with
+   the first line of the sheet, and the bond lines of the mark are the sheet's.
+   Bonds 1-2, 2-7, 7-6, 6-3, 3-1 make the ring 1 2 7 6 3, and 4-5 is the sixth
+   bond; p = 1 2 7 6 and the next atom is 3. */
 static void overlap(void) {
     static const char both[] =
         "   0   0   0   7   6   4   3\n"
         "                   0                   0                   0\n"
         "   1   2   7   6\n"
-        "   1   2\n   2   7\n   6   7\n   3   6\n   1   3\n   4   5\n";
+        "   1   2\n   1   3\n   2   7\n   3   6\n   4   5\n   6   7\n";
     const uint8_t *bytes = (const uint8_t *)both;
-    uint8_t rings[6], next[MARK];
-    EQUAL(ringlist_resume(bytes + 98, 63, bytes, 107, 1, rings, 6, next, MARK), 103);
+    uint8_t rings[6];
+    static uint8_t next[MARK];
+    EQUAL(ringlist_resume(bytes + 98, 63, bytes, 161, 1, rings, 6, next, MARK), 103);
     CHECK(memcmp(rings, "\5\1\2\7\6\3", 6) == 0);
     EQUAL(ringlist_listed(next, MARK), 1);
     /* One stretch as both: no mark is a sheet. */
-    EQUAL(ringlist_resume(bytes, 107, bytes, 107, 1, rings, 6, next, MARK), 1);
+    EQUAL(ringlist_resume(bytes, 161, bytes, 161, 1, rings, 6, next, MARK), 1);
+    bytes = (const uint8_t *)full_mark;
+    EQUAL(ringlist_resume(bytes, 144, bytes, 144, 1, rings, 6, next, MARK), 2);
     EQUAL(ringlist_resume((const uint8_t *)SHEET, (const uint8_t *)SHEET, 1, rings, 6, next, MARK),
           14);
+}
+
+/* Two molecules of as many atoms and bonds. The ring 1 2 3 4 with the bond 1-3 is
+   the document's; with 2-4 in its place the rings are 1 2 4 and 2 3 4. The place
+   p = 1 2 with next atom 3 is open in both, after the same five trials.
+     6, 7: 1 2 with 3  no, with 4  listed; 2 is dropped     8, 9: 1 with 3, 4  no
+    10: -  2  open    11, 12: 2 with 1, 2  no    13: 2  3  open
+    14 to 16: 2 3 with 1, 2, 3  no    17: 2 3  4  listed; 3 is dropped
+    18: 2  4  no      19, 20: -  3, 4  no, done */
+static void isomers(void) {
+#define OTHER_BONDS "   1   2\n   1   4\n   2   3\n   2   4\n   3   4\n"
+    static const char other[] = "   4   5\n   1   2\n   2   3\n   3   4\n   1   4\n   2   4\n";
+    static const char others[] = LINE_1 LINE_2 LINE_3 OTHER_BONDS;
+    static const char end[] =
+        "   0   0   0   4   5   0   5\n"
+        "                  20                   4                   2\n\n" OTHER_BONDS;
+    /* Refused by 15, with neither output written, whatever the room. */
+    REFUSED(document, others, MARK, 15);
+    REFUSED(document, others, 0, 15);
+    REFUSED(other, full_mark, MARK, 15);
+    REFUSED(other, full_mark, MARK - 1, 15);
+    /* On their own sheets. */
+    wrote(call(other, sizeof other - 1, others, 144, 15, 8, MARK), 101, "\3\1\2\4\3\2\3\4", 8, end,
+          136, __LINE__);
+    wrote(call(other, sizeof other - 1, NULL, 0, 20, 8, MARK), 101, "\3\1\2\4\3\2\3\4", 8, end,
+          136, __LINE__);
+    wrote(call(SHEET, full_mark, 144, 0, 0, MARK), 103, "", 0, full_mark, 144, __LINE__);
+}
+
+/* Bond lines of the first `count` pairs of n atoms, in dictionary order; returns
+   their bytes. */
+static size_t pair_lines(int n, int count, char *lines) {
+    size_t len = 0;
+    for (int a = 1, b = 2; count > 0; count--) {
+        len += (size_t)sprintf(lines + len, "%4d%4d\n", a, b);
+        if (++b > n) {
+            b = ++a + 1;
+        }
+    }
+    return len;
+}
+
+/* Marks that name 0, 1, 1,024 and more bonds and have as many lines: 15 on the
+   document's sheet, and 14 with a line more or fewer. On a sheet of 1,024 bonds
+   the mark of as many is right, and no other. */
+static void many_bonds(void) {
+    static const int numbers[7] = {0, 1, 1023, 1024, 1025, 2000, 9999};
+    static char mark[91 + 9 * 10000 + 1], sheet[9 * 1025 + 1];
+    size_t sheet_len = 9 + pair_lines(128, 1024, sheet + 9);
+    char first[10];
+    sprintf(first, "%4d%4d\n", 128, 1024);
+    memcpy(sheet, first, 9);
+    EQUAL(sheet_len, 9225);
+    for (int i = 0; i < 7; i++) {
+        int m = numbers[i];
+        for (int n = 4; n <= 128; n += 124) {
+            const char *on = n == 4 ? document : sheet;
+            size_t on_len = n == 4 ? sizeof document - 1 : sheet_len;
+            sprintf(mark, "   0   0   0%4d%4d   0   1\n%20d%20d%20d\n\n", n, m, 0, 0, 0);
+            /* 128 atoms have 8,128 pairs; 200 have more than enough. */
+            size_t len = 91 + pair_lines(m <= 1024 ? 128 : 200, m + 1, mark + 91);
+            wrote(call(on, on_len, mark, len, 0, 0, MARK), 14, "", 0, "", 0, __LINE__);
+            len -= 9;
+            EQUAL(ringlist_mark_length((const uint8_t *)mark, sizeof mark), len);
+            if (n == 128 && m == 1024) {
+                EQUAL(len, 9307);
+                wrote(call(on, on_len, mark, len, 0, 0, MARK), 103, "", 0, mark, len, __LINE__);
+                wrote(call(on, on_len, NULL, 0, 0, 0, MARK), 103, "", 0, mark, len, __LINE__);
+                wrote(call(on, on_len, mark, len, 0, 0, MARK - 1), 13, "", 0, "", 0, __LINE__);
+            } else {
+                wrote(call(on, on_len, mark, len, 0, 0, MARK), 15, "", 0, "", 0, __LINE__);
+            }
+            if (m > 0) {
+                wrote(call(on, on_len, mark, len - 9, 0, 0, MARK), 14, "", 0, "", 0, __LINE__);
+                wrote(call(on, on_len, mark, 91, 0, 0, MARK), 14, "", 0, "", 0, __LINE__);
+            }
+        }
+    }
 }
 
 /* A mark of kind 1: the paths from 2 to 4 are 2 1 4 and 2 3 4. */
 static void paths(void) {
     static const char start[] =
         "   1   2   4   4   5   0   1\n"
-        "                   0                   0                   0\n\n";
+        "                   0                   0                   0\n\n" BONDS;
     static const char end[] =
         "   1   2   4   4   5   0   5\n"
-        "                  16                   3                   2\n\n";
-    wrote(call(SHEET, start, 91, 99, 8, MARK), 101, "\3\2\1\4\3\2\3\4", 8, end, 91, __LINE__);
+        "                  16                   3                   2\n\n" BONDS;
+    wrote(call(SHEET, start, 136, 99, 8, MARK), 101, "\3\2\1\4\3\2\3\4", 8, end, 136, __LINE__);
 }
 
 /* A mark of kind 3 on six atoms. The bonds 1-2, 2-3, 3-4 make a path from 1 to 4
@@ -374,21 +494,24 @@ static void paths(void) {
 static const char six_atoms[] =
     "   6   7\n   1   2\n   2   3\n   3   4\n   1   5\n   4   5\n   1   6\n   4   6\n";
 
+/* Its bonds as a mark has them. */
+#define SIX_BONDS "   1   2\n   1   5\n   1   6\n   2   3\n   3   4\n   4   5\n   4   6\n"
+
 static void shortest(void) {
     static const char start[] =
         "   3   1   4   6   7   0   1\n"
-        "                   0                   0                   0\n\n";
+        "                   0                   0                   0\n\n" SIX_BONDS;
     static const char halfway[] =
         "   3   1   4   6   7   2   5\n"
-        "                  10                   2                   1\n   1   5\n";
+        "                  10                   2                   1\n   1   5\n" SIX_BONDS;
     static const char end[] =
         "   3   1   4   6   7   0   7\n"
-        "                  24                   3                   2\n\n";
+        "                  24                   3                   2\n\n" SIX_BONDS;
     const size_t len = sizeof six_atoms - 1;
-    wrote(call(six_atoms, len, start, 91, 99, 8, MARK), 101, "\3\1\5\4\3\1\6\4", 8, end, 91,
+    wrote(call(six_atoms, len, start, 154, 99, 8, MARK), 101, "\3\1\5\4\3\1\6\4", 8, end, 154,
           __LINE__);
-    wrote(call(six_atoms, len, start, 91, 10, 8, MARK), 103, "\3\1\5\4", 4, halfway, 99, __LINE__);
-    wrote(call(six_atoms, len, halfway, 99, 14, 4, MARK), 101, "\3\1\6\4", 4, end, 91, __LINE__);
+    wrote(call(six_atoms, len, start, 154, 10, 8, MARK), 103, "\3\1\5\4", 4, halfway, 162, __LINE__);
+    wrote(call(six_atoms, len, halfway, 162, 14, 4, MARK), 101, "\3\1\6\4", 4, end, 154, __LINE__);
 }
 
 /* A start, its answer and all that it wrote, in a mark output of `next_len`
@@ -408,10 +531,11 @@ static void started(const void *sheet, size_t sheet_len, uint64_t kind, uint64_t
 #define NO_COUNTS "                   0                   0                   0\n\n"
 #define STARTED(kind, s, t, line_1)                                                  \
     do {                                                                             \
-        started(SHEET, kind, s, t, MARK, 0, line_1 "\n" NO_COUNTS, __LINE__);        \
-        started(SHEET, kind, s, t, 700, 0, line_1 "\n" NO_COUNTS, __LINE__);         \
+        started(SHEET, kind, s, t, MARK, 0, line_1 "\n" NO_COUNTS BONDS, __LINE__);  \
+        started(SHEET, kind, s, t, MARK + 9, 0, line_1 "\n" NO_COUNTS BONDS, __LINE__); \
         started(SHEET, kind, s, t, MARK - 1, 13, "", __LINE__);                      \
-        started(SHEET, kind, s, t, 91, 13, "", __LINE__);                            \
+        started(SHEET, kind, s, t, 599, 13, "", __LINE__);                           \
+        started(SHEET, kind, s, t, 136, 13, "", __LINE__);                           \
         started(SHEET, kind, s, t, 0, 13, "", __LINE__);                             \
         started("   4   2\n   1   2\n   2   1\n", 27, kind, s, t, MARK, 8, "", __LINE__); \
     } while (0)
@@ -437,8 +561,8 @@ static void starts(void) {
     STARTED(3, 2, 4, "   3   2   4   4   5   0   1");
     STARTED(3, 4, 1, "   3   4   1   4   5   0   1");
     /* Zeros may fill the sheet, and blanks fill the mark. */
-    started("00040001\n00010002\n", 18, 2, 6, 0, MARK, 0, "   2   6   0   4   1   0   1\n" NO_COUNTS,
-            __LINE__);
+    started("00040001\n00020001\n", 18, 2, 6, 0, MARK, 0,
+            "   2   6   0   4   1   0   1\n" NO_COUNTS "   1   2\n", __LINE__);
     started("   0   0\n", 9, 2, 6, 0, MARK, 0, "   2   6   0   0   0   0   1\n" NO_COUNTS, __LINE__);
     /* Each rule of the sheet. */
     started("   4   1\n", 8, 0, 0, 0, MARK, 1, "", __LINE__);
@@ -498,15 +622,17 @@ static void starts(void) {
    the joined records, which are put into `all`, and checks the last counts. */
 static size_t list_all(const char *sheet, uint64_t kind, uint64_t s, uint64_t t, uint8_t *all,
                        const char *counts) {
-    uint8_t mark[2][MARK + 1], rings[10];
-    size_t mark_len = 91, used = 0;
+    static uint8_t mark[2][MARK + 1];
+    uint8_t rings[10];
+    /* A fresh mark has no atoms in its beginning, and all lines of the sheet but one. */
+    size_t least = 91 + strlen(sheet) - 9, mark_len = least, used = 0;
     uint32_t stop;
     int now = 0;
     memset(mark, PATTERN, sizeof mark);
     EQUAL(ringlist_start((const uint8_t *)sheet, strlen(sheet), kind, s, t, mark[0], MARK), 0);
-    EQUAL(ringlist_mark_length(mark[0], MARK), 91);
+    EQUAL(ringlist_mark_length(mark[0], MARK), least);
     EQUAL(ringlist_listed(mark[0], MARK), 0);
-    CHECK(all_are(mark[0] + 91, MARK + 1 - 91, PATTERN));
+    CHECK(all_are(mark[0] + least, MARK + 1 - least, PATTERN));
     do {
         uint8_t *from = mark[now], *to = mark[!now];
         memset(rings, PATTERN, sizeof rings);
@@ -526,7 +652,7 @@ static size_t list_all(const char *sheet, uint64_t kind, uint64_t s, uint64_t t,
         memcpy(all + used, rings, len);
         used += len;
         mark_len = ringlist_mark_length(to, MARK);
-        CHECK(mark_len >= 91 && all_are(to + mark_len, MARK + 1 - mark_len, PATTERN));
+        CHECK(mark_len >= least && all_are(to + mark_len, MARK + 1 - mark_len, PATTERN));
         now = !now;
     } while (stop > 102);
     EQUAL(stop, 101);
@@ -667,22 +793,22 @@ static void counts_of_shortest(void) {
 static void limit(void) {
     static const char at[] =
         "   0   0   0   4   5   0   1\n"
-        "                   0                   0 9999999999999999999\n\n";
+        "                   0                   0 9999999999999999999\n\n" BONDS;
     static const char done[] =
         "   0   0   0   4   5   0   5\n"
-        "                   0                   0 9999999999999999999\n\n";
+        "                   0                   0 9999999999999999999\n\n" BONDS;
     static const char before[] =
         "   0   0   0   4   5   2   3\n"
-        "                   5                   2 9999999999999999998\n   1   2\n";
+        "                   5                   2 9999999999999999998\n   1   2\n" BONDS;
     static const char after_it[] =
         "   0   0   0   4   5   2   4\n"
-        "                   6                   2 9999999999999999999\n   1   2\n";
+        "                   6                   2 9999999999999999999\n   1   2\n" BONDS;
     static const char above[] =
         "   0   0   0   4   5   0   1\n"
-        "                   0                   010000000000000000000\n\n";
-    wrote(call(SHEET, at, 91, 0, 8, MARK), 102, "", 0, at, 91, __LINE__);
-    wrote(call(SHEET, done, 91, 0, 8, MARK), 101, "", 0, done, 91, __LINE__);
-    wrote(call(SHEET, before, 99, 9, 8, MARK), 102, "\3\1\2\3", 4, after_it, 99, __LINE__);
+        "                   0                   010000000000000000000\n\n" BONDS;
+    wrote(call(SHEET, at, 136, 0, 8, MARK), 102, "", 0, at, 136, __LINE__);
+    wrote(call(SHEET, done, 136, 0, 8, MARK), 101, "", 0, done, 136, __LINE__);
+    wrote(call(SHEET, before, 144, 9, 8, MARK), 102, "\3\1\2\3", 4, after_it, 144, __LINE__);
     REFUSED(document, above, MARK, 14);
     EQUAL(ringlist_listed((const uint8_t *)at, 91), UINT64_C(9999999999999999999));
     EQUAL(ringlist_listed((const uint8_t *)above, 91), 0);
@@ -690,12 +816,13 @@ static void limit(void) {
 
 /* The two readers of a mark. */
 static void mark_readers(void) {
-    uint8_t mark[700];
+    static uint8_t mark[130100];
     memset(mark, PATTERN, sizeof mark);
-    memcpy(mark, full_mark, 99);
-    EQUAL(ringlist_mark_length(mark, 700), 99);
-    EQUAL(ringlist_mark_length(mark, 99), 99);
-    EQUAL(ringlist_mark_length(mark, 98), 0);
+    memcpy(mark, full_mark, 144);
+    EQUAL(ringlist_mark_length(mark, 700), 144);
+    EQUAL(ringlist_mark_length(mark, 144), 144);
+    EQUAL(ringlist_mark_length(mark, 143), 0);
+    EQUAL(ringlist_mark_length(mark, 99), 0);
     EQUAL(ringlist_mark_length(mark, 90), 0);
     EQUAL(ringlist_listed(mark, 700), 0);
     memcpy(mark + 69, "                  42", 20);
@@ -705,13 +832,21 @@ static void mark_readers(void) {
     EQUAL(ringlist_listed(mark, 700), 0);
     memcpy(mark + 69, "00000000000000000042", 20);
     EQUAL(ringlist_listed(mark, 700), 0);
-    EQUAL(ringlist_mark_length(mark, 700), 99);
+    EQUAL(ringlist_mark_length(mark, 700), 144);
     memcpy(mark + 69, "09999999999999999999", 20);
     EQUAL(ringlist_listed(mark, 700), 0);
     memcpy(mark + 69, " 9999999999999999999", 20);
     EQUAL(ringlist_listed(mark, 700), UINT64_C(9999999999999999999));
-    memcpy(mark + 20, " 127", 4);
-    EQUAL(ringlist_mark_length(mark, 700), 599);
+    /* Bonds and length: 91 + 4 * length + 9 * bonds. */
+    memcpy(mark + 16, "1024 127", 8);
+    EQUAL(ringlist_mark_length(mark, 20000), 9815);
+    EQUAL(ringlist_mark_length(mark, 9815), 9815);
+    EQUAL(ringlist_mark_length(mark, 9814), 0);
+    memcpy(mark + 16, "99999999", 8);
+    EQUAL(ringlist_mark_length(mark, 130100), 130078);
+    EQUAL(ringlist_mark_length(mark, 130078), 130078);
+    EQUAL(ringlist_mark_length(mark, 130077), 0);
+    memcpy(mark + 16, "   0 127", 8);
     EQUAL(ringlist_mark_length(mark, 599), 599);
     EQUAL(ringlist_mark_length(mark, 598), 0);
     memcpy(mark + 20, "   x", 4);
@@ -725,18 +860,35 @@ static void mark_readers(void) {
     EQUAL(ringlist_listed(mark, 700), UINT64_C(9999999999999999999));
     memcpy(mark + 20, " 002", 4);
     EQUAL(ringlist_mark_length(mark, 700), 0);
+    /* The field of the bonds in the same way. */
+    memcpy(mark + 20, "   2", 4);
+    EQUAL(ringlist_mark_length(mark, 99), 99);
+    memcpy(mark + 16, "   5", 4);
+    EQUAL(ringlist_mark_length(mark, 144), 144);
+    memcpy(mark + 16, "0005", 4);
+    EQUAL(ringlist_mark_length(mark, 700), 0);
+    memcpy(mark + 16, "0000", 4);
+    EQUAL(ringlist_mark_length(mark, 700), 0);
+    memcpy(mark + 16, " 005", 4);
+    EQUAL(ringlist_mark_length(mark, 700), 0);
+    memcpy(mark + 16, "    ", 4);
+    EQUAL(ringlist_mark_length(mark, 700), 0);
+    memcpy(mark + 16, "5   ", 4);
+    EQUAL(ringlist_mark_length(mark, 700), 0);
+    EQUAL(ringlist_listed(mark, 700), UINT64_C(9999999999999999999));
 }
 
 static void *call_in_thread(void *calls) {
-    uint8_t rings[8], next[MARK], fresh[MARK];
+    /* Not on the stack that is measured. */
+    static uint8_t rings[8], next[MARK], fresh[MARK];
     uint64_t number = 0;
     return calls != NULL &&
-                   ringlist_resume((const uint8_t *)SHEET, (const uint8_t *)full_mark, 99, 11,
+                   ringlist_resume((const uint8_t *)SHEET, (const uint8_t *)full_mark, 144, 11,
                                    rings, 8, next, MARK) == 101 &&
                    ringlist_start((const uint8_t *)SHEET, 2, 12, 0, fresh, MARK) == 0 &&
-                   ringlist_resume((const uint8_t *)SHEET, fresh, 91, 16, rings, 8, next, MARK) == 101 &&
+                   ringlist_resume((const uint8_t *)SHEET, fresh, 136, 16, rings, 8, next, MARK) == 101 &&
                    ringlist_start((const uint8_t *)SHEET, 3, 2, 4, fresh, MARK) == 0 &&
-                   ringlist_resume((const uint8_t *)SHEET, fresh, 91, 16, rings, 8, next, MARK) == 101 &&
+                   ringlist_resume((const uint8_t *)SHEET, fresh, 136, 16, rings, 8, next, MARK) == 101 &&
                    ringlist_count_shortest((const uint8_t *)SHEET, 2, 4, &number) == 0 && number == 2
                ? calls
                : NULL;
@@ -787,6 +939,8 @@ int main(int words, char **word) {
     refusals();
     zero_lengths();
     overlap();
+    isomers();
+    many_bonds();
     paths();
     shortest();
     starts();

@@ -912,6 +912,38 @@ pub fn renamed(rng: &mut Rng, molecule: &Molecule) -> Molecule {
     }
 }
 
+/// A molecule with as many atoms and bonds, and other bonds: one to three of its
+/// bonds join two atoms that were not bonded. None where no two atoms are bonded,
+/// or all are.
+pub fn isomer(rng: &mut Rng, molecule: &Molecule) -> Option<Molecule> {
+    let record = molecule.record();
+    let mut free = pairs(molecule.atoms);
+    free.retain(|&(a, b)| !record.bonded(a, b));
+    let mut isomer = molecule.clone();
+    let most = free.len().min(isomer.bonds.len()).min(3);
+    if most == 0 {
+        return None;
+    }
+    rng.shuffle(&mut free);
+    rng.shuffle(&mut isomer.bonds);
+    let moved = 1 + rng.index(most);
+    isomer.bonds[..moved].copy_from_slice(&free[..moved]);
+    Some(isomer)
+}
+
+/// 128 atoms and 1,024 bonds: 1 to 120, each bonded to the next, the last also to
+/// the first where it `closes`, and the others bonded to many of all. The ring, or
+/// the path from 1 to 120, has no chord, and no molecule of so many bonds has a
+/// longer one.
+pub fn longest_with_most_bonds(closes: bool) -> Molecule {
+    let mut molecule = if closes { ring(120) } else { chain(120) };
+    molecule.atoms = MAX_ATOMS;
+    let others = (121..=MAX_ATOMS).flat_map(|b| (1..b).map(move |a| (a, b)));
+    let more = MAX_BONDS as usize - molecule.bonds.len();
+    molecule.bonds.extend(others.take(more));
+    molecule
+}
+
 /// A list of different atoms, consecutive ones bonded, chords allowed.
 pub fn walk(rng: &mut Rng, record: &Record, longest: usize) -> Vec<u8> {
     let n = record.atoms;

@@ -295,7 +295,7 @@ pub fn list(sheet: &[u8], mark: &[u8], mut next: impl FnMut() -> (u64, usize)) -
         let (budget, room) = next();
         let fill = (whole.calls % 251) as u8;
         let mut rings = vec![fill; room];
-        let mut saved = [!fill; 640];
+        let mut saved = [!fill; LONGEST_MARK + 41];
         whole.stop = resume(sheet, &whole.mark, budget, &mut rings, &mut saved);
         assert!(whole.stop > 100, "refused {}", whole.stop);
         let mut used = 0;

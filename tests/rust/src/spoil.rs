@@ -4,6 +4,8 @@
 use crate::generate::{self, alias, wild, NEAR_BYTES};
 use crate::model::field::{self, LIMIT};
 use crate::model::machine::{Search, PLACES};
+use crate::model::mark::{self, Bond};
+use crate::model::sheet::LINE;
 use crate::model::Record;
 use crate::rng::Rng;
 
@@ -131,10 +133,42 @@ pub fn zero_fill(mark: &mut [u8], at: usize, columns: usize) {
     }
 }
 
+/// Where the bond lines of a mark begin: past its third line feed. Of bytes that
+/// have fewer, or in which they come too early, the end.
+pub fn bonds_from(mark: &[u8]) -> usize {
+    let feeds = mark.iter().enumerate().filter(|(_, &byte)| byte == b'\n');
+    match feeds.map(|(at, _)| at).nth(2) {
+        Some(at) if at >= THIRD => at + 1,
+        _ => mark.len(),
+    }
+}
+
+/// The places of the bond lines of a mark that follows the layout.
+pub fn bond_places(mark: &[u8]) -> Vec<usize> {
+    (bonds_from(mark)..mark.len()).step_by(LINE).collect()
+}
+
 /// The places and columns of all fields of a mark that follows the layout.
 pub fn places(mark: &[u8]) -> Vec<(usize, usize)> {
-    let third = (THIRD..mark.len() - 1).step_by(4).map(|at| (at, 4));
-    (0..10).map(place).chain(third).collect()
+    let third = (THIRD..bonds_from(mark) - 1).step_by(4);
+    let bonds = bond_places(mark).into_iter().flat_map(|at| [at, at + 4]);
+    let narrow = third.chain(bonds).filter(|at| at + 4 < mark.len());
+    (0..10).map(place).chain(narrow.map(|at| (at, 4))).collect()
+}
+
+/// The lines of bonds, in place of those of a mark; the mark names their number,
+/// if it fits its field.
+pub fn with_bonds(mark: &[u8], bonds: &[Bond]) -> Vec<u8> {
+    let mut changed = with_lines(mark, bonds);
+    put(&mut changed, 16, 4, &bonds.len().to_string());
+    changed
+}
+
+/// The same with the number that the mark has named before.
+pub fn with_lines(mark: &[u8], bonds: &[Bond]) -> Vec<u8> {
+    let mut changed = mark[..bonds_from(mark)].to_vec();
+    changed.extend(bonds.iter().copied().flat_map(mark::write_bond));
+    changed
 }
 
 /// The place of one of the seven fields of line 1, or of one of the three
@@ -149,38 +183,35 @@ pub fn place(which: usize) -> (usize, usize) {
 /// The mark, of any beginning, with another length field and as many fields of
 /// `atom` more or fewer.
 pub fn lengthened(mark: &[u8], length: usize, atom: u64) -> Vec<u8> {
-    let mut changed = mark.to_vec();
-    let line_end = changed.pop().expect("a line feed");
-    changed.resize(THIRD, b' ');
-    for at in 0..length {
-        let old = mark.get(THIRD + 4 * at..THIRD + 4 * at + 4);
-        let new = field::write(4, atom);
-        changed.extend_from_slice(match old {
-            Some(old) if THIRD + 4 * at + 4 < mark.len() => old,
-            _ => &new,
-        });
-    }
-    changed.push(line_end);
+    let from = bonds_from(mark);
+    let (third, rest) = (&mark[THIRD..from - 1], &mark[from - 1..]);
+    let mut changed = mark[..THIRD].to_vec();
+    let old = third.chunks_exact(4).map(<[u8]>::to_vec);
+    let new = std::iter::repeat(field::write(4, atom));
+    changed.extend(old.chain(new).take(length).flatten());
+    changed.extend_from_slice(rest);
     put(&mut changed, 20, 4, &length.to_string());
     changed
 }
 
 /// A field of the mark at random: its place and columns.
 fn any_field(rng: &mut Rng, mark: &[u8]) -> (usize, usize) {
-    let atoms = (mark.len() - THIRD) / 4;
-    if atoms > 0 && rng.one_in(2) {
-        (THIRD + 4 * rng.index(atoms), 4)
-    } else {
-        place(rng.index(10))
+    let (third, places) = ((bonds_from(mark) - THIRD) / 4, places(mark));
+    let end = (10 + third).min(places.len());
+    let (atoms, bonds) = (&places[10..end], &places[end..]);
+    match rng.below(4) {
+        0 if !atoms.is_empty() => rng.pick(atoms),
+        1 if !bonds.is_empty() => rng.pick(bonds),
+        _ => place(rng.index(10)),
     }
 }
 
-/// The kinds of marks that [`mark`] makes.
-pub const MARK_KINDS: u64 = 20;
+/// The kinds of marks that [`mark`] makes, the last of which change bond lines.
+pub const MARK_KINDS: u64 = 20 + BOND_KINDS;
 
 /// A mark, right before, changed in the given way.
 pub fn mark(rng: &mut Rng, n: u64, kind: u64, mark: &mut Vec<u8>) {
-    let length = (mark.len() - THIRD) / 4;
+    let length = (bonds_from(mark) - THIRD) / 4;
     let at = rng.index(mark.len());
     let (field_at, columns) = any_field(rng, mark);
     match kind {
@@ -292,12 +323,106 @@ pub fn mark(rng: &mut Rng, n: u64, kind: u64, mark: &mut Vec<u8>) {
             put(mark, 4 * rng.between(3, 4) as usize, 4, &value.to_string());
         }
         // Several rules broken at once, each in one case of two.
-        _ => {
-            for kind in [6, 16, 17, 18] {
+        19 => {
+            for kind in [6, 16, 17, 18, 20 + rng.below(BOND_KINDS)] {
                 if rng.one_in(2) {
                     self::mark(rng, n, kind, mark);
                 }
             }
         }
+        _ => bond_lines(rng, n, kind - 20, mark),
     }
+}
+
+/// The kinds of changes that [`bond_lines`] makes.
+const BOND_KINDS: u64 = 10;
+
+/// An atom of a bond: one of the molecule's, or near to one.
+fn bond_atom(rng: &mut Rng, n: u64) -> u64 {
+    match rng.below(3) {
+        0 => rng.pick(&[0, n + 1, 128, 129, 256 + n, 1024, 9999]),
+        _ => rng.between(0, n + 1),
+    }
+}
+
+/// The bond lines of a mark changed in the given way; where it has none, one is
+/// added.
+fn bond_lines(rng: &mut Rng, n: u64, kind: u64, mark: &mut Vec<u8>) {
+    let value = |at: usize| field::read_without_zeros(&mark[at..at + 4]).unwrap_or(0);
+    let mut places = bond_places(mark);
+    places.retain(|at| at + LINE <= mark.len());
+    let mut bonds: Vec<Bond> = places
+        .iter()
+        .map(|&at| (value(at), value(at + 4)))
+        .collect();
+    let named = value(16);
+    let any = (bond_atom(rng, n), bond_atom(rng, n));
+    if bonds.is_empty() {
+        *mark = with_bonds(mark, &[any]);
+        return;
+    }
+    let (at, other) = (rng.index(bonds.len()), rng.index(bonds.len()));
+    match kind {
+        // Two in each other's place, far apart or near; all in another order.
+        0 => bonds.swap(at, other),
+        1 => {
+            let next = (at + 1) % bonds.len();
+            bonds.swap(at, next);
+        }
+        2 => rng.shuffle(&mut bonds),
+        // One twice, in place of another or besides, near or far.
+        3 => bonds[other] = bonds[at],
+        4 => bonds.insert(rng.pick(&[at, at + 1, other]), bonds[at]),
+        // The higher atom first; two equal atoms.
+        5 => bonds[at] = (bonds[at].1, bonds[at].0),
+        6 => bonds[at].1 = bonds[at].0,
+        // One atom of a bond, or both; in the order of a right mark or not.
+        7 => {
+            match rng.below(3) {
+                0 => bonds[at].0 = any.0,
+                1 => bonds[at].1 = any.1,
+                _ => bonds[at] = any,
+            }
+            if rng.one_in(2) {
+                in_order(&mut bonds);
+            }
+        }
+        // One more or one fewer, or none; in order.
+        8 => {
+            match rng.below(3) {
+                0 => bonds.push(any),
+                1 => drop(bonds.remove(at)),
+                _ => bonds.clear(),
+            }
+            in_order(&mut bonds);
+        }
+        // The number that the mark names alone.
+        _ => {
+            let near = [
+                named + 1,
+                named.max(1) - 1,
+                named + 256,
+                0,
+                1024,
+                1025,
+                9999,
+            ];
+            put(mark, 16, 4, &rng.pick(&near).to_string());
+            return;
+        }
+    }
+    // Mostly the mark names as many as there are.
+    *mark = match rng.below(4) {
+        0 => with_lines(mark, &bonds),
+        _ => with_bonds(mark, &bonds),
+    };
+}
+
+/// Bonds as a mark has them: lower atom first, in dictionary order, none twice.
+fn in_order(bonds: &mut Vec<Bond>) {
+    for bond in bonds.iter_mut() {
+        *bond = (bond.0.min(bond.1), bond.0.max(bond.1));
+    }
+    bonds.sort_unstable();
+    bonds.dedup();
 }

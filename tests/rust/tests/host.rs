@@ -10,7 +10,7 @@ use flat_tests::model::machine::Search;
 use flat_tests::model::mark::{self, LONGEST_MARK};
 use flat_tests::model::{self, lister, Record};
 use flat_tests::rng::Rng;
-use flat_tests::{sample, sampled, spoil, sum_of_parts};
+use flat_tests::{examples, sample, sampled, spoil, sum_of_parts};
 
 /// Up to this many atoms the model answers from the brute-force list.
 const BRUTE: u64 = 12;
@@ -18,11 +18,13 @@ const BRUTE: u64 = 12;
 /// Calls on one molecule.
 const CALLS: u64 = 12;
 
-/// A molecule with its sheet, and open beginnings to make marks of.
+/// A molecule with its sheet, open beginnings to make marks of, and a molecule
+/// with as many atoms and bonds.
 struct Subject<'a> {
     lists: &'a dyn Lists,
     sheet: Vec<u8>,
     places: Vec<(Task, Vec<u8>)>,
+    isomer: Option<Record>,
 }
 
 impl Subject<'_> {
@@ -32,6 +34,16 @@ impl Subject<'_> {
 
     /// The mark of any open beginning and next atom, with any counts.
     fn mark(&self, rng: &mut Rng) -> Vec<u8> {
+        mark::write(self.lists.record(), &self.place(rng))
+    }
+
+    /// The same place on a molecule with as many atoms and bonds.
+    fn mark_of_isomer(&self, rng: &mut Rng) -> Vec<u8> {
+        let record = self.isomer.as_ref().unwrap_or_else(|| self.lists.record());
+        mark::write(record, &self.place(rng))
+    }
+
+    fn place(&self, rng: &mut Rng) -> Search {
         let n = self.atoms();
         let (task, p) = &self.places[rng.index(self.places.len())];
         let c = match p.len() {
@@ -49,7 +61,7 @@ impl Subject<'_> {
         search.trials = any_count();
         search.extensions = any_count();
         search.listed = any_count();
-        mark::write(self.lists.record(), &search)
+        search
     }
 }
 
@@ -108,7 +120,7 @@ fn any_mark_room(rng: &mut Rng) -> usize {
         1..=2 => LONGEST_MARK - 1,
         3..=4 => LONGEST_MARK + 1,
         5 => rng.index(LONGEST_MARK),
-        6 => rng.pick(&[1, 90, 91, 92, 99, 599 - 508, 598, 600, 4_096]),
+        6 => rng.pick(&[1, 90, 91, 99, 144, 599, 4_096, 9_307, 9_783, 65_536]),
         _ => LONGEST_MARK,
     }
 }
@@ -125,7 +137,7 @@ fn no_mark(rng: &mut Rng, subject: &Subject) -> Vec<u8> {
             (0..len).map(|_| rng.pick(b"    01234\n")).collect()
         }
         2 => subject.sheet.clone(),
-        _ => vec![rng.pick(b" 0\n\0"); rng.pick(&[1, 28, 29, 90, 91, 92, 95, 599, 603])],
+        _ => vec![rng.pick(b" 0\n\0"); rng.pick(&[1, 28, 29, 90, 91, 92, 95, 100, 599, 9_815])],
     };
     if rng.one_in(3) {
         bytes.truncate(rng.index(bytes.len() + 1));
@@ -204,6 +216,7 @@ fn random_starts_of(name: &'static str, seed: u64) -> u64 {
             },
             sheet: generate::mixed(&mut rng, &molecule.sheet()),
             places: Vec::new(),
+            isomer: None,
         };
         for _ in 0..6 {
             start_on(&mut entry, &subject, &mut rng);
@@ -219,16 +232,18 @@ fn random_starts_of(name: &'static str, seed: u64) -> u64 {
 
 /// Calls on one molecule, each with the parts of the call drawn anew: the sheet
 /// as it is or changed, no mark, the mark of the last accepted call, of another
-/// place, of another molecule, damaged, or none at all.
+/// place, of another molecule, of one with as many atoms and bonds, damaged, or
+/// none at all.
 fn calls_on(entry: &mut Entry, subject: &Subject, other: &[u8], rng: &mut Rng) {
     let n = subject.atoms();
     let mut last = Vec::new();
     for _ in 0..CALLS {
-        let mut mark = match rng.below(16) {
+        let mut mark = match rng.below(17) {
             0..=1 => Vec::new(),
             2..=6 => last.clone(),
             7..=13 => subject.mark(rng),
             14 => other.to_vec(),
+            15 => subject.mark_of_isomer(rng),
             _ => no_mark(rng, subject),
         };
         if mark.len() >= 91 && rng.one_in(3) && mark.last() == Some(&b'\n') {
@@ -307,6 +322,7 @@ fn random_calls_of(name: &'static str, seed: u64) -> u64 {
                 _ => molecule.sheet(),
             },
             places: places(&mut rng, &listed),
+            isomer: generate::isomer(&mut rng, &molecule).map(|isomer| isomer.record()),
         };
         calls_on(&mut entry, &subject, &other, &mut rng);
         other = subject.mark(&mut rng);
@@ -347,10 +363,17 @@ fn order_of_rules() {
         (8, line("   4   3\n   1   2\n   3   4\n   2   1\n")),
         (8, line("00040003\n   10002\n00030004\n0002   1\n")),
     ];
-    let mark = |line1: &str, line3: &str| {
+    let lines = |line1: &str, line3: &str, bonds: &str| {
         let counts = "                   5                   2                   0";
-        line(&format!("{line1}\n{counts}\n{line3}\n"))
+        line(&format!("{line1}\n{counts}\n{line3}\n{bonds}"))
     };
+    let own = "   1   2\n   1   3\n   1   4\n   2   3\n   3   4\n";
+    let mark = |line1: &str, line3: &str| lines(line1, line3, own);
+    // Of the place after five trials, with other bond lines.
+    let bonds = |bonds: &str| lines("   0   0   0   4   5   2   3", "   1   2", bonds);
+    let last = |last: &str| bonds(&format!("{}{last}", &own[..36]));
+    // The same with the third bond out of order, and other first lines.
+    let unordered = own.replace("   1   4\n", "   4   1\n");
     let marks = [
         (None, Vec::new()),
         (None, mark("   0   0   0   4   5   2   3", "   1   2")),
@@ -366,8 +389,44 @@ fn order_of_rules() {
         (Some(14), mark("0000   0   0   4   5   2   3", "   1   2")),
         (Some(14), mark("   2   0   0   5   50002   0", "   9   9")),
         (Some(14), mark("   0   0   0   4   5   2   3", "   10002")),
+        (Some(14), mark("   0   0   0   4   4   2   3", "   1   2")),
+        (Some(14), mark("   0   0   0   4   6   2   3", "   1   2")),
+        (Some(14), mark("   0   0   0   41025   2   3", "   1   2")),
+        (Some(14), mark("   0   0   0   40005   2   3", "   1   2")),
+        (Some(14), bonds("")),
+        (Some(14), bonds(&own[9..])),
+        (Some(14), bonds(&unordered)),
+        (Some(14), bonds(&format!("{own}   3   5\n"))),
+        (Some(14), bonds(&format!("{own}\n"))),
+        (Some(14), last("   3   3\n")),
+        (Some(14), last("   2   3\n")),
+        (Some(14), last("   1   3\n")),
+        (Some(14), last("00030004\n")),
+        (Some(14), last("   3   4\r")),
+        (Some(14), last("9999   4\n")),
+        (Some(14), last("   0   4\n")),
+        (
+            Some(14),
+            lines("   4   0   0   9   5   2   0", "   9   9", &unordered),
+        ),
         (Some(15), mark("   2   0   0   5   5   2   0", "   9   9")),
-        (Some(15), mark("   0   0   0   4   4   2   3", "   1   2")),
+        (
+            Some(15),
+            lines("   4   0   0   4   4   2   0", "   9   9", &own[9..]),
+        ),
+        (
+            Some(15),
+            lines("   0   0   0   4   4   2   3", "   1   2", &own[..36]),
+        ),
+        (
+            Some(15),
+            lines("   0   0   0   4   0   2   3", "   1   2", ""),
+        ),
+        (Some(15), last("   2   4\n")),
+        (Some(15), last("   3   5\n")),
+        (Some(15), last("   39999\n")),
+        (Some(15), last("99989999\n")),
+        (Some(15), bonds(&own.replace("   1   2\n", "   0   2\n"))),
         (Some(16), mark("   2   0   0   4   5   2   0", "   9   9")),
         (Some(16), mark("   2   2   0   4   5   2   0", "   9   9")),
         (Some(16), mark("   2 129   0   4   5   2   3", "   1   2")),
@@ -395,7 +454,7 @@ fn order_of_rules() {
         (None, mark("   0   0   0   4   5   0   5", "")),
     ];
     for (of_mark, mark) in &marks {
-        for mark_room in [0, 91, 598, 599] {
+        for mark_room in [0, 91, 599, 9_814, 9_815] {
             for (of_sheet, sheet) in &sheets {
                 let call = (sheet.as_slice(), Err(*of_sheet));
                 assert_eq!(model::sheet::read(sheet), Err(*of_sheet));
@@ -404,7 +463,7 @@ fn order_of_rules() {
             }
             let call = (right.as_slice(), Ok(&lists as &dyn Lists));
             let answer = entry.resume(call, mark, 9, (20, mark_room)).err();
-            let of_room = (mark_room < 599).then_some(13);
+            let of_room = (mark_room < 9_815).then_some(13);
             assert_eq!(answer, of_mark.or(of_room), "{}", mark.escape_ascii());
         }
     }
@@ -463,14 +522,14 @@ fn order_of_rules_of_a_start() {
         (Some(21), [2, u64::MAX, 0]),
     ];
     for (of_kind, numbers) in starts {
-        for room in [0, 91, 598, 599, 600, 4_096] {
+        for room in [0, 91, 136, 599, 9_814, 9_815, 9_816, 65_536] {
             for (rule, sheet) in [(1, &b"   4   5"[..]), (8, &twice[..])] {
                 let answer = entry.start((sheet, Err(rule)), numbers, room);
                 assert_eq!(answer.err(), Some(rule));
             }
             let call = (right.as_slice(), Ok(&lists as &dyn Lists));
             let answer = entry.start(call, numbers, room).err();
-            let of_room = (room < 599).then_some(13);
+            let of_room = (room < 9_815).then_some(13);
             assert_eq!(answer, of_kind.or(of_room), "{numbers:?}, {room} bytes");
         }
     }
@@ -478,9 +537,9 @@ fn order_of_rules_of_a_start() {
     let (record, sheet) = (Record::new(0), b"   0   0\n");
     let lists = Listed::new(&record);
     let call = (&sheet[..], Ok(&lists as &dyn Lists));
-    assert!(entry.start(call, [2, 12, 0], 599).is_ok());
-    assert_eq!(entry.start(call, [1, 0, 0], 599), Err(10));
-    assert_eq!(entry.start(call, [3, 0, 0], 599), Err(10));
+    assert!(entry.start(call, [2, 12, 0], LONGEST_MARK).is_ok());
+    assert_eq!(entry.start(call, [1, 0, 0], LONGEST_MARK), Err(10));
+    assert_eq!(entry.start(call, [3, 0, 0], LONGEST_MARK), Err(10));
 }
 
 /// Every single byte of a mark changed to every other byte, and every length.
@@ -504,13 +563,155 @@ fn every_byte_of_a_mark() {
             for byte in (at % step..256).step_by(step) {
                 let mut changed = mark.clone();
                 changed[at] = byte as u8;
-                let _ = entry.resume(call, &changed, 4, (9, 599));
+                let _ = entry.resume(call, &changed, 4, (9, LONGEST_MARK));
             }
-            let _ = entry.resume(call, &mark[..at], 4, (9, 599));
-            let _ = entry.resume(call, &mark[at..], 4, (9, 599));
+            let _ = entry.resume(call, &mark[..at], 4, (9, LONGEST_MARK));
+            let _ = entry.resume(call, &mark[at..], 4, (9, LONGEST_MARK));
         }
     }
     entry.print();
+}
+
+/// Calls on two molecules with as many atoms and bonds: each accepted call writes a
+/// mark, and that is refused on the other's sheet by rule 15, with either room for
+/// the next mark, and goes on on its own.
+#[test]
+fn isomers() {
+    let mut entry = Entry::new(87);
+    let mut pairs = 0;
+    for case in 0..sampled(3_000) {
+        let _case = Case("isomers", case);
+        let mut rng = Rng::of_case(0x49_534F_4D31, case);
+        let molecule = generate::any_searched(&mut rng);
+        let other = match rng.below(3) {
+            0 => Some(generate::renamed(&mut rng, &molecule)),
+            _ => generate::isomer(&mut rng, &molecule),
+        };
+        let molecules = match other {
+            Some(other) if other.record() != molecule.record() => [molecule, other],
+            _ => continue,
+        };
+        pairs += 1;
+        isomers_of(&mut entry, &mut rng, &molecules);
+    }
+    // Cubane and cuneane, which has two bonds of it elsewhere.
+    let cubane = generate::molecule_of(&examples::record("cubane"));
+    let mut cuneane = cubane.clone();
+    for (old, new) in [((1, 5), (1, 3)), ((2, 3), (2, 5))] {
+        let at = cuneane.bonds.iter().position(|&bond| bond == old);
+        cuneane.bonds[at.expect("a bond of cubane")] = new;
+    }
+    isomers_of(&mut entry, &mut Rng::new(88), &[cubane, cuneane]);
+    entry.print();
+    println!("{pairs} pairs");
+    assert!(pairs >= sampled(2_000));
+    entry.at_least(10_000, &[15]);
+    entry.at_least(1_000, &[101, 103, 104]);
+}
+
+/// A few calls on each of two molecules, and their marks on the other.
+fn isomers_of(entry: &mut Entry, rng: &mut Rng, molecules: &[Molecule; 2]) {
+    let records = [molecules[0].record(), molecules[1].record()];
+    let sheets = [
+        molecules[0].sheet(),
+        generate::mixed(rng, &molecules[1].sheet()),
+    ];
+    let lists = [Reached::new(&records[0]), Reached::new(&records[1])];
+    let call = |which: usize| (sheets[which].as_slice(), Ok(&lists[which] as &dyn Lists));
+    let n = molecules[0].atoms;
+    for (own, other) in [(0, 1), (1, 0)] {
+        let numbers = generate::any_task(rng, n).numbers();
+        let mut mark = entry
+            .start(call(own), numbers, LONGEST_MARK)
+            .expect("a task");
+        for _ in 0..3 {
+            let (budget, room) = (any_budget(rng, n), any_room(rng, n));
+            for rooms in [(room, LONGEST_MARK), (room, rng.index(LONGEST_MARK))] {
+                let refused = entry.resume(call(other), &mark, budget, rooms);
+                assert_eq!(refused, Err(15));
+            }
+            let resumed = entry.resume(call(own), &mark, budget, (room, LONGEST_MARK));
+            mark = resumed.expect("accepted").mark;
+        }
+    }
+}
+
+/// Marks without bond lines, as they were before request F-5: rule 14, and from a
+/// molecule without bonds the same as ever.
+#[test]
+fn marks_without_lines() {
+    let mut entry = Entry::new(89);
+    for case in 0..sampled(2_000) {
+        let _case = Case("marks_without_lines", case);
+        let mut rng = Rng::of_case(0x46_4F52_4D31, case);
+        let molecule = match rng.below(8) {
+            0 => Molecule::new(rng.between(0, 128), &[]),
+            _ => generate::any_searched(&mut rng),
+        };
+        let (record, sheet) = (molecule.record(), molecule.sheet());
+        let lists = Reached::new(&record);
+        let call = (sheet.as_slice(), Ok(&lists as &dyn Lists));
+        let numbers = generate::any_task(&mut rng, record.atoms).numbers();
+        let fresh = entry.start(call, numbers, LONGEST_MARK).expect("a task");
+        let budget = any_budget(&mut rng, record.atoms).min(2_000);
+        let resumed = entry.resume(call, &fresh, budget, (300, LONGEST_MARK));
+        let resumed = resumed.expect("accepted");
+        let search = &resumed.search;
+        let former = mark::write_lines(record.atoms, record.bonds, search);
+        assert_eq!(resumed.mark[..former.len()], former);
+        let none = molecule.bonds.is_empty();
+        assert_eq!(former == resumed.mark, none);
+        let right = if none {
+            search.length as usize * 4 + 91
+        } else {
+            0
+        };
+        assert_eq!(host::mark_length(&former), right);
+        assert_eq!(host::listed(&former), search.listed);
+        for mark_room in [0, 599, LONGEST_MARK] {
+            let answer = entry.resume(call, &former, budget, (300, mark_room));
+            let of_room = (mark_room < LONGEST_MARK).then_some(13);
+            assert_eq!(answer.err(), if none { of_room } else { Some(14) });
+        }
+    }
+    entry.print();
+    entry.at_least(1_000, &[14]);
+    entry.at_least(100, &[13]);
+}
+
+/// Marks of 0, 1, 1,024 and more bonds, with as many lines, one more and one
+/// fewer, on sheets of 0, 1 and 1,024 bonds: rule 14 for the number of lines, 15
+/// for another molecule's.
+#[test]
+fn numbers_of_lines() {
+    let mut entry = Entry::new(90);
+    let pairs = |m: usize| -> Vec<mark::Bond> {
+        let n = if m <= 1_024 { 128 } else { 151 };
+        let pairs = (1..n).flat_map(|a| (a + 1..=n).map(move |b| (a, b)));
+        pairs.take(m).collect()
+    };
+    let fresh = mark::write(&Record::new(128), &Search::fresh(Task::Rings));
+    for own in [0, 1, 1_024] {
+        let molecule = Molecule::new(128, &pairs(own));
+        let (record, sheet) = (molecule.record(), molecule.sheet());
+        let lists = Reached::new(&record);
+        let call = (sheet.as_slice(), Ok(&lists as &dyn Lists));
+        for m in [0, 1, 2, 1_023, 1_024, 1_025, 2_000, 9_999] {
+            let mark = spoil::with_bonds(&fresh, &pairs(m));
+            for mark_room in [LONGEST_MARK - 1, LONGEST_MARK] {
+                let rooms = (20, mark_room);
+                let of_room = (mark_room < LONGEST_MARK).then_some(13);
+                let answer = entry.resume(call, &mark, 2, rooms).err();
+                assert_eq!(answer, if m == own { of_room } else { Some(15) });
+                let more = spoil::with_lines(&mark, &pairs(m + 1));
+                assert_eq!(entry.resume(call, &more, 2, rooms), Err(14));
+                if m > 0 {
+                    let fewer = spoil::with_lines(&mark, &pairs(m - 1));
+                    assert_eq!(entry.resume(call, &fewer, 2, rooms), Err(14));
+                }
+            }
+        }
+    }
 }
 
 /// Every budget and every room of fresh searches, with every short mark output
@@ -541,21 +742,25 @@ fn every_budget_and_room() {
             // No mark, or the mark of a start.
             let start = match task {
                 None => Vec::new(),
-                Some(task) => entry.start(call, task.numbers(), 599).expect("allowed"),
+                Some(task) => entry
+                    .start(call, task.numbers(), LONGEST_MARK)
+                    .expect("allowed"),
             };
             let list = lister::list(&record, task.unwrap_or(Task::Rings)).sheet;
             for budget in (0..=record.atoms * 7 + 1).step_by(steps) {
                 for room in (0..=list.len() + 1).step_by(steps) {
-                    let first = entry.resume(call, &start, budget, (room, 599));
+                    let first = entry.resume(call, &start, budget, (room, LONGEST_MARK));
                     let first = first.expect("accepted");
-                    let rest = entry.resume(call, &first.mark, u64::MAX, (list.len(), 599));
+                    let rest =
+                        entry.resume(call, &first.mark, u64::MAX, (list.len(), LONGEST_MARK));
                     let rest = rest.expect("accepted");
                     assert_eq!(rest.stop as u32, 101);
                     assert_eq!([first.records, rest.records].concat(), list);
                 }
             }
         }
-        for mark_room in (0..599).step_by(steps) {
+        let steps = flat_tests::sample().min(97) as usize;
+        for mark_room in (0..LONGEST_MARK).rev().step_by(steps) {
             let answer = entry.resume(call, &[], 1, (20, mark_room));
             assert_eq!(answer.err(), Some(13));
             let answer = entry.start(call, [2, 12, 0], mark_room);
@@ -564,8 +769,9 @@ fn every_budget_and_room() {
     }
 }
 
-/// The longest ring and the longest mark: 128 atoms in one ring. A mark of 127
-/// atoms is 599 bytes, a record of 128 atoms 129.
+/// The longest ring and the longest beginning: 128 atoms in one ring. A mark of
+/// 127 atoms and 128 bonds is 1,751 bytes, a record of 128 atoms 129. And the
+/// longest marks: 119 atoms and 1,024 bonds.
 #[test]
 fn longest() {
     let mut entry = Entry::new(84);
@@ -575,7 +781,12 @@ fn longest() {
     let call = (sheet.as_slice(), Ok(&lists as &dyn Lists));
     let ring: Vec<u8> = (1..=128).collect();
     let bounded = Search::at(Task::RingsUpTo { k: 127 }, &ring[..127], 128);
-    let refused = entry.resume(call, &mark::write(&record, &bounded), 1, (300, 599));
+    let refused = entry.resume(
+        call,
+        &mark::write(&record, &bounded),
+        1,
+        (300, LONGEST_MARK),
+    );
     assert_eq!(refused, Err(17));
     for task in [Task::Rings, Task::RingsUpTo { k: 128 }] {
         longest_of(
@@ -594,40 +805,65 @@ fn longest() {
         let mark = mark::write(&record, &Search::at(task, &ring[..127], 128));
         longest_of(&mut entry, call, &mark);
     }
+    // The most bonds, with 119 of the 120 atoms of a ring or a path.
+    for (closes, task) in [
+        (true, Task::Rings),
+        (true, Task::RingsUpTo { k: 120 }),
+        (false, Task::Paths { s: 1, t: 120 }),
+    ] {
+        let molecule = generate::longest_with_most_bonds(closes);
+        let (record, sheet) = (molecule.record(), molecule.sheet());
+        let lists = Reached::new(&record);
+        let call = (sheet.as_slice(), Ok(&lists as &dyn Lists));
+        let mark = mark::write(&record, &Search::at(task, &ring[..119], 120));
+        assert_eq!(mark.len(), 9_783);
+        for (room, stop) in [(120, 104), (121, 103)] {
+            let resumed = entry.resume(call, &mark, 1, (room, LONGEST_MARK));
+            assert_eq!(resumed.expect("accepted").stop as u32, stop);
+            let refused = entry.resume(call, &mark, 1, (room, LONGEST_MARK - 1));
+            assert_eq!(refused, Err(13));
+        }
+    }
     // A full sheet, the longest accepted: 9 × 1,025 bytes.
     let molecule = generate::random_molecule(&mut Rng::new(5), 128, 1024);
     let (record, sheet) = (molecule.record(), molecule.sheet());
     let lists = Reached::new(&record);
     assert_eq!(sheet.len(), 9_225);
     let call = (sheet.as_slice(), Ok(&lists as &dyn Lists));
-    entry.resume(call, &[], 10, (500, 599)).expect("accepted");
+    entry
+        .resume(call, &[], 10, (500, LONGEST_MARK))
+        .expect("accepted");
     for numbers in [[2, 12, 0], [3, 1, 128]] {
-        let start = entry.start(call, numbers, 599).expect("a size, two atoms");
+        let start = entry
+            .start(call, numbers, LONGEST_MARK)
+            .expect("a size, two atoms");
         entry
-            .resume(call, &start, 300, (500, 599))
+            .resume(call, &start, 300, (500, LONGEST_MARK))
             .expect("accepted");
     }
 }
 
 /// The longest mark with outputs about the length of the longest record.
 fn longest_of(entry: &mut Entry, call: (&[u8], Result<&dyn Lists, u32>), mark: &[u8]) {
-    assert_eq!(mark.len(), LONGEST_MARK);
+    let bonds = call.1.expect("a molecule").record().bonds;
+    assert_eq!(mark.len(), mark::size(127, bonds as usize));
     for (room, stop) in [(0, 104), (128, 104), (129, 103), (130, 103), (300, 103)] {
-        for mark_room in [598, 599, 600] {
+        for mark_room in [1_751, LONGEST_MARK - 1, LONGEST_MARK, LONGEST_MARK + 1] {
             match entry.resume(call, mark, 1, (room, mark_room)) {
                 Ok(resumed) => {
-                    assert_eq!((resumed.stop as u32, mark_room >= 599), (stop, true));
+                    assert_eq!(resumed.stop as u32, stop);
+                    assert!(mark_room >= LONGEST_MARK);
                     if stop == 104 {
                         assert_eq!(resumed.mark, mark);
                     }
                 }
-                Err(rule) => assert_eq!((rule, mark_room), (13, 598)),
+                Err(rule) => assert!(rule == 13 && mark_room < LONGEST_MARK),
             }
         }
     }
     // No mark is longer: 128 atoms break the layout.
     let longer = spoil::lengthened(mark, 128, 128);
-    assert_eq!(entry.resume(call, &longer, 1, (300, 700)), Err(14));
+    assert_eq!(entry.resume(call, &longer, 1, (300, LONGEST_MARK)), Err(14));
 }
 
 /// Sheets filled by zeros, and by blanks or zeros from field to field: the same
@@ -656,7 +892,7 @@ fn both_fillings() {
         let numbers = generate::any_task(&mut rng, record.atoms).numbers();
         let [mut mark, second, third] = [&blanks, &zeros, &mixed].map(|sheet| {
             let call = (sheet.as_slice(), Ok(lists));
-            entry.start(call, numbers, 599).expect("accepted")
+            entry.start(call, numbers, LONGEST_MARK).expect("accepted")
         });
         assert!(mark == second && mark == third);
         if rng.one_in(2) {
@@ -669,7 +905,7 @@ fn both_fillings() {
             );
             let [first, second, third] = [&blanks, &zeros, &mixed].map(|sheet| {
                 let call = (sheet.as_slice(), Ok(lists));
-                let resumed = entry.resume(call, &mark, budget, (room, 599));
+                let resumed = entry.resume(call, &mark, budget, (room, LONGEST_MARK));
                 resumed.expect("accepted")
             });
             assert!(first == second && first == third);
@@ -708,8 +944,10 @@ fn mark_readers_and_zeros() {
             1 => LIMIT,
             _ => (rng.next() >> rng.below(64)).min(LIMIT),
         };
-        let mark = mark::write(&Record::new(n), &search);
-        let right = (91 + 4 * p.len(), search.listed);
+        let m = rng.between(0, (n * (n - 1) / 2).min(60));
+        let record = generate::random_molecule(&mut rng, n, m).record();
+        let mark = mark::write(&record, &search);
+        let right = (mark::size(p.len(), m as usize), search.listed);
         let readers = |bytes: &[u8]| {
             let answers = (host::mark_length(bytes), host::listed(bytes));
             let model = (model::host::mark_length(bytes), model::host::listed(bytes));
@@ -723,7 +961,7 @@ fn mark_readers_and_zeros() {
             spoil::zero_fill(&mut changed, at, columns);
             assert_ne!(changed, mark);
             let expected = match at {
-                20 => (0, right.1),
+                16 | 20 => (0, right.1),
                 69 => (right.0, 0),
                 _ => right,
             };
@@ -732,11 +970,18 @@ fn mark_readers_and_zeros() {
         }
         assert_eq!(readers(&every), (0, 0));
     }
-    // A length of four digits fills its columns.
-    let mut long = vec![b' '; 91 + 4_000];
-    long[20..24].copy_from_slice(b"1000");
-    assert_eq!(host::mark_length(&long), 4_091);
-    assert_eq!(host::mark_length(&long[..4_090]), 0);
+    // A number of four digits fills its columns.
+    for (text, size) in [
+        (b"   01000", 91 + 4_000),
+        (b"1000   0", 91 + 9_000),
+        (b"10241000", 91 + 4_000 + 9 * 1_024),
+        (b"99999999", 91 + 13 * 9_999),
+    ] {
+        let mut long = vec![b' '; size];
+        long[16..24].copy_from_slice(text);
+        assert_eq!(host::mark_length(&long), size);
+        assert_eq!(host::mark_length(&long[..size - 1]), 0);
+    }
 }
 
 /// The two readers of a mark, on marks, damaged marks and noise.
@@ -761,10 +1006,15 @@ fn mark_readers() {
         let p = generate::random_list(&mut rng, n, 127);
         let mut search = Search::at(Task::Rings, &p, rng.between(0, n + 1));
         search.listed = (rng.next() >> rng.below(64)).min(LIMIT);
-        let mut record = Record::new(n);
-        record.bonds = rng.below(1_025);
-        let mut bytes = mark::write(&record, &search);
-        match rng.below(8) {
+        // The bond lines themselves are not looked at.
+        let m = match rng.below(8) {
+            0 => rng.below(1_025),
+            1 => 0,
+            _ => rng.below(40),
+        };
+        let mut bytes = mark::write_lines(n, m, &search);
+        bytes.resize(mark::size(p.len(), m as usize), b' ');
+        match rng.below(10) {
             // The length alone, also above 127 and above what is there.
             0 => {
                 let length = rng.pick(&spoil::EDGES);
@@ -774,16 +1024,27 @@ fn mark_readers() {
             1 => {
                 let length = rng.pick(&[127, 128, 129, 200, 256, 1_000]);
                 spoil::put(&mut bytes, 20, 4, &length.to_string());
-                let right = 91 + 4 * length;
+                let right = mark::size(length, m as usize);
                 bytes.resize(right + rng.index(3) - 1, b' ');
             }
             2 => {
                 let count = rng.pick(&spoil::COUNTS);
                 spoil::put(&mut bytes, 69, 20, count);
             }
-            3 => bytes.resize(rng.pick(&[599, 600, 700, 4_096]), rng.byte()),
-            4 => bytes.truncate(rng.pick(&[0, 1, 20, 24, 88, 89, 90, 91, 92, 95])),
-            5 => bytes = (0..rng.index(200)).map(|_| rng.pick(b"   019\n")).collect(),
+            3 => bytes.resize(rng.pick(&[599, 600, 700, 4_096, LONGEST_MARK]), rng.byte()),
+            4 => bytes.truncate(rng.pick(&[0, 1, 16, 20, 24, 88, 89, 90, 91, 92, 95])),
+            // The bonds alone, and room for them.
+            5 => {
+                let bonds = rng.pick(&spoil::EDGES);
+                spoil::put(&mut bytes, 16, 4, &bonds.to_string());
+            }
+            6 => {
+                let bonds = rng.pick(&[0, 1, 127, 128, 255, 256, 1_000, 1_024, 1_025, 9_999]);
+                spoil::put(&mut bytes, 16, 4, &bonds.to_string());
+                let right = mark::size(p.len(), bonds);
+                bytes.resize(right + rng.index(3) - 1, b' ');
+            }
+            7 => bytes = (0..rng.index(200)).map(|_| rng.pick(b"   019\n")).collect(),
             _ => {
                 let kind = rng.below(spoil::MARK_KINDS);
                 spoil::mark(&mut rng, n, kind, &mut bytes);

@@ -5,11 +5,12 @@ use flat_tests::generate::{self, Molecule};
 use flat_tests::model::field::LIMIT;
 use flat_tests::model::list::{self, Listed, Lists, Reached, Task};
 use flat_tests::model::machine::{Search, Stop};
-use flat_tests::model::mark::{self, LONGEST_MARK};
+use flat_tests::model::mark::{self, Bond, LONGEST_MARK};
 use flat_tests::model::{lister, Record};
 use flat_tests::rng::Rng;
-use flat_tests::spoil::{lengthened, place, places, put, zero_fill, COUNTS, EDGES};
-use flat_tests::{sample, sampled, spoil};
+use flat_tests::spoil::{bond_places, bonds_from, lengthened, place, places, put, zero_fill};
+use flat_tests::spoil::{with_bonds, with_lines, COUNTS, EDGES};
+use flat_tests::{examples, sample, sampled, spoil};
 
 /// Compares the answer to a mark. An accepted one, saved again, gives the same
 /// bytes; what it gives is a search that runs.
@@ -100,11 +101,21 @@ fn every_length() {
                 assert_eq!(compare(&mut calls, &lists, &ended).is_ok(), whole);
                 assert_eq!(compare(&mut calls, &lists, &mark[len + 1..]), Err(14));
             }
-            for more in ["\n", " ", "\0", "   1", "   1\n", "\n\n\n\n", "    \n"] {
+            for more in [
+                "\n",
+                " ",
+                "\0",
+                "   1",
+                "   1\n",
+                "\n\n\n\n",
+                "    \n",
+                "  11  12\n",
+                " 127 128\n",
+            ] {
                 let longer = [mark, more.as_bytes()].concat();
                 assert_eq!(compare(&mut calls, &lists, &longer), Err(14));
             }
-            for len in [91, 599, 603, 4096, 65_536 + mark.len()] {
+            for len in [91, 99, 599, 603, 9_815, 9_824, 65_536 + mark.len()] {
                 let mut other = mark.clone();
                 other.resize(len, b' ');
                 let same = len == mark.len();
@@ -116,6 +127,39 @@ fn every_length() {
     let lists = Listed::new(&record);
     assert_eq!(compare(&mut calls, &lists, b""), Err(14));
     assert_eq!(compare(&mut calls, &lists, b"\n\n\n"), Err(14));
+}
+
+/// Every byte of marks of larger molecules, with a dozen values: cages, and, of
+/// every so many bytes, random molecules of 300 and of 1,024 bonds.
+#[test]
+fn every_byte_of_larger_marks() {
+    let mut calls = Calls::new(78);
+    let random = |n, m| generate::random_molecule(&mut Rng::new(m), n, m).record();
+    for (record, p, step) in [
+        (examples::record("dodecahedrane"), &[1, 2][..], 1),
+        (examples::record("buckminsterfullerene"), &[1, 2, 3], 1),
+        (random(100, 300), &[], 2),
+        (random(128, 1024), &[], 11),
+    ] {
+        let reached = Reached::new(&record);
+        let mark = mark::write(&record, &Search::at(Task::Rings, p, 2));
+        assert_eq!(mark.len(), mark::size(p.len(), record.bonds as usize));
+        assert!(compare(&mut calls, &reached, &mark).is_ok());
+        for at in (0..mark.len()).step_by(step * sample().min(50) as usize) {
+            for byte in *b" 0123459\n\rx\0" {
+                let mut changed = mark.clone();
+                changed[at] = byte;
+                let answer = compare(&mut calls, &reached, &changed);
+                // In a bond line no other byte is right.
+                if at >= bonds_from(&mark) {
+                    assert_eq!(answer.is_ok(), changed == mark, "at {at}, {byte}");
+                    assert!(!matches!(answer, Err(16 | 17)));
+                }
+            }
+        }
+    }
+    calls.print();
+    calls.at_least(2_000, "restore", &[0, 14, 15]);
 }
 
 /// Every field with the edges of lengths, atoms and counts.
@@ -144,7 +188,7 @@ fn edges_of_fields() {
                     assert_eq!(compare(&mut calls, &lists, &changed).is_ok(), right);
                 }
             }
-            for at in (90..mark.len() - 1).step_by(4) {
+            for at in (90..bonds_from(mark) - 1).step_by(4) {
                 for value in EDGES.into_iter().chain(2..=n + 1).chain(257..257 + n) {
                     let mut changed = mark.clone();
                     put(&mut changed, at, 4, &value.to_string());
@@ -152,6 +196,18 @@ fn edges_of_fields() {
                     if value == 0 || value > n {
                         assert_eq!(answer, Err(17));
                     }
+                }
+            }
+            for (at, columns) in bond_places(mark)
+                .into_iter()
+                .flat_map(|at| [(at, 4), (at + 4, 4)])
+            {
+                for value in EDGES.into_iter().chain(2..=n + 1).chain(257..257 + n) {
+                    let mut changed = mark.clone();
+                    put(&mut changed, at, columns, &value.to_string());
+                    let answer = compare(&mut calls, &lists, &changed);
+                    assert_eq!(answer.is_ok(), changed == *mark);
+                    assert!(!matches!(answer, Err(16 | 17)));
                 }
             }
         }
@@ -195,8 +251,9 @@ fn filled_by_zeros() {
     // atoms in the beginnings of the first three kinds and 9 in those of the last.
     // Kind, s and t are 0 in 22 ring marks, t in 22 of rings up to a size, the
     // length in one mark of each task; in the first of each extensions and listed.
+    // 16, 16 and 39 marks have the lines of 5, 6 and 12 bonds, two fields each.
     if sample() == 1 {
-        assert_eq!(fields, 710 + 227 + 9);
+        assert_eq!(fields, 710 + 227 + 9 + 16 * 10 + 16 * 12 + 39 * 24);
         assert_eq!(of_zero, [3 * 22 + 22 + 12, 2 * 12]);
     }
 }
@@ -219,7 +276,11 @@ fn full_columns() {
         let mark = mark::write(&record, &search);
         assert_eq!(mark[16..20], *b"1024");
         assert_eq!(compare(&mut calls, &reached, &mark), Ok(search));
-        for (at, columns) in places(&mark) {
+        assert_eq!(places(&mark).len(), 10 + 2 * 1024);
+        for (which, (at, columns)) in places(&mark).into_iter().enumerate() {
+            if which >= 10 && which as u64 % (7 * sample().min(20)) != 0 {
+                continue;
+            }
             let mut changed = mark.clone();
             zero_fill(&mut changed, at, columns);
             let answer = compare(&mut calls, &reached, &changed);
@@ -231,13 +292,15 @@ fn full_columns() {
 
 /// Every field over blank, 0, 1, 9, line feed and x, 6 to the 4th, in each field
 /// of 4 columns. 81 of them follow the layout, 27 filled by blanks and 54 by
-/// neither; of the length only the one that tells it.
+/// neither; of the bonds and the length only the one that tells them, and of an
+/// atom in a bond line those that keep the order.
 #[test]
 fn every_field() {
     let mut calls = Calls::new(73);
-    let record = generate::document().record();
-    let lists = Listed::new(&record);
+    let record = generate::ring(9).record();
+    let (lists, bonds) = (Reached::new(&record), mark::bonds(&record));
     let mark = mark::write(&record, &Search::at(Task::Rings, &[1], 3));
+    let from = bonds_from(&mark);
     for (at, _) in places(&mark).iter().filter(|(_, columns)| *columns == 4) {
         let mut numbers = 0;
         for number in (0..6usize.pow(4)).step_by(sample().min(5) as usize) {
@@ -247,10 +310,36 @@ fn every_field() {
             }
             numbers += u64::from(compare(&mut calls, &lists, &changed) != Err(14));
         }
+        let expected = match *at {
+            16 | 20 => 1,
+            at if at < from => 81,
+            at => keeping_order(&bonds, (at - from) / 9, (at - from) % 9 / 4),
+        };
         if sample() == 1 {
-            assert_eq!(numbers, if *at == 20 { 1 } else { 81 }, "fields at {at}");
+            assert_eq!(numbers, expected, "fields at {at}");
         }
     }
+}
+
+/// How many numbers of up to four digits 0, 1 and 9 may stand for an atom of a
+/// bond, so that the bonds keep their order and each its lower atom first.
+fn keeping_order(bonds: &[Bond], line: usize, atom: usize) -> u64 {
+    let digits = |number: u64| {
+        number
+            .to_string()
+            .bytes()
+            .all(|digit| b"019".contains(&digit))
+    };
+    let keeps = |&number: &u64| {
+        let mut bonds = bonds.to_vec();
+        match atom {
+            0 => bonds[line].0 = number,
+            _ => bonds[line].1 = number,
+        }
+        bonds[line].0 < bonds[line].1 && bonds.windows(2).all(|two| two[0] < two[1])
+    };
+    let numbers = (0..10_000).filter(|&number| digits(number));
+    numbers.filter(keeps).count() as u64
 }
 
 /// Lengths up to 127 belong to the layout, longer ones do not, whatever the
@@ -271,7 +360,7 @@ fn lengths() {
         for length in lengths.into_iter().rev().step_by(sample().min(9) as usize) {
             let search = Search::at(task, &all[..length], 128);
             let mark = mark::write(&record, &search);
-            assert_eq!(mark.len(), 91 + 4 * length);
+            assert_eq!(mark.len(), 91 + 4 * length + 9 * molecule.bonds.len());
             assert_eq!(compare(&mut calls, &reached, &mark), Ok(search));
             for other in [126, 127, 128, 129, 130, 255, 256, 383, 9999] {
                 let mut changed = lengthened(&mark, other, 128);
@@ -292,16 +381,17 @@ fn lengths() {
         // All 128 atoms: a member or none, and never a beginning.
         let longest = mark::write(&record, &Search::at(task, &all[..127], 1));
         let longer = lengthened(&longest, 128, 128);
-        assert_eq!(longer.len(), 603);
+        assert_eq!(longer.len(), 603 + 9 * molecule.bonds.len());
         assert_eq!(compare(&mut calls, &reached, &longer), Err(14));
     }
 }
 
-/// Marks of one molecule on another: right only if atoms and bonds agree and
-/// the beginning is open there.
+/// Marks of one molecule on another: right only if the atoms and all bonds are
+/// the same.
 #[test]
 fn other_molecules() {
     let mut calls = Calls::new(65);
+    let mut as_many = 0;
     for case in 0..sampled(6_000) {
         let _case = Case("other_molecules", case);
         let mut rng = Rng::of_case(0x4F54_4845_5253, case);
@@ -318,13 +408,306 @@ fn other_molecules() {
         let (own_lists, other_lists) = (Listed::new(&own), Listed::new(&other));
         let search = any_place(&mut rng, n, task, &own_lists.members(task));
         let mark = mark::write(&own, &search);
-        assert_eq!(compare(&mut calls, &own_lists, &mark), Ok(search));
+        assert_eq!(compare(&mut calls, &own_lists, &mark), Ok(search.clone()));
         let answer = compare(&mut calls, &other_lists, &mark);
-        let same = (n, m) == (other_n, other_m);
-        assert_eq!(answer == Err(15), !same);
+        let expected = if own == other { Ok(search) } else { Err(15) };
+        assert_eq!(answer, expected);
+        as_many += u64::from(answer == Err(15) && (n, m) == (other_n, other_m));
+        // The same bonds, and an atom more, which has none.
+        let mut more = own.clone();
+        more.atoms += 1;
+        assert_eq!(compare(&mut calls, &Reached::new(&more), &mark), Err(15));
     }
     calls.print();
-    calls.at_least(500, "restore", &[0, 15, 17]);
+    calls.at_least(500, "restore", &[0, 15]);
+    assert!(as_many >= sampled(1_500));
+}
+
+/// Isomers, which have as many atoms and bonds: the mark of either is refused on
+/// the other, from any place, be it open there or not.
+#[test]
+fn isomers() {
+    let mut calls = Calls::new(79);
+    let mut open = 0;
+    for case in 0..sampled(3_000) {
+        let _case = Case("isomers", case);
+        let mut rng = Rng::of_case(0x4953_4F4D_4552, case);
+        let molecule = match rng.below(30) {
+            0 => generate::any_molecule(&mut rng),
+            _ => generate::any_searched(&mut rng),
+        };
+        let other = match rng.below(3) {
+            0 => Some(generate::renamed(&mut rng, &molecule)),
+            _ => generate::isomer(&mut rng, &molecule),
+        };
+        let records = match other {
+            Some(other) => [molecule.record(), other.record()],
+            None => continue,
+        };
+        let n = records[0].atoms;
+        for (own, other) in [(0, 1), (1, 0)] {
+            let (own, other) = (&records[own], &records[other]);
+            let task = generate::any_task(&mut rng, n);
+            // A large molecule may have too many members to list.
+            let members = if n <= 12 || own.bonds <= n + 6 {
+                lister::list(own, task).members()
+            } else {
+                Vec::new()
+            };
+            let search = any_place(&mut rng, n, task, &members);
+            let mark = mark::write(own, &search);
+            let (own_lists, other_lists) = (Reached::new(own), Reached::new(other));
+            assert_eq!(compare(&mut calls, &own_lists, &mark), Ok(search.clone()));
+            let answer = compare(&mut calls, &other_lists, &mark);
+            assert_eq!(answer == Err(15), own != other);
+            open += u64::from(own != other && search.is_restorable(&other_lists));
+        }
+    }
+    calls.print();
+    println!("{open} of a place that is also open in the other");
+    calls.at_least(3_000, "restore", &[0, 15]);
+    assert!(open >= sampled(1_000));
+}
+
+/// A mark on a molecule, with the molecule's own bonds.
+fn of_bonds(rng: &mut Rng, molecule: &Molecule) -> (Record, Vec<u8>, Vec<Bond>) {
+    let record = molecule.record();
+    let task = generate::any_task(rng, record.atoms);
+    let next = rng.between(1, record.atoms);
+    let mark = mark::write(&record, &Search::at(task, &[], next));
+    let bonds = mark::bonds(&record);
+    (record, mark, bonds)
+}
+
+/// Bond lines in another order, one of them twice, reversed, or of one atom: rule
+/// 14, also where an atom is strange. On molecules of up to 1,024 bonds.
+#[test]
+fn lines_out_of_order() {
+    let mut calls = Calls::new(80);
+    for case in 0..sampled(600) {
+        let _case = Case("lines_out_of_order", case);
+        let mut rng = Rng::of_case(0x4F52_4445_5253, case);
+        let (n, m) = match rng.below(20) {
+            0 => (128, 1024),
+            1..=4 => (rng.between(40, 128), rng.between(2, 300)),
+            _ => (rng.between(4, 20), rng.between(2, 6)),
+        };
+        let molecule = generate::random_molecule(&mut rng, n, m);
+        let (record, mark, bonds) = of_bonds(&mut rng, &molecule);
+        let reached = Reached::new(&record);
+        assert!(compare(&mut calls, &reached, &mark).is_ok());
+        let mut refused = |changed: &[Bond]| {
+            for mark in [with_bonds(&mark, changed), with_lines(&mark, changed)] {
+                assert_eq!(compare(&mut calls, &reached, &mark), Err(14));
+            }
+        };
+        let at = rng.index(bonds.len() - 1);
+        let with = |change: &dyn Fn(&mut Vec<Bond>)| {
+            let mut changed = bonds.clone();
+            change(&mut changed);
+            changed
+        };
+        // Two neighbours, or any order.
+        refused(&with(&|bonds| bonds.swap(at, at + 1)));
+        let mut shuffled = bonds.clone();
+        rng.shuffle(&mut shuffled);
+        if shuffled != bonds {
+            refused(&shuffled);
+        }
+        refused(&with(&|bonds| bonds.reverse()));
+        refused(&with(&|bonds| bonds.rotate_left(1)));
+        // One twice, in place of its neighbour or besides, or at the end.
+        refused(&with(&|bonds| bonds[at + 1] = bonds[at]));
+        refused(&with(&|bonds| bonds.insert(at, bonds[at])));
+        refused(&with(&|bonds| bonds.push(bonds[at])));
+        // The higher atom first: alone, with its number, as all of them.
+        let (a, b) = bonds[at];
+        refused(&with(&|bonds| bonds[at] = (b, a)));
+        refused(&with(&|bonds| {
+            bonds.iter_mut().for_each(|bond| *bond = (bond.1, bond.0))
+        }));
+        // One atom twice, also a strange one.
+        for v in [a, b, 0, n + 1, 9_999] {
+            refused(&with(&|bonds| bonds[at] = (v, v)));
+        }
+        // A strange atom, and the higher first or lines out of order.
+        for strange in [n + 1, 128, 129, 255, 256, 9_999] {
+            refused(&with(&|bonds| bonds[at] = (strange, 0)));
+            refused(&with(&|bonds| bonds[at] = (strange, strange - 1)));
+            if strange > n {
+                refused(&with(&|bonds| bonds[at] = (strange, a)));
+                // The line below it comes too late.
+                refused(&with(&|bonds| bonds[at] = (strange - 1, strange)));
+            }
+        }
+        refused(&with(&|bonds| bonds[at + 1] = (0, n + 1)));
+        // In the molecule's own sheet the bonds are in any order.
+        if molecule.bonds != bonds {
+            refused(&molecule.bonds);
+        }
+    }
+    calls.print();
+    calls.at_least(10_000, "restore", &[14]);
+}
+
+/// Bond lines that keep the layout and are not the molecule's: rule 15, whatever
+/// atoms they name.
+#[test]
+fn lines_of_strange_atoms() {
+    let mut calls = Calls::new(81);
+    for case in 0..sampled(600) {
+        let _case = Case("lines_of_strange_atoms", case);
+        let mut rng = Rng::of_case(0x5354_5241_4E47, case);
+        let n = rng.between(2, 128);
+        let m = rng.between(1, (n * (n - 1) / 2).min(40));
+        let molecule = generate::random_molecule(&mut rng, n, m);
+        let (record, mark, bonds) = of_bonds(&mut rng, &molecule);
+        let reached = Reached::new(&record);
+        assert!(compare(&mut calls, &reached, &mark).is_ok());
+        let mut refused = |mut changed: Vec<Bond>| {
+            changed.sort_unstable();
+            let changed = with_bonds(&mark, &changed);
+            assert_eq!(compare(&mut calls, &reached, &changed), Err(15));
+        };
+        let last = bonds.len() - 1;
+        for strange in [n + 1, 128, 129, 200, 255, 256, 257, 1_024, 9_999] {
+            for low in [0, 1, n, n + 1, strange - 1] {
+                let bond = (low, strange);
+                if low >= strange || bonds.contains(&bond) {
+                    continue;
+                }
+                refused([&bonds[..last], &[bond]].concat());
+                refused([&bonds[1..], &[bond]].concat());
+                refused([&bonds[..], &[bond]].concat());
+            }
+        }
+        // The numbers of right atoms and 256 more; atom 0 for another.
+        refused(bonds.iter().map(|&(a, b)| (a + 256, b + 256)).collect());
+        refused([&bonds[1..], &[(0, bonds[0].1)]].concat());
+        // One fewer, at either end and between, and none.
+        for at in [0, last / 2, last] {
+            refused([&bonds[..at], &bonds[at + 1..]].concat());
+        }
+        refused(Vec::new());
+    }
+    calls.print();
+    calls.at_least(10_000, "restore", &[15]);
+}
+
+/// Marks that name 0, 1, 1,024 and more bonds and have as many lines: right on
+/// their own molecule, 15 on any other and above 1,024; 14 with a line more or
+/// fewer.
+#[test]
+fn numbers_of_lines() {
+    let mut calls = Calls::new(82);
+    let fresh = Search::fresh(Task::Rings);
+    // The first pairs of 128 atoms, and where so many may be no molecule's, of 151.
+    let pairs = |m: usize| -> Vec<Bond> {
+        let n = if m <= 1_024 { 128 } else { 151 };
+        let pairs = (1..n).flat_map(|a| (a + 1..=n).map(move |b| (a, b)));
+        pairs.take(m).collect()
+    };
+    let others = [
+        Record::new(128),
+        Molecule::new(128, &[(1, 2)]).record(),
+        generate::random_molecule(&mut Rng::new(83), 128, 1_023).record(),
+        generate::random_molecule(&mut Rng::new(84), 128, 1_024).record(),
+    ];
+    for m in [
+        0, 1, 2, 1_023, 1_024, 1_025, 1_026, 2_000, 2_048, 9_998, 9_999,
+    ] {
+        let bonds = pairs(m);
+        let mark = with_bonds(&mark::write(&Record::new(128), &fresh), &bonds);
+        assert_eq!(mark.len(), 91 + 9 * m);
+        for record in &others {
+            let reached = Reached::new(record);
+            let own = mark::bonds(record) == bonds;
+            assert_eq!(compare(&mut calls, &reached, &mark).is_ok(), own);
+            assert!(own || compare(&mut calls, &reached, &mark) == Err(15));
+            // A line more, a line fewer, and none of them.
+            let more = with_lines(&mark, &pairs(m + 1));
+            assert_eq!(compare(&mut calls, &reached, &more), Err(14));
+            if m > 0 {
+                let fewer = with_lines(&mark, &pairs(m - 1));
+                assert_eq!(compare(&mut calls, &reached, &fewer), Err(14));
+                assert_eq!(compare(&mut calls, &reached, &mark[..91]), Err(14));
+            }
+            // The lines stay, and the number that is named goes up or down.
+            for named in [m + 1, m.max(1) - 1, m + 256, 0, 1_024, 9_999] {
+                let mut changed = mark.clone();
+                put(&mut changed, 16, 4, &named.to_string());
+                let answer = compare(&mut calls, &reached, &changed);
+                assert!(changed == mark || answer == Err(14));
+            }
+        }
+        // Its own molecule, where there is one.
+        if m <= 1_024 {
+            let record = Molecule::new(128, &bonds).record();
+            let reached = Reached::new(&record);
+            assert_eq!(compare(&mut calls, &reached, &mark), Ok(fresh.clone()));
+        }
+    }
+    calls.print();
+}
+
+/// The marks of before request F-5, without bond lines: rule 14, but of a molecule
+/// without bonds, whose marks are as they were.
+#[test]
+fn marks_without_lines() {
+    let mut calls = Calls::new(83);
+    for case in 0..sampled(2_000) {
+        let _case = Case("marks_without_lines", case);
+        let mut rng = Rng::of_case(0x464F_524D_4552, case);
+        let molecule = match rng.below(8) {
+            0 => Molecule::new(rng.between(1, 128), &[]),
+            _ => generate::any_searched(&mut rng),
+        };
+        let record = molecule.record();
+        let task = generate::any_task(&mut rng, record.atoms);
+        let members = lister::list(&record, task).members();
+        let search = any_place(&mut rng, record.atoms, task, &members);
+        let mark = mark::write_lines(record.atoms, record.bonds, &search);
+        assert_eq!(mark.len(), mark::size(search.length as usize, 0));
+        let answer = compare(&mut calls, &Reached::new(&record), &mark);
+        let none = molecule.bonds.is_empty();
+        assert_eq!(answer, if none { Ok(search) } else { Err(14) });
+    }
+    calls.print();
+    calls.at_least(200, "restore", &[0, 14]);
+}
+
+/// The longest marks that there are: 119 atoms in the beginning and 1,024 bonds;
+/// and one of 200 bytes, the number that a wrong length gives.
+#[test]
+fn longest_marks() {
+    let mut calls = Calls::new(84);
+    let all: Vec<u8> = (1..=119).collect();
+    for (closes, task) in [
+        (true, Task::Rings),
+        (true, Task::RingsUpTo { k: 120 }),
+        (false, Task::Paths { s: 1, t: 120 }),
+    ] {
+        let record = generate::longest_with_most_bonds(closes).record();
+        assert!(record.is_lawful() && record.bonds == 1_024);
+        let reached = Reached::new(&record);
+        let mut search = Search::at(task, &all, 120);
+        [search.trials, search.extensions, search.listed] = [LIMIT; 3];
+        let mark = mark::write(&record, &search);
+        assert_eq!(mark.len(), 9_783);
+        assert_eq!(compare(&mut calls, &reached, &mark), Ok(search.clone()));
+        let on = On::lawful(&reached);
+        assert_eq!(calls.save(on, &search, 9_782), Err(13));
+        assert_eq!(calls.save(on, &search, 9_783), Ok(mark));
+    }
+    let record = generate::chain(10).record();
+    let reached = Reached::new(&record);
+    let search = Search::at(Task::Paths { s: 1, t: 10 }, &all[..7], 8);
+    let mark = mark::write(&record, &search);
+    assert_eq!(mark.len(), 200);
+    let on = On::lawful(&reached);
+    assert_eq!(calls.save(on, &search, 199), Err(13));
+    assert_eq!(calls.save(on, &search, 200), Ok(mark.clone()));
+    assert_eq!(compare(&mut calls, &reached, &mark), Ok(search));
 }
 
 /// An open beginning, a next atom and counts at random.
@@ -403,8 +786,7 @@ fn random_marks(name: &'static str, seed: u64) {
     calls.print();
     println!("{ended} runs to the end, {limits} to the limit");
     calls.at_least(2_000, "restore", &[0, 14, 15, 16, 17]);
-    assert!(ended >= sampled(1_000));
-    assert!(limits >= sampled(500));
+    assert!(sample() > 1 || (ended >= 1_000 && limits >= 500));
 }
 
 /// Beginnings that are not open, in marks that are right otherwise.
@@ -588,14 +970,28 @@ fn order_of_rules() {
         let record = generate::document().record();
         let lists = Listed::new(&record);
         let right = mark::write(&record, &Search::at(task, &[], 1));
-        // 14: a blank count. 15: n or m. 16: kind, s, t. 17: c.
+        // 14: a count, the number of bonds alone, the third bond, 1 4, as 1 1, 0 4
+        // or 4 4. 15: n, the first bond, 1 2, as 0 2, the fourth, 2 3, as 2 4, the
+        // last, 3 4, with an atom above n. 16: kind, s, t. 17: c.
         let breaks = [
             vec![
                 (29, 20, ""),
                 (49, 20, "00"),
                 (69, 20, "10000000000000000000"),
+                (16, 4, "4"),
+                (16, 4, "1025"),
+                (113, 4, "1"),
+                (109, 4, "0"),
+                (109, 4, "4"),
             ],
-            vec![(12, 4, "5"), (16, 4, "4"), (12, 4, "9999"), (16, 4, "0")],
+            vec![
+                (12, 4, "5"),
+                (12, 4, "9999"),
+                (91, 4, "0"),
+                (122, 4, "4"),
+                (131, 4, "5"),
+                (131, 4, "9999"),
+            ],
             of_16.to_vec(),
             vec![(24, 4, "0"), (24, 4, "6"), (24, 4, "9999")],
         ];

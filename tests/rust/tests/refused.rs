@@ -57,7 +57,7 @@ fn of_other_kind(calls: &mut Calls, on: On, task: Task, right: &Search) {
         Task::Paths { .. } => {
             other.kind = 3;
             let ran = calls.run(on, &other, 1, 300);
-            assert_eq!(calls.save(on, &other, 599).is_ok(), ran.is_ok());
+            assert_eq!(calls.save(on, &other, LONGEST_MARK).is_ok(), ran.is_ok());
         }
         _ => {}
     }
@@ -209,7 +209,7 @@ fn rule_12() {
                     let mut search = right.clone();
                     search.prefix[place] = atom;
                     let ran = calls.run(on, &search, 1, 300);
-                    assert_eq!(calls.save(on, &search, 599).is_ok(), ran.is_ok());
+                    assert_eq!(calls.save(on, &search, LONGEST_MARK).is_ok(), ran.is_ok());
                     if atom == 0 || u64::from(atom) > n {
                         assert_eq!(ran, Err(12));
                     }
@@ -379,7 +379,8 @@ fn rule_9() {
         let _ = calls.count_shortest(on, s, t);
         for search in [&fresh, &wrong, &bounded] {
             let _ = calls.run(on, search, rng.below(3), 20);
-            let _ = calls.save(on, search, 80 + rng.index(20));
+            let size = mark::size(0, record.bonds.min(1_024) as usize);
+            let _ = calls.save(on, search, size - 10 + rng.index(20));
         }
         if record.atoms <= 9999 && record.bonds <= 9999 {
             for search in [&fresh, &bounded] {
@@ -434,7 +435,7 @@ fn wrong_lengths() {
         for function in 0..7 {
             let mut numbers = Guarded::numbers(numbers_len, case);
             let mut prefix = Guarded::new(prefix_len, case);
-            let mut out = Guarded::new(rng.pick(&[0, 99, 599]), case);
+            let mut out = Guarded::new(rng.pick(&[0, 99, 144, LONGEST_MARK]), case);
             if (3..6).contains(&function) {
                 numbers = numbers.holding(&before);
                 prefix = prefix.holding(&vec![0; prefix_len]);

@@ -550,13 +550,17 @@ fn document_runs() {
     let done = run(16, 8);
     assert_eq!((done.stop, done.made), (Stop::Done, 16));
     assert_eq!(done.records, [3, 1, 2, 3, 3, 1, 3, 4]);
-    let mark = calls.save(on, &full.search, 99).expect("room enough");
-    assert_eq!(
-        mark.escape_ascii().to_string(),
-        "   0   0   0   4   5   2   3\\n                   5                   2                   0\\n   1   2\\n"
-    );
-    assert_eq!(calls.save(on, &full.search, 98), Err(13));
+    let mark = calls.save(on, &full.search, 144).expect("room enough");
+    let text = "   0   0   0   4   5   2   3\n\
+        \x20                  5                   2                   0\n\
+        \x20  1   2\n\
+        \x20  1   2\n   1   3\n   1   4\n   2   3\n   3   4\n";
+    assert_eq!(mark, text.as_bytes());
+    assert_eq!(calls.save(on, &full.search, 143), Err(13));
+    assert_eq!(calls.save(on, &full.search, 99), Err(13));
     assert_eq!(calls.restore(on, &mark), Ok(full.search));
+    // Without its bond lines it is the mark of before request F-5.
+    assert_eq!(calls.restore(on, &mark[..99]), Err(14));
 }
 
 /// 128 atoms, rings and paths of all of them and of fewer, from start to end.
@@ -599,8 +603,8 @@ fn longest() {
     }
 }
 
-/// The longest records: 129 bytes hold one, 128 do not. The longest marks:
-/// beginnings of 127 atoms, 599 bytes.
+/// The longest records: 129 bytes hold one, 128 do not. The longest beginnings:
+/// 127 atoms, with as many bonds or one more.
 #[test]
 fn longest_places() {
     let mut calls = Calls::new(56);
@@ -622,8 +626,10 @@ fn longest_places() {
             let mut search = Search::at(task, &member[..127], place);
             search.trials = LIMIT - 1_000;
             let mark = calls.save(on, &search, LONGEST_MARK).expect("a mark");
-            assert_eq!(mark.len(), LONGEST_MARK);
-            assert_eq!(calls.save(on, &search, LONGEST_MARK - 1), Err(13));
+            let size = mark::size(127, molecule.bonds.len());
+            assert_eq!(mark.len(), size);
+            assert_eq!(calls.save(on, &search, size), Ok(mark.clone()));
+            assert_eq!(calls.save(on, &search, size - 1), Err(13));
             assert_eq!(calls.restore(on, &mark), Ok(search.clone()));
             let full = calls.run(on, &search, 200, 128).expect("accepted");
             assert_eq!((full.stop, full.made), (Stop::Full, last - place));
@@ -721,7 +727,8 @@ fn sizes_at_the_edges() {
         for k in 3..=128 {
             let fresh = Search::fresh(Task::RingsUpTo { k });
             assert_eq!(calls.start_rings_up_to(on, k.into()), Ok(fresh.clone()));
-            let mark = calls.save(on, &fresh, 91).expect("a mark");
+            let size = mark::size(0, molecule.bonds.len());
+            let mark = calls.save(on, &fresh, size).expect("a mark");
             assert_eq!(calls.restore(on, &mark), Ok(fresh));
             let refused = calls.start_rings_up_to(On::unlawful(&unlawful), k.into());
             assert_eq!(refused, Err(9));

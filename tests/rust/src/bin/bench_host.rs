@@ -15,6 +15,10 @@
 //! A third has shortest paths: the entry beside a plain lister of them, which
 //! makes the steps to t once and then goes along neighbours that are nearer; and
 //! their number, by the counting entry and by plain sums.
+//!
+//! A fourth has what it costs to go on from a mark, over what it costs to read
+//! the sheet. With the word `resuming` after the program's name it is made alone,
+//! on standard output.
 
 use std::path::PathBuf;
 use std::time::Instant;
@@ -50,8 +54,14 @@ const TRIALS: u64 = 20_000_000;
 const AIM: f64 = 1.0;
 /// The place of `best` among the listers.
 const BEST: usize = 1;
+/// The ratios of the fourth table before request F-5, when marks had no bond
+/// lines, in its order: measured at commit b5856c4 by the same section, the middle
+/// one of three runs. And what a call may cost more since: to read the sheet twice.
+const BEFORE: [f64; 4] = [2.04, 2.96, 1.56, 1.12];
+const MORE: f64 = 2.0;
 const DONE: u32 = 101;
-const MARK: usize = 599;
+const SPENT: u32 = 103;
+const MARK: usize = 9815;
 
 /// A lister in plain Rust that the entry is compared with.
 struct Lister {
@@ -171,6 +181,33 @@ struct Linked<'a> {
     plain: f64,
 }
 
+/// What was measured of going on from a mark, in seconds.
+struct Resuming {
+    name: String,
+    atoms: u64,
+    bonds: u64,
+    /// Bytes of the mark.
+    mark: usize,
+    /// A call with budget 0 from the mark.
+    resume: f64,
+    /// The sheet read alone: a call from a mark of one byte, which rule 14 turns
+    /// back once the sheet is read.
+    sheet: f64,
+    /// The ratio of the two before request F-5.
+    before: f64,
+}
+
+impl Resuming {
+    fn ratio(&self) -> f64 {
+        self.resume / self.sheet
+    }
+
+    /// What the ratio is not to exceed.
+    fn aim(&self) -> f64 {
+        self.before + MORE
+    }
+}
+
 impl Ends {
     fn new(name: &str, sheet: Vec<u8>, s: u8, t: Option<u8>) -> Ends {
         let record = sheet::read(&sheet).expect("a sheet");
@@ -274,7 +311,7 @@ fn list(sheet: &[u8], budget: u64, out: &mut [u8]) -> u64 {
     loop {
         let [from, to] = &mut marks;
         let stop = host::resume(sheet, &from[..len], budget, &mut out[used..], to);
-        assert!(stop == DONE || stop == 103, "stop {stop}");
+        assert!(stop == DONE || stop == SPENT, "stop {stop}");
         for _ in host::listed(&from[..len])..host::listed(to) {
             used += 1 + usize::from(out[used]);
         }
@@ -442,7 +479,7 @@ fn measure_listing(ends: &Ends) -> Linked<'_> {
     let mark = host::fresh_mark(sheet, task);
     let (mut out, mut next) = (vec![0; 1 << 24], [0; MARK]);
     let stop = host::resume(sheet, &mark, TRIALS, &mut out, &mut next);
-    assert!(stop == DONE || stop == 103, "stop {stop}");
+    assert!(stop == DONE || stop == SPENT, "stop {stop}");
     let paths = host::listed(&next);
     let expected = best::list_some(&ends.record, task, paths);
     assert_eq!(expected.listed, paths);
@@ -501,6 +538,59 @@ fn measure_number(ends: &Ends) -> Linked<'_> {
         }));
     });
     linked
+}
+
+/// Sheets of 12, 90, 300 and 1,024 bonds, each with a number of trials after
+/// which its listing is about halfway; of the last two, which no run lists to the
+/// end, a million.
+fn resumed() -> Vec<(Molecule, u64)> {
+    let example = |name: &str| Molecule {
+        name: name.to_string(),
+        sheet: examples::bytes(name),
+    };
+    let random = |n, m| Molecule {
+        name: format!("random, {n} / {m}"),
+        sheet: generate::random_molecule(&mut Rng::new(n * 1000 + m), n, m).sheet(),
+    };
+    vec![
+        (example("cubane"), 104),
+        (example("buckminsterfullerene"), 35_257_080),
+        (random(100, 300), 1_000_000),
+        (random(128, 1024), 1_000_000),
+    ]
+}
+
+/// The timed calls from a mark after so many trials, and of reading the sheet.
+fn measure_resuming(molecule: &Molecule, trials: u64, before: f64) -> Resuming {
+    let sheet = &molecule.sheet;
+    let record = sheet::read(sheet).expect("a sheet");
+    let (mut next, mut out) = ([0; MARK], vec![0; 1 << 24]);
+    let stop = host::resume(sheet, &[], trials, &mut out, &mut next);
+    assert_eq!(stop, SPENT, "{} has more trials", molecule.name);
+    let mark = next[..host::mark_length(&next)].to_vec();
+    let mut calls = |mark: &[u8], times, answer| {
+        time(times, || {
+            let stop = host::resume(black_box(sheet), mark, 0, &mut [], &mut next);
+            assert_eq!(stop, answer);
+        })
+    };
+    let mut row = Resuming {
+        name: molecule.name.clone(),
+        atoms: record.atoms,
+        bonds: record.bonds,
+        mark: mark.len(),
+        resume: f64::MAX,
+        sheet: f64::MAX,
+        before,
+    };
+    // Many short samples, as the times are short.
+    for _ in 0..10 {
+        rounds(calls(&mark, 10, SPENT), |times| {
+            row.resume = row.resume.min(calls(&mark, times, SPENT));
+            row.sheet = row.sheet.min(calls(b"x", times, 14));
+        });
+    }
+    row
 }
 
 /// The second table has buckminsterfullerene and the larger random molecules.
@@ -782,6 +872,51 @@ fn linked_summary(rows: &[Linked]) -> String {
     )
 }
 
+/// Going on from a mark: the time of a call with budget 0 over that of reading
+/// the sheet, and the same before request F-5.
+fn resuming_table(rows: &[Resuming]) -> String {
+    let mut text = format!(
+        "\n## Resuming\n\n\
+         A call with budget 0 from a mark about halfway (of the two random molecules after a million trials), over reading the \
+         sheet alone: a call from a mark of one byte, which is refused as soon as the sheet is read. Before request F-5 a mark \
+         had no bond lines; since then the ratio is to be at most {MORE} more, as if the sheet were read twice more.\n\n",
+    );
+    let heads = [
+        "molecule",
+        "atoms",
+        "bonds",
+        "bytes of the mark",
+        "resume",
+        "sheet",
+        "resume / sheet",
+        "before",
+        "aim",
+    ];
+    text += &(table_line(&heads.map(String::from)) + &table_rule(heads.len()));
+    for row in rows {
+        text += &table_line(&[
+            row.name.clone(),
+            row.atoms.to_string(),
+            row.bonds.to_string(),
+            row.mark.to_string(),
+            shown(row.resume),
+            shown(row.sheet),
+            format!("{:.2}", row.ratio()),
+            format!("{:.2}", row.before),
+            format!("{:.2}", row.aim()),
+        ]);
+    }
+    let above: Vec<&str> = rows
+        .iter()
+        .filter(|row| row.ratio() > row.aim())
+        .map(|row| row.name.as_str())
+        .collect();
+    match above[..] {
+        [] => text + "\nNone is above its aim.\n",
+        _ => text + &format!("\nAbove its aim: {}.\n", above.join("; ")),
+    }
+}
+
 /// The line of equal times and those of the aims, from the lowest.
 fn marks() -> Vec<(f64, String)> {
     let first = LISTERS[0].name;
@@ -836,7 +971,31 @@ fn picture(rows: &[Row]) -> Picture {
     }
 }
 
+/// The section on going on from a mark.
+fn resuming() -> String {
+    let resumed = resumed();
+    let rows: Vec<Resuming> = resumed
+        .iter()
+        .zip(BEFORE)
+        .map(|((molecule, trials), before)| measure_resuming(molecule, *trials, before))
+        .collect();
+    eprintln!("resuming of {} molecules", rows.len());
+    resuming_table(&rows)
+}
+
 fn main() {
+    match std::env::args().nth(1).as_deref() {
+        None => whole(),
+        Some("resuming") => print!("{}", resuming()),
+        Some(_) => {
+            eprintln!("usage: bench_host [resuming]");
+            std::process::exit(1);
+        }
+    }
+}
+
+/// All tables and the plot.
+fn whole() {
     let (set, mut rows) = (molecules(), Vec::new());
     for molecule in &set {
         let row = measure(molecule);
@@ -861,7 +1020,7 @@ fn main() {
     std::fs::create_dir_all(&folder).expect("a folder for the results");
     let mut table = head() + &ratio_table(&rows) + &summary(&rows) + &above_aim(&rows);
     table += &(length_table(&rows) + &size_table(&groups));
-    table += &(shortest_table(&listings) + &number_table(&numbers));
+    table += &(shortest_table(&listings) + &number_table(&numbers) + &resuming());
     std::fs::write(folder.join("table.md"), &table).expect("a table");
     std::fs::write(folder.join("plot.svg"), picture(&rows).draw().svg()).expect("a plot");
     print!("{table}");

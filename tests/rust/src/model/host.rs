@@ -71,9 +71,15 @@ pub fn mark_length(bytes: &[u8]) -> usize {
     if bytes.len() < SHORTEST_MARK {
         return 0;
     }
-    match field::read_without_zeros(&bytes[20..24]) {
-        Some(atoms) if SHORTEST_MARK + 4 * atoms as usize <= bytes.len() => {
-            SHORTEST_MARK + 4 * atoms as usize
+    let field = |at| field::read_without_zeros(&bytes[at..at + 4]);
+    match (field(16), field(20)) {
+        (Some(bonds), Some(atoms)) => {
+            let size = mark::size(atoms as usize, bonds as usize);
+            if size <= bytes.len() {
+                size
+            } else {
+                0
+            }
         }
         _ => 0,
     }
@@ -116,7 +122,8 @@ mod tests {
     use super::super::field::LIMIT;
     use super::super::list::Listed;
     use super::*;
-    use crate::generate;
+    use crate::generate::{self, Molecule};
+    use crate::rng::Rng;
 
     #[test]
     fn document_by_hand() {
@@ -125,17 +132,23 @@ mod tests {
         let go = |mark: &[u8], budget, room, mark_room| {
             resume(Ok(&lists), mark, budget, room, mark_room)
         };
-        let full = go(&[], 6, 3, 599).expect("accepted");
-        assert_eq!((full.stop, full.mark.len()), (Stop::Full, 99));
-        assert_eq!(mark_length(&full.mark), 99);
-        assert_eq!(mark_length(&full.mark[..98]), 0);
+        let full = go(&[], 6, 3, 9_815).expect("accepted");
+        assert_eq!((full.stop, full.mark.len()), (Stop::Full, 144));
+        assert_eq!(mark_length(&full.mark), 144);
+        assert_eq!(mark_length(&full.mark[..143]), 0);
         assert_eq!(listed(&full.mark), 0);
-        let done = go(&full.mark, 11, 8, 599).expect("accepted");
+        let done = go(&full.mark, 11, 8, 9_815).expect("accepted");
         assert_eq!(done.stop, Stop::Done);
-        assert_eq!((done.mark.len(), listed(&done.mark)), (91, 2));
+        assert_eq!((done.mark.len(), listed(&done.mark)), (136, 2));
         assert_eq!(ring_lines(&done.records), b"   1   2   3\n   1   3   4\n");
-        assert_eq!(go(&full.mark, 1, 0, 598), Err(13));
+        assert_eq!(go(&full.mark, 1, 0, 9_814), Err(13));
+        assert_eq!(go(&full.mark, 1, 0, 599), Err(13));
         assert_eq!(go(b"x", 1, 0, 0), Err(14));
+        // The mark before request F-5, and that of an isomer.
+        assert_eq!(go(&full.mark[..99], 1, 0, 0), Err(14));
+        let isomer = Molecule::new(4, &[(1, 2), (2, 3), (3, 4), (1, 4), (2, 4)]);
+        let strange = mark::write(&isomer.record(), &full.search);
+        assert_eq!(go(&strange, 1, 0, 0), Err(15));
         assert_eq!(resume(Err(3), b"x", 1, 0, 0), Err(3));
         assert_eq!(refusal_line(17), b"refused  17\n");
         let line = b"                   2                   3                  16\n";
@@ -156,10 +169,11 @@ mod tests {
             ([3, 2, 4], "   3   2   4   4   5   0   1"),
         ] {
             let line_2 = "                   0                   0                   0";
-            let expected = format!("{line_1}\n{line_2}\n\n").into_bytes();
-            assert_eq!(go(numbers, 599), Ok(expected));
-            assert_eq!(go(numbers, 598), Err(13));
-            assert_eq!(start(Err(8), numbers, 599), Err(8));
+            let bonds = "   1   2\n   1   3\n   1   4\n   2   3\n   3   4\n";
+            let expected = format!("{line_1}\n{line_2}\n\n{bonds}").into_bytes();
+            assert_eq!(go(numbers, 9_815), Ok(expected));
+            assert_eq!(go(numbers, 9_814), Err(13));
+            assert_eq!(start(Err(8), numbers, 9_815), Err(8));
         }
         for (numbers, rule) in [
             ([4, 0, 0], 16),
@@ -189,8 +203,9 @@ mod tests {
     #[test]
     fn zeros_by_hand() {
         let line_2 = "                   5                   2                   3\n";
-        let mark = format!("   0   0   0   4   5   2   3\n{line_2}   1   2\n").into_bytes();
-        assert_eq!((mark_length(&mark), listed(&mark)), (99, 3));
+        let bonds = "   1   2\n   1   3\n   1   4\n   2   3\n   3   4\n";
+        let mark = format!("   0   0   0   4   5   2   3\n{line_2}   1   2\n{bonds}").into_bytes();
+        assert_eq!((mark_length(&mark), listed(&mark)), (144, 3));
         let with = |at: usize, text: &[u8]| {
             let mut changed = mark.clone();
             changed[at..at + text.len()].copy_from_slice(text);
@@ -198,19 +213,58 @@ mod tests {
         };
         assert_eq!(with(20, b"0002"), (0, 3));
         assert_eq!(with(20, b"0000"), (0, 3));
-        assert_eq!(with(20, b"   0"), (91, 3));
+        assert_eq!(with(20, b"   0"), (136, 3));
         assert_eq!(with(20, b" 002"), (0, 3));
-        assert_eq!(with(69, b"00000000000000000003"), (99, 0));
-        assert_eq!(with(69, b"09999999999999999999"), (99, 0));
-        assert_eq!(with(69, b" 9999999999999999999"), (99, LIMIT));
-        // The other fields are not looked at.
-        assert_eq!(with(16, b"0005"), (99, 3));
-        assert_eq!(with(49, b"00000000000000000002"), (99, 3));
-        // A length of four digits fills its columns.
-        let mut long = mark.clone();
-        long[20..24].copy_from_slice(b"1000");
-        long.resize(4_091, b' ');
-        assert_eq!(mark_length(&long), 4_091);
-        assert_eq!(mark_length(&long[..4_090]), 0);
+        assert_eq!(with(16, b"0005"), (0, 3));
+        assert_eq!(with(16, b"0000"), (0, 3));
+        assert_eq!(with(16, b"    "), (0, 3));
+        assert_eq!(with(16, b"   x"), (0, 3));
+        assert_eq!(with(16, b"   0"), (99, 3));
+        assert_eq!(with(16, b"   6"), (0, 3));
+        assert_eq!(with(16, b"   0   0"), (91, 3));
+        assert_eq!(with(69, b"00000000000000000003"), (144, 0));
+        assert_eq!(with(69, b"09999999999999999999"), (144, 0));
+        assert_eq!(with(69, b" 9999999999999999999"), (144, LIMIT));
+        // The other fields are not looked at, nor the bond lines.
+        assert_eq!(with(12, b"0004"), (144, 3));
+        assert_eq!(with(49, b"00000000000000000002"), (144, 3));
+        assert_eq!(with(99, b"00020001\n"), (144, 3));
+        // A number of four digits fills its columns.
+        let long = |at: usize, size: usize| {
+            let mut long = mark.clone();
+            long[at..at + 4].copy_from_slice(b"1000");
+            long.resize(size, b' ');
+            mark_length(&long)
+        };
+        assert_eq!((long(20, 4_136), long(20, 4_135)), (4_136, 0));
+        assert_eq!((long(16, 9_099), long(16, 9_098)), (9_099, 0));
+        // The most that the two fields can say.
+        let mut most = mark.clone();
+        most[16..24].copy_from_slice(b"99999999");
+        most.resize(91 + 13 * 9_999, 0);
+        assert_eq!(mark_length(&most), 91 + 13 * 9_999);
+        assert_eq!(mark_length(&most[1..]), 0);
+        assert_eq!(mark_length(&most[..91 + 13 * 9_999 - 1]), 0);
+    }
+
+    /// The lengths of marks on molecules of no bonds, of one and of 1,024.
+    #[test]
+    fn lengths_by_hand() {
+        let fresh = Search::fresh(Task::Rings);
+        for (molecule, size) in [
+            (Molecule::new(3, &[]), 91),
+            (Molecule::new(3, &[(1, 3)]), 100),
+            (generate::complete(45), 91 + 9 * 990),
+            (
+                generate::random_molecule(&mut Rng::new(1), 128, 1_024),
+                9_307,
+            ),
+        ] {
+            let mut mark = mark::write(&molecule.record(), &fresh);
+            assert_eq!((mark.len(), mark_length(&mark)), (size, size));
+            assert_eq!(mark_length(&mark[..size - 1]), 0);
+            mark.resize(LONGEST_MARK, 0xA5);
+            assert_eq!(mark_length(&mark), size);
+        }
     }
 }

@@ -226,8 +226,8 @@ mod tests {
             assert_eq!((full.stop, full.made), (Stop::Full, 5));
             assert_eq!(full.search.beginning(), [1, 2]);
             assert_eq!(full.search.next, 3);
-            assert_eq!(save(lists, &full.search, 98), Err(13));
-            assert_eq!(save(lists, &full.search, 99).expect("a mark").len(), 99);
+            assert_eq!(save(lists, &full.search, 143), Err(13));
+            assert_eq!(save(lists, &full.search, 144).expect("a mark").len(), 144);
             let done = go(16, 8);
             assert_eq!((done.stop, done.made), (Stop::Done, 16));
             assert_eq!(done.records, [3, 1, 2, 3, 3, 1, 3, 4]);
