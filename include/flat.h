@@ -12,18 +12,18 @@ extern "C" {
 /* Reads a bond sheet, each of its fields filled by blanks or by zeros. `record`
    is 2,052 bytes: atoms and bonds as 2 bytes each, low byte first, then 2,048
    bytes of rows. Returns 0 (accepted, record written) or the refusal 1 to 8
-   (record unchanged); 200 when record_len is not 2,052 (nothing written,
+   (record unchanged); 10000 when record_len is not 2,052 (nothing written,
    nothing read). */
 uint32_t flat_read_sheet(const uint8_t *sheet, size_t sheet_len,
                          uint8_t *record, size_t record_len);
 
 /* Checks a molecule record given as its parts. 0: it follows the rules;
-   9: it breaks one; 200: rows_len is not 2,048. */
+   9: it breaks one; 10000: rows_len is not 2,048. */
 uint32_t flat_check_record(uint64_t atoms, uint64_t bonds,
                            const uint8_t *rows, size_t rows_len);
 
 /* Judge an atom list, one byte an atom. 1 yes, 0 no, 9 (10, 11 for a path)
-   refused, 200 rows_len is not 2,048. */
+   refused, 10000 rows_len is not 2,048. */
 uint32_t flat_judge_ring(uint64_t atoms, uint64_t bonds,
                          const uint8_t *rows, size_t rows_len,
                          const uint8_t *list, size_t list_len);
@@ -54,8 +54,8 @@ void flat_write_field(uint8_t *field, size_t field_len, uint64_t value);
    are 10 numbers: kind, s, t, length of p, next atom c, trials, extensions,
    listed, used, made; `prefix` are 128 bytes: the atoms of p, then zeros. A
    search is all of these but used and made, which are only results. Each
-   function below returns 200 when rows_len is not 2,048, numbers_len not 10 or
-   prefix_len not 128; that, and every refusal, writes nothing. */
+   function below returns 10000 when rows_len is not 2,048, numbers_len not 10
+   or prefix_len not 128; that, and every refusal, writes nothing. */
 
 /* 0: the fresh search is written (used and made 0); 9 (then 10, 11 for paths
    and for shortest paths, 21 for the rings of at most `size` atoms): refused. */
@@ -82,7 +82,7 @@ uint32_t flat_start_shortest(uint64_t atoms, uint64_t bonds,
 
 /* The number of shortest paths from s to t, each bond of length 1, 0 where t is
    not joined to s. 0: the number is in *count; 9, 10, 11, or 26 when the number
-   is above 9,999,999,999,999,999,999: refused; 200: rows_len is not 2,048.
+   is above 9,999,999,999,999,999,999: refused; 10000: rows_len is not 2,048.
    *count is written only when 0 is returned. */
 uint32_t flat_count_shortest(uint64_t atoms, uint64_t bonds,
                              const uint8_t *rows, size_t rows_len,
@@ -98,9 +98,8 @@ uint32_t flat_run(uint64_t atoms, uint64_t bonds,
                   uint64_t budget, uint8_t *out, size_t out_len);
 
 /* Writes the mark of the search, three lines and a line for each bond: the
-   number of its bytes (91 + 4 * length + 9 * bonds), or 9, 12, 13: refused. (A
-   mark may have 200 bytes, as with 9 bonds and a length of 7; whether 200 is its
-   length or says that a length was wrong, the lengths handed over tell.) */
+   number of its bytes (91 + 4 * length + 9 * bonds), or 9, 12, 13: refused. No
+   mark has 10,000 bytes. */
 uint32_t flat_save(uint64_t atoms, uint64_t bonds,
                    const uint8_t *rows, size_t rows_len,
                    const uint64_t *numbers, size_t numbers_len,

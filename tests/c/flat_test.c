@@ -257,10 +257,10 @@ static void sheets(void) {
     uint8_t longer[RECORD + 1];
     uint8_t *sheet = exact(document, sizeof document - 1);
     memset(longer, PATTERN, sizeof longer);
-    EQUAL(flat_read_sheet(sheet, sizeof document - 1, longer, RECORD + 1), 200);
-    EQUAL(flat_read_sheet(sheet, sizeof document - 1, longer, RECORD - 1), 200);
-    EQUAL(flat_read_sheet(sheet, sizeof document - 1, longer, 0), 200);
-    EQUAL(flat_read_sheet(sheet, 0, longer, ROWS), 200);
+    EQUAL(flat_read_sheet(sheet, sizeof document - 1, longer, RECORD + 1), 10000);
+    EQUAL(flat_read_sheet(sheet, sizeof document - 1, longer, RECORD - 1), 10000);
+    EQUAL(flat_read_sheet(sheet, sizeof document - 1, longer, 0), 10000);
+    EQUAL(flat_read_sheet(sheet, 0, longer, ROWS), 10000);
     CHECK(all_are(longer, sizeof longer, PATTERN));
     free(sheet);
 }
@@ -336,10 +336,10 @@ static void records(void) {
     EQUAL(flat_check_record(128, 1, rows, ROWS), 9);
     EQUAL(flat_check_record(128, UINT64_C(1) << 63, rows, ROWS), 9);
     /* Rows of a wrong length. */
-    EQUAL(flat_check_record(0, 0, rows, ROWS - 1), 200);
-    EQUAL(flat_check_record(129, 0, rows, 0), 200);
+    EQUAL(flat_check_record(0, 0, rows, ROWS - 1), 10000);
+    EQUAL(flat_check_record(129, 0, rows, 0), 10000);
     uint8_t longer[ROWS + 1] = {0};
-    EQUAL(flat_check_record(0, 0, longer, ROWS + 1), 200);
+    EQUAL(flat_check_record(0, 0, longer, ROWS + 1), 10000);
 }
 
 static uint8_t rows[ROWS];
@@ -427,8 +427,8 @@ static void judge(void) {
     EQUAL(PATH(0, 4, "\2\3\4"), 9);
     EQUAL(PATH(2, 2, "\2"), 9);
     /* And a wrong length before 9. */
-    EQUAL(flat_judge_ring(4, 5, rows, ROWS - 1, rows, 0), 200);
-    EQUAL(flat_judge_path(4, 5, rows, ROWS - 1, 0, 0, rows, 0), 200);
+    EQUAL(flat_judge_ring(4, 5, rows, ROWS - 1, rows, 0), 10000);
+    EQUAL(flat_judge_path(4, 5, rows, ROWS - 1, 0, 0, rows, 0), 10000);
 }
 
 /* A field, its value, and whether zeros fill it. */
@@ -813,16 +813,16 @@ static void refused_up_to(void) {
     MARK_REFUSED("   2   3   0   4   5   2   3\n" LINE_2 "   1   4\n" BONDS, 17);
     MARK_REFUSED("   2   2   0   5   5   2   3\n" LINE_2 LINE_3 BONDS, 15);
     MARK_REFUSED("0002   3   0   4   5   2   3\n" LINE_2 LINE_3 BONDS, 14);
-    /* 9 before 21: the bond 1-2 has lost one of its bits. And 200 before both. */
+    /* 9 before 21: the bond 1-2 has lost one of its bits. And 10000 before both. */
     rows[0] = 0x0C;
     now = before;
     EQUAL(start_rings_up_to(&now, 3), 9);
     EQUAL(start_rings_up_to(&now, 2), 9);
     EQUAL(flat_start_rings_up_to(4, 5, rows, ROWS - 1, 2, now.numbers, NUMBERS, now.prefix, PLACES),
-          200);
-    EQUAL(flat_start_rings_up_to(4, 5, rows, ROWS, 2, now.numbers, 9, now.prefix, PLACES), 200);
-    EQUAL(flat_start_rings_up_to(4, 5, rows, ROWS, 2, now.numbers, 11, now.prefix, PLACES), 200);
-    EQUAL(flat_start_rings_up_to(4, 5, rows, ROWS, 2, now.numbers, NUMBERS, now.prefix, 127), 200);
+          10000);
+    EQUAL(flat_start_rings_up_to(4, 5, rows, ROWS, 2, now.numbers, 9, now.prefix, PLACES), 10000);
+    EQUAL(flat_start_rings_up_to(4, 5, rows, ROWS, 2, now.numbers, 11, now.prefix, PLACES), 10000);
+    EQUAL(flat_start_rings_up_to(4, 5, rows, ROWS, 2, now.numbers, NUMBERS, now.prefix, 127), 10000);
     CHECK(same(&now, &before));
 }
 
@@ -936,7 +936,7 @@ static void refused_shortest(void) {
     MARK_REFUSED("   3   1   3   4   5   2   3\n" LINE_2 LINE_3 BONDS, 17);
     MARK_REFUSED("   3   1   3   5   5   2   3\n" LINE_2 LINE_3 BONDS, 15);
     MARK_REFUSED("0003   1   3   4   5   2   3\n" LINE_2 LINE_3 BONDS, 14);
-    /* 9 before 10 and 11: the bond 1-2 has lost one of its bits. And 200 before
+    /* 9 before 10 and 11: the bond 1-2 has lost one of its bits. And 10000 before
        them all. */
     rows[0] = 0x0C;
     now = before;
@@ -944,9 +944,9 @@ static void refused_shortest(void) {
     EQUAL(start_shortest(&now, 0, 4), 9);
     EQUAL(start_shortest(&now, 3, 3), 9);
     EQUAL(flat_start_shortest(4, 5, rows, ROWS - 1, 0, 0, now.numbers, NUMBERS, now.prefix, PLACES),
-          200);
-    EQUAL(flat_start_shortest(4, 5, rows, ROWS, 0, 0, now.numbers, 9, now.prefix, PLACES), 200);
-    EQUAL(flat_start_shortest(4, 5, rows, ROWS, 0, 0, now.numbers, NUMBERS, now.prefix, 129), 200);
+          10000);
+    EQUAL(flat_start_shortest(4, 5, rows, ROWS, 0, 0, now.numbers, 9, now.prefix, PLACES), 10000);
+    EQUAL(flat_start_shortest(4, 5, rows, ROWS, 0, 0, now.numbers, NUMBERS, now.prefix, 129), 10000);
     CHECK(same(&now, &before));
 }
 
@@ -1022,12 +1022,12 @@ static void counts(void) {
     NOT_COUNTED(4, 5, 2, (UINT64_C(1) << 32) + 4, 10);
     NOT_COUNTED(4, 5, UINT64_MAX, UINT64_MAX, 10);
     NOT_COUNTED(4, 5, 2, 2, 11);
-    /* 9 before both, and 200 before it. */
+    /* 9 before both, and 10000 before it. */
     NOT_COUNTED(4, 6, 2, 4, 9);
     NOT_COUNTED(4, 6, 0, 0, 9);
     NOT_COUNTED(129, 5, 2, 2, 9);
-    counted(4, 5, ROWS - 1, 2, 4, 200, NO_COUNT, __LINE__);
-    counted(4, 6, 0, 0, 0, 200, NO_COUNT, __LINE__);
+    counted(4, 5, ROWS - 1, 2, 4, 10000, NO_COUNT, __LINE__);
+    counted(4, 6, 0, 0, 0, 10000, NO_COUNT, __LINE__);
     /* Layers of three: 3 to the 39th is below the limit, 3 to the 40th and the
        42nd are above. 42 layers have 128 atoms and 375 bonds. */
     EQUAL(three_wide_to_t(39), 348);
@@ -1105,8 +1105,7 @@ static void bond_lines(void) {
                  "   1   2\n   1   3\n   1   4\n   2   4\n   3   4\n", 15);
 }
 
-/* Molecules of no bonds and of one, and a mark of 200 bytes, which is also what a
-   wrong length gives: nine bonds, and seven atoms in p. */
+/* Molecules of no bonds and of one, and a chain of ten atoms with seven in p. */
 static void other_bonds(void) {
     static const char none[] =
         "   0   0   0   4   0   0   1\n"
@@ -1361,11 +1360,11 @@ static void searches(void) {
     EQUAL(restore(&now, "", 0), 9);
     CHECK(same(&now, &before));
     /* And wrong lengths before 9. */
-    EQUAL(flat_start_rings(4, 5, rows, ROWS - 1, now.numbers, NUMBERS, now.prefix, PLACES), 200);
-    EQUAL(flat_start_paths(4, 5, rows, ROWS, 1, 2, now.numbers, 9, now.prefix, PLACES), 200);
-    EQUAL(flat_run(4, 5, rows, ROWS, now.numbers, NUMBERS, now.prefix, 127, 1, out, 16), 200);
-    EQUAL(flat_save(4, 5, rows, ROWS, now.numbers, 0, now.prefix, PLACES, mark, 700), 200);
-    EQUAL(flat_restore(4, 5, rows, ROWS, mark, 144, now.numbers, NUMBERS, now.prefix, 0), 200);
+    EQUAL(flat_start_rings(4, 5, rows, ROWS - 1, now.numbers, NUMBERS, now.prefix, PLACES), 10000);
+    EQUAL(flat_start_paths(4, 5, rows, ROWS, 1, 2, now.numbers, 9, now.prefix, PLACES), 10000);
+    EQUAL(flat_run(4, 5, rows, ROWS, now.numbers, NUMBERS, now.prefix, 127, 1, out, 16), 10000);
+    EQUAL(flat_save(4, 5, rows, ROWS, now.numbers, 0, now.prefix, PLACES, mark, 700), 10000);
+    EQUAL(flat_restore(4, 5, rows, ROWS, mark, 144, now.numbers, NUMBERS, now.prefix, 0), 10000);
     CHECK(same(&now, &before));
 }
 

@@ -14,7 +14,7 @@ use Rattle.refusal.specs.declared.Answer.the-variants.{Accepted, Refused}
 use Rattle.refusal.specs.Number.{numberOf}
 use Rattle.sheet.specs.declared.SheetAnswer.{SheetAnswer}
 use Rattle.sheet.specs.Read.{readSheet}
-use Rattle.flat.specs.Codes.{flatBytes, readCode, readOutput}
+use Rattle.flat.specs.Codes.{wrongLength, flatBytes, readCode, readOutput}
 
 pub four-set :
     (xs : List ℕ) (a b c d : ℕ) → 4 ≤ length xs →
@@ -91,7 +91,7 @@ module _ (sheet out : List ℕ) where
   abbrev Left : ℕ → List ℕ → Type 0
   Left code out′ = (code ≡ readCode sheet out) × (out′ ≡ readOutput sheet out)
 
-  pub read-wrong-length : (length out ≡ 2052 → ⊥) → Left 200 out
+  pub read-wrong-length : (length out ≡ 2052 → ⊥) → Left wrongLength out
   unfolding readCode readOutput
   read-wrong-length wrong = (rw (ne-eqb (length out) 2052 wrong), rw (ne-eqb (length out) 2052 wrong))
 

@@ -11,13 +11,13 @@ use Rattle.molecule.specs.declared.Molecule.{Molecule}
 use Rattle.counter.specs.declared.Counted.{Counted}
 use Rattle.counter.specs.declared.Counted.the-variants.{Number, Refused}
 use Rattle.counter.specs.Count.{countShortest}
-use Rattle.flat.specs.Codes.{molecule, countCode, countOutput}
+use Rattle.flat.specs.Codes.{wrongLength, molecule, countCode, countOutput}
 
 module _ (atoms bonds : ℕ) (rows : List ℕ) (s t old : ℕ) where
   abbrev Left : ℕ → ℕ → Type 0
   Left code new = (code ≡ countCode atoms bonds rows s t) × (new ≡ countOutput atoms bonds rows s t old)
 
-  pub count-wrong-length : (length rows ≡ 2048 → ⊥) → Left 200 old
+  pub count-wrong-length : (length rows ≡ 2048 → ⊥) → Left wrongLength old
   unfolding countCode countOutput
   count-wrong-length wrong = (rw (ne-eqb (length rows) 2048 wrong), rw (ne-eqb (length rows) 2048 wrong))
 

@@ -21,7 +21,7 @@ use Rattle.counter.specs.Count.{countShortest}
 
 -- a buffer or rows of the wrong length
 abbrev pub wrongLength : ℕ
-wrongLength = 200
+wrongLength = 10000
 
 abbrev pub answerCode : Answer → ℕ
 answerCode Accepted = 0

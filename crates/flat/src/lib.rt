@@ -74,7 +74,7 @@ pub extern "C" fn flat_read_sheet(sheet: &[u8], record: &mut [u8]) -> u32
     ensures { λ _. ⌜ now («record» .exit) ≡ readOutput (now (sheet .entry)) (now («record» .entry)) ⌝ }
 {
     if record.len() != 2052 {
-        return 200;
+        return 10000;
     }
     let read = sheet::read_sheet(sheet);
     let answer = read.answer;
@@ -94,7 +94,7 @@ pub extern "C" fn flat_check_record(atoms: usize, bonds: usize, rows: &[u8]) -> 
     ensures { λ r. ⌜ r ≡ checkCode atoms bonds (now (rows .entry)) ⌝ }
 {
     if rows.len() != 2048 {
-        return 200;
+        return 10000;
     }
     if molecule::well_formed(assemble(atoms, bonds, rows)) {
         return 0;
@@ -108,7 +108,7 @@ pub extern "C" fn flat_judge_ring(atoms: usize, bonds: usize, rows: &[u8], list:
     ensures { λ r. ⌜ r ≡ ringCode atoms bonds (now (rows .entry)) (now (list .entry)) ⌝ }
 {
     if rows.len() != 2048 {
-        return 200;
+        return 10000;
     }
     verdict_code(judge::judge_ring(assemble(atoms, bonds, rows), list))
 }
@@ -126,7 +126,7 @@ pub extern "C" fn flat_judge_path(
     ensures { λ r. ⌜ r ≡ pathCode atoms bonds (now (rows .entry)) s t (now (list .entry)) ⌝ }
 {
     if rows.len() != 2048 {
-        return 200;
+        return 10000;
     }
     verdict_code(judge::judge_path(assemble(atoms, bonds, rows), s, t, list))
 }
@@ -145,7 +145,7 @@ pub extern "C" fn flat_count_shortest(
     ensures { λ _. ⌜ now (count .exit) ≡ countOutput atoms bonds (now (rows .entry)) s t (now (count .entry)) ⌝ }
 {
     if rows.len() != 2048 {
-        return 200;
+        return 10000;
     }
     let counted = count::count_shortest(assemble(atoms, bonds, rows), s, t);
     match counted {
@@ -316,7 +316,7 @@ pub extern "C" fn flat_start_rings(
         r (now (numbers .exit)) (now (prefix .exit)) ⌝ }
 {
     if !sizes_kept(rows, numbers, prefix) {
-        return 200;
+        return 10000;
     }
     let made = start::start_rings(assemble(atoms, bonds, rows));
     store_made(made, numbers, prefix)
@@ -339,7 +339,7 @@ pub extern "C" fn flat_start_paths(
         r (now (numbers .exit)) (now (prefix .exit)) ⌝ }
 {
     if !sizes_kept(rows, numbers, prefix) {
-        return 200;
+        return 10000;
     }
     let made = start::start_paths(assemble(atoms, bonds, rows), s, t);
     store_made(made, numbers, prefix)
@@ -362,7 +362,7 @@ pub extern "C" fn flat_start_shortest(
         r (now (numbers .exit)) (now (prefix .exit)) ⌝ }
 {
     if !sizes_kept(rows, numbers, prefix) {
-        return 200;
+        return 10000;
     }
     let made = start::start_shortest(assemble(atoms, bonds, rows), s, t);
     store_made(made, numbers, prefix)
@@ -384,7 +384,7 @@ pub extern "C" fn flat_start_rings_up_to(
         r (now (numbers .exit)) (now (prefix .exit)) ⌝ }
 {
     if !sizes_kept(rows, numbers, prefix) {
-        return 200;
+        return 10000;
     }
     let made = start::start_rings_up_to(assemble(atoms, bonds, rows), size);
     store_made(made, numbers, prefix)
@@ -406,7 +406,7 @@ pub extern "C" fn flat_run(
         r (now (numbers .exit)) (now (prefix .exit)) (now (out .exit)) ⌝ }
 {
     if !sizes_kept(rows, numbers, prefix) {
-        return 200;
+        return 10000;
     }
     let q = unpack(numbers, prefix);
     let ran = run::run(assemble(atoms, bonds, rows), q, budget, out);
@@ -428,7 +428,7 @@ pub extern "C" fn flat_save(
         r (now (mark .exit)) ⌝ }
 {
     if !sizes_kept(rows, numbers, prefix) {
-        return 200;
+        return 10000;
     }
     let q = unpack(numbers, prefix);
     let saved = marks::save(assemble(atoms, bonds, rows), q, mark);
@@ -454,7 +454,7 @@ pub extern "C" fn flat_restore(
         r (now (numbers .exit)) (now (prefix .exit)) ⌝ }
 {
     if !sizes_kept(rows, numbers, prefix) {
-        return 200;
+        return 10000;
     }
     let made = marks::restore(assemble(atoms, bonds, rows), mark);
     store_made(made, numbers, prefix)

@@ -1,67 +1,36 @@
 -- The answers of a restore past rule 9, by the rules that lead to each; the definition goes by `cond`.
 -- The code tests the search that it has built from the stored atoms: its tests are those of the mark.
-use Prim.Native.Nat.{ℕ, _≤_}
+use Prim.Native.Nat.{ℕ, _+_, _*_, _≤_}
 use native.Mathlib.Omega.{arith}
 use mathlib.Core.Path.{_≡_, ap, sym, _∙_}
-use mathlib.Core.Bool.{Bool, true, false, not}
-use mathlib.Core.List.{List, map, reverse, reverse-reverse}
+use mathlib.Core.Bool.{Bool, true, false, _&&_, not, and-assoc}
+use mathlib.Core.List.{List, map, reverse-reverse}
 use lib.Dec.{eqb}
 use lib.ListN.{length, take, length-reverse}
-use borrow.Author.Tests.{eq-eqb, eqb-true}
-use Rattle.graph.proofs.Below.{and-both, and-parts, false-of}
+use borrow.Author.Tests.{eq-eqb, ne-eqb, not-false}
+use Rattle.graph.proofs.Below.{and-right}
 use Rattle.enumeration.specs.Words.{Family}
 use Rattle.enumeration.specs.Lawful.{Lawful}
 use Rattle.refusal.specs.declared.Refusal.the-variants as refusal
 use Rattle.molecule.specs.declared.Molecule.{Molecule}
 use Rattle.molecule.specs.Record.{wellFormed}
+use Rattle.molecule.specs.BondList.{ascending}
 use Rattle.molecule.proofs.Bonds.{rule9}
+use Rattle.molecule.proofs.BondLaws.{same-bonds}
 use Rattle.search.specs.declared.Search.{Search}
 use Rattle.search.specs.Place.{familyOf, family, beginning, held, searchAt, kindKept, placeKept}
 use Rattle.search.specs.Entries.{acceptedSearch, refusedSearch}
-use Rattle.search.specs.Mark.{valueAt, valuesAt, markLength, markBeginning, markSearch, layoutKept, belongs, restoreMark}
-use Rattle.search.proofs.Lines.{Layout, layout-of}
+use Rattle.search.specs.Mark.{valueAt, valuesAt, markBonds, markLength, markBeginning, markSearch, bondsFrom, bondsNamed}
+use Rattle.search.specs.Mark.{threeLinesKept, bondLinesKept, layoutKept, belongs, placedSearch, restoreBy, restoreMark}
+use Rattle.search.proofs.Lines.{ThreeLines, three-lines-of}
+use Rattle.search.proofs.BondLines.{bonds-at-length}
 use Rattle.search.proofs.Readings.{family-lawful, family-atoms, place-facts}
 use Rattle.search.proofs.Views.{held-take, held-length}
-use Rattle.mark_reader.specs.Parts.{low, searchOf}
+use Rattle.mark_reader.specs.declared.BondsRead.{BondsRead}
+use Rattle.mark_reader.specs.Parts.{low, searchOf, Placeable}
+use Rattle.mark_reader.specs.Bonds.{linesAfter, ReadsBonds}
 use Rattle.mark_reader.proofs.Layouts.{failed, passed}
 use Rattle.mark_reader.proofs.Stored.{values-size, low-length, stored-open, place-stored}
-
--- ---- rules 14 and 15
-
--- the bytes keep both on a molecule that keeps rule 9
-pub record Owned (mol : Molecule) (bytes : List ℕ) : Type 0 where
-  pub formed : wellFormed mol ≡ true
-  pub layout : Layout bytes
-  pub atoms : valueAt 4 bytes 12 ≡ mol .atoms
-  pub bonds : valueAt 4 bytes 16 ≡ mol .bonds
-
-owned-belongs : {mol : Molecule} {bytes : List ℕ} → Owned mol bytes → belongs mol bytes ≡ true
-owned-belongs {mol} {bytes} o =
-    and-both (eqb (valueAt 4 bytes 12) (mol .atoms)) (eqb (valueAt 4 bytes 16) (mol .bonds))
-    (eq-eqb (valueAt 4 bytes 12) (mol .atoms) (o .atoms))
-    (eq-eqb (valueAt 4 bytes 16) (mol .bonds) (o .bonds))
-
-module _ (mol : Molecule) (bytes : List ℕ) where
-  -- the mark names another number of atoms, or of bonds
-  abbrev differs : Type 0
-  differs = valueAt 4 bytes 12 ≡ mol .atoms → valueAt 4 bytes 16 ≡ mol .bonds → ⊥
-
-  belongs-not : differs → belongs mol bytes ≡ false
-  belongs-not differ =
-      false-of (belongs mol bytes)
-      (λ e.
-      let same = and-parts (eqb (valueAt 4 bytes 12) (mol .atoms)) (eqb (valueAt 4 bytes 16) (mol .bonds)) e in
-      differ (eqb-true (valueAt 4 bytes 12) (mol .atoms) (same .0))
-      (eqb-true (valueAt 4 bytes 16) (mol .bonds) (same .1)))
-
-  module _ (formed : wellFormed mol ≡ true) where
-    pub refuses-bytes : layoutKept bytes ≡ false → refusedSearch refusal.MarkBytes ≡ restoreMark mol bytes
-    unfolding restoreMark
-    refuses-bytes e = rw (formed, e)
-
-    pub refuses-molecule : Layout bytes → differs → refusedSearch refusal.MarkMolecule ≡ restoreMark mol bytes
-    unfolding restoreMark
-    refuses-molecule layout differ = rw (formed, layout-of bytes layout, belongs-not differ)
 
 -- ---- the search that is built from the stored atoms
 
@@ -116,7 +85,7 @@ module _ (mol : Molecule) (bytes : List ℕ) (formed : wellFormed mol ≡ true) 
 
 -- the search q is the one that the bytes name
 pub record ReadFrom (mol : Molecule) (bytes : List ℕ) (q : Search) : Type 0 where
-  pub owned : Owned mol bytes
+  pub placeable : Placeable mol bytes
   pub read : q ≡ built bytes
 
 pub built-of :
@@ -127,56 +96,113 @@ built-of bytes found atoms count = rw (found, atoms, count)
 module _ {mol : Molecule} {bytes : List ℕ} {q : Search} (r : ReadFrom mol bytes q) where
   pub read-short : q .len ≤ 127
   unfolding searchOf
-  read-short = rw (r .read) (r .owned .layout .most)
+  read-short = rw (r .read) (r .placeable .most)
 
   pub read-full : length (q .prefix) ≡ 128
   unfolding searchOf
   read-full =
       let size = low-length bytes (markLength bytes) in
-      rw (r .read) (held-length (map low (markBeginning bytes)) (omega (arith, r .owned .layout .most)))
+      rw (r .read) (held-length (map low (markBeginning bytes)) (omega (arith, r .placeable .most)))
 
   same-kind : markKind mol bytes ≡ kindKept (mol .atoms) (q .kind) (q .s) (q .t)
   unfolding searchOf
   same-kind = rw (r .read)
 
   same-place : markPlace mol bytes ≡ placeKept (family mol q) (beginning q) (q .next)
-  same-place = rw (r .read) (sym (built-place mol bytes (r .owned .formed)))
+  same-place = rw (r .read) (sym (built-place mol bytes (r .placeable .formed)))
 
   -- the code's two tests, and the answer that each leads to
   module _ {kind : Bool} (is-kind : kind ≡ kindKept (mol .atoms) (q .kind) (q .s) (q .t)) where
-    pub refuses-kind : not kind ≡ true → refusedSearch refusal.MarkKind ≡ restoreMark mol bytes
-    unfolding restoreMark
-    refuses-kind e =
-        rw (
-          r .owned .formed,
-          layout-of bytes (r .owned .layout),
-          owned-belongs (r .owned),
-          same-kind ∙ failed is-kind e,
-        )
+    pub refuses-kind : not kind ≡ true → refusedSearch refusal.MarkKind ≡ placedSearch mol bytes
+    unfolding placedSearch
+    refuses-kind e = rw (same-kind ∙ failed is-kind e)
 
     module _ (kept : not kind ≡ false) {place : Bool}
         (is-place : place ≡ placeKept (family mol q) (beginning q) (q .next)) where
-      pub refuses-place : not place ≡ true → refusedSearch refusal.MarkPlace ≡ restoreMark mol bytes
-      unfolding restoreMark
-      refuses-place e =
-          rw (
-            r .owned .formed,
-            layout-of bytes (r .owned .layout),
-            owned-belongs (r .owned),
-            same-kind ∙ passed is-kind kept,
-            same-place ∙ failed is-place e,
-          )
+      pub refuses-place : not place ≡ true → refusedSearch refusal.MarkPlace ≡ placedSearch mol bytes
+      unfolding placedSearch
+      refuses-place e = rw (same-kind ∙ passed is-kind kept, same-place ∙ failed is-place e)
 
-      pub accepts : not place ≡ false → acceptedSearch q ≡ restoreMark mol bytes
-      unfolding restoreMark
+      pub accepts : not place ≡ false → acceptedSearch q ≡ placedSearch mol bytes
+      unfolding placedSearch
       accepts e =
           let allowed = passed is-place e in
-          let named = r .read ∙ built-search mol bytes (r .owned .formed) (rw (r .read) at allowed) in
-          rw (
-            named,
-            r .owned .formed,
-            layout-of bytes (r .owned .layout),
-            owned-belongs (r .owned),
-            same-kind ∙ passed is-kind kept,
-            same-place ∙ allowed,
-          )
+          let named = r .read ∙ built-search mol bytes (r .placeable .formed) (rw (r .read) at allowed) in
+          rw (named, same-kind ∙ passed is-kind kept, same-place ∙ allowed)
+
+-- ---- rule 15
+
+-- n and m are those of a mark, by the tests of the code
+module _ (n m : ℕ) (bytes : List ℕ) (own : Bool) where
+  -- the three tests
+  abbrev ownTests : Bool
+  ownTests = eqb (valueAt 4 bytes 12) n && eqb (markBonds bytes) m && own
+
+  pub other-atoms : (valueAt 4 bytes 12 ≡ n → ⊥) → false ≡ ownTests
+  other-atoms differ = rw (ne-eqb (valueAt 4 bytes 12) n differ)
+
+  module _ (atoms : valueAt 4 bytes 12 ≡ n) where
+    pub other-bonds : (markBonds bytes ≡ m → ⊥) → false ≡ ownTests
+    other-bonds differ = rw (eq-eqb (valueAt 4 bytes 12) n atoms, ne-eqb (markBonds bytes) m differ)
+
+    pub same-counts : markBonds bytes ≡ m → own ≡ ownTests
+    same-counts bonds = rw (eq-eqb (valueAt 4 bytes 12) n atoms, eq-eqb (markBonds bytes) m bonds)
+
+-- ---- rules 14 and 15
+
+module _ (mol : Molecule) (bytes : List ℕ) (formed : wellFormed mol ≡ true) where
+  pub refuses-lines : threeLinesKept 9 bytes ≡ false → refusedSearch refusal.MarkBytes ≡ restoreMark mol bytes
+  unfolding restoreMark restoreBy layoutKept
+  refuses-lines e = rw (formed, e)
+
+-- the three lines are kept, on a molecule that keeps rule 9, and the bond lines are read
+pub record LinesRead (mol : Molecule) (bytes : List ℕ) (r : BondsRead) : Type 0 where
+  pub formed : wellFormed mol ≡ true
+  pub lines : ThreeLines 9 bytes
+  pub read : ReadsBonds (mol .atoms) (mol .rows) bytes (bondsFrom bytes) (markBonds bytes) r
+
+-- the bond lines are those past the three
+pub bonds-read :
+    {n : ℕ} {rows bytes : List ℕ} {k m : ℕ} {r : BondsRead} → k ≡ markLength bytes → m ≡ markBonds bytes →
+    ReadsBonds n rows bytes (91 + 4 * k) m r → ReadsBonds n rows bytes (bondsFrom bytes) (markBonds bytes) r
+bonds-read length-is bonds-is read = rw (length-is, bonds-is) at read
+
+module _ {mol : Molecule} {bytes : List ℕ} {r : BondsRead} (l : LinesRead mol bytes r) where
+  layout-is : layoutKept bytes ≡ r .kept
+  unfolding layoutKept linesAfter
+  layout-is = rw (three-lines-of 9 bytes (l .lines)) (sym (l .read .kept))
+
+  pub refuses-bonds : not (r .kept) ≡ true → refusedSearch refusal.MarkBytes ≡ restoreMark mol bytes
+  unfolding restoreMark restoreBy
+  refuses-bonds e = rw (l .formed, failed (sym layout-is) e)
+
+  pub lines-placeable : Placeable mol bytes
+  lines-placeable =
+      let lines = l .lines in
+      record { formed = l .formed; most = lines .most; room = omega arith }
+
+  module _ (kept : not (r .kept) ≡ false) where
+    right : r .kept ≡ true
+    right = not-false (r .kept) kept
+
+    ordered : ascending (0, 0) (bondsNamed bytes) ≡ true
+    unfolding linesAfter
+    ordered =
+        let lines = bondLinesKept bytes (bondsFrom bytes) (markBonds bytes) in
+        and-right lines (ascending (0, 0) (bondsNamed bytes)) (sym (l .read .kept) ∙ right)
+
+    own-is : belongs mol bytes ≡ ownTests (mol .atoms) (mol .bonds) bytes (r .own)
+    unfolding belongs
+    own-is =
+        let same = same-bonds mol (l .formed) (bondsNamed bytes) ordered in
+        let count = bonds-at-length bytes (bondsFrom bytes) (markBonds bytes) in
+        rw (← same, count, l .read .own right, and-assoc)
+
+    module _ {own : Bool} (is : own ≡ ownTests (mol .atoms) (mol .bonds) bytes (r .own)) where
+      pub refuses-molecule : not own ≡ true → refusedSearch refusal.MarkMolecule ≡ restoreMark mol bytes
+      unfolding restoreMark restoreBy
+      refuses-molecule e = rw (l .formed, layout-is ∙ right, own-is ∙ failed is e)
+
+      pub goes-on : not own ≡ false → placedSearch mol bytes ≡ restoreMark mol bytes
+      unfolding restoreMark restoreBy
+      goes-on e = rw (l .formed, layout-is ∙ right, own-is ∙ passed is e)

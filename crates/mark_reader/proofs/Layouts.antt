@@ -1,6 +1,7 @@
--- Rule 14 by its tests: one that fails makes it false, since rule 14 says that they all pass; past the others it is
+-- The three lines of a mark by their tests: one that fails makes them false, as they ask for all; past the others it is
 -- the last. Fields in a row are read one by one: what is known of those passed is `FieldsPassed`.
 use Prim.Native.Nat.{ℕ, _+_, _*_, _≤_, _<_}
+use native.Mathlib.Nat.{mul-le-mul-right}
 use native.Mathlib.Omega.{arith}
 use mathlib.Core.Path.{_≡_, refl, ap, sym, _∙_}
 use mathlib.Core.Bool.{Bool, true, false, not}
@@ -8,11 +9,12 @@ use mathlib.Core.List.{List}
 use lib.ListN.{length, getD}
 use borrow.Author.Tests.{eq-eqb, eqb-true, not-true, not-false}
 use Rattle.fields.specs.declared.Number.{Number}
+use Rattle.fields.proofs.Laws.{value-fits}
 use Rattle.fields.proofs.Places.{place-first, place-on, place-fits}
 use Rattle.graph.proofs.Below.{clash, false-of, same-test}
 use Rattle.graph.proofs.Loops.{all-fails, all-more, all-done}
-use Rattle.search.specs.Mark.{blanksOnly, fieldKept, fieldsKept, isFeed, markLength, layoutKept}
-use Rattle.search.proofs.Lines.{Layout, layout-of, layout-facts}
+use Rattle.search.specs.Mark.{blanksOnly, fieldKept, fieldsKept, isFeed, markBonds, markLength, threeLinesKept}
+use Rattle.search.proofs.Lines.{ThreeLines, three-lines-of, three-lines-facts}
 
 -- ---- a test t with the result r, and the branch on its negation
 
@@ -70,17 +72,33 @@ module _ {columns : ℕ} {bytes : List ℕ} {at k : ℕ} where
     unfolding fieldsKept
     passed-all h = sym (all-done i k isField (p .within) h (p .kept))
 
--- ---- the whole layout
+-- ---- three lines
 
-module _ {bytes : List ℕ} where
-  pub broken : (Layout bytes → ⊥) → false ≡ layoutKept bytes
-  broken f = sym (false-of (layoutKept bytes) (λ e. f (layout-facts bytes e)))
+-- the bytes of m bonds are no more than 9 × 9,999
+pub bonds-small :
+    (each : ℕ) (bytes : List ℕ) {m : ℕ} → each ≤ 9 → 91 ≤ length bytes → m ≡ markBonds bytes → each * m ≤ 89991
+bonds-small each bytes {m} few size is =
+    let fits = value-fits 4 bytes 16 (omega arith) in
+    omega (arith, mul-le-mul-right m few)
+
+module _ {each : ℕ} {bytes : List ℕ} where
+  pub broken : (ThreeLines each bytes → ⊥) → false ≡ threeLinesKept each bytes
+  broken f = sym (false-of (threeLinesKept each bytes) (λ e. f (three-lines-facts each bytes e)))
 
   -- all tests but the last are passed
   pub last-decides :
-      {k : ℕ} → k ≡ markLength bytes → (getD bytes (90 + 4 * k) 0 ≡ 10 → Layout bytes) →
-      isFeed bytes (90 + 4 * k) ≡ layoutKept bytes
+      {k : ℕ} → k ≡ markLength bytes → (getD bytes (90 + 4 * k) 0 ≡ 10 → ThreeLines each bytes) →
+      isFeed bytes (90 + 4 * k) ≡ threeLinesKept each bytes
   last-decides {k} is f =
-      same-test (isFeed bytes (90 + 4 * k)) (layoutKept bytes)
-      (λ e. layout-of bytes (f (eqb-true (getD bytes (90 + 4 * k) 0) 10 e)))
-      (λ e. eq-eqb (getD bytes (90 + 4 * k) 0) 10 (rw is (layout-facts bytes e .atoms-end)))
+      same-test (isFeed bytes (90 + 4 * k)) (threeLinesKept each bytes)
+      (λ e. three-lines-of each bytes (f (eqb-true (getD bytes (90 + 4 * k) 0) 10 e)))
+      (λ e. eq-eqb (getD bytes (90 + 4 * k) 0) 10 (rw is (three-lines-facts each bytes e .atoms-end)))
+
+-- the number of bytes, by the length k of p and the number m of bonds that they name
+module _ (each : ℕ) (bytes : List ℕ) {k m : ℕ} (length-is : k ≡ markLength bytes) (bonds-is : m ≡ markBonds bytes) where
+  pub other-size : (length bytes ≡ 91 + 4 * k + each * m → ⊥) → false ≡ threeLinesKept each bytes
+  other-size differs = broken (λ lines. differs (rw (length-is, bonds-is) (lines .size)))
+
+  pub same-size :
+      length bytes ≡ 91 + 4 * k + each * m → length bytes ≡ 91 + 4 * markLength bytes + each * markBonds bytes
+  same-size e = rw (length-is, bonds-is) at e

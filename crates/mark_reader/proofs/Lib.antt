@@ -1,3 +1,4 @@
 pub mod Layouts
+pub mod BondReading
 pub mod Stored
 pub mod Answers

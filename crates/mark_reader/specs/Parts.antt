@@ -1,9 +1,14 @@
 -- What the parts of restoring hold. Nothing to believe: the contract of a restore is the definition of marks.
 use Prim.Native.Nat.{ℕ, min, _+_, _*_, _≤_}
+use mathlib.Core.Path.{_≡_}
+use mathlib.Core.Bool.{true}
 use mathlib.Core.List.{List}
 use lib.ListN.{length}
 use Rattle.fields.specs.Field.{valueAt}
+use Rattle.molecule.specs.declared.Molecule.{Molecule}
+use Rattle.molecule.specs.Record.{wellFormed}
 use Rattle.search.specs.declared.Search.{Search}
+use Rattle.search.specs.Mark.{markLength}
 
 -- k atoms fit their array, and their fields are within the bytes
 pub record AtomsFit (bytes : List ℕ) (k : ℕ) : Type 0 where
@@ -28,3 +33,9 @@ searchOf bytes prefix =
       extensions = valueAt 20 bytes 49;
       listed = valueAt 20 bytes 69;
     }
+
+-- rule 9 is kept, and three lines are within the bytes
+pub record Placeable (mol : Molecule) (bytes : List ℕ) : Type 0 where
+  pub formed : wellFormed mol ≡ true
+  pub most : markLength bytes ≤ 127
+  pub room : 91 + 4 * markLength bytes ≤ length bytes

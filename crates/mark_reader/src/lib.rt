@@ -1,19 +1,36 @@
-// Reading a mark (document 01, "Marks"): what bytes restore to on a molecule that rule 9 allows, rules 14 to 17.
+// Reading a mark (document 01, "Marks", and request F-5): what bytes restore to on a molecule that rule 9 allows, rules
+// 14 to 17.
 ghost use mathlib.Core.Path.{_≡_};
-ghost use mathlib.Core.Bool.{true};
+ghost use mathlib.Core.Bool.{true, _&&_};
 ghost use mathlib.Core.List.{map};
 ghost use Prim.Native.Nat.{_+_, _*_, _≤_};
 ghost use lib.ListN.{length};
-ghost use Rattle.fields.specs.Field.{valueAt};
-ghost use Rattle.molecule.specs.Record.{wellFormed};
+ghost use lib.Dec.{eqb};
+ghost use Rattle.fields.specs.Field.{blanksOnly, valueOf, valueAt};
+ghost use Rattle.molecule.specs.Record.{bonded, wellFormed};
 ghost use Rattle.search.specs.Place.{held};
-ghost use Rattle.search.specs.Mark.{fieldsKept, layoutKept, valuesAt, restoreMark};
-ghost use Rattle.mark_reader.specs.Parts.{AtomsFit, low, searchOf};
+ghost use Rattle.search.specs.Mark.{fieldsKept, threeLinesKept, markBonds, valuesAt, placedSearch, restoreMark};
+ghost use Rattle.mark_reader.specs.Parts.{AtomsFit, low, searchOf, Placeable};
+ghost use Rattle.mark_reader.specs.Bonds.{lineAt, followed, BondsIn, ReadsBonds};
+use fields::Number;
 use molecule::Molecule;
 use refusal::Answer;
 use refusal::Refusal;
 use search::Made;
 use search::Search;
+
+// A bond line: whether its bytes are right, and its two atoms.
+struct BondLine {
+    pub kept: bool,
+    pub left: usize,
+    pub right: usize,
+}
+
+// Bond lines: whether they are right and in order, and whether each is a bond of the molecule.
+struct BondsRead {
+    pub kept: bool,
+    pub own: bool,
+}
 
 // The value of a field of 4 columns.
 fn small_at(bytes: &[u8], at: usize) -> usize
@@ -40,9 +57,11 @@ fn fields_kept(bytes: &[u8], columns: usize, at: usize, k: usize) -> bool
     true
 }
 
-// Rule 14: whether the bytes follow the layout.
-fn layout_kept(bytes: &[u8]) -> bool
-    ensures { λ r. ⌜ r ≡ layoutKept (now (bytes .entry)) ⌝ }
+// Whether the bytes are three lines of such fields, and past them so many bytes for each bond: 9, or 0 in marks before
+// request F-5.
+pub fn three_lines_kept(bytes: &[u8], each: usize) -> bool
+    requires { ⌜ each ≤ 9 ⌝ }
+    ensures { λ r. ⌜ r ≡ threeLinesKept each (now (bytes .entry)) ⌝ }
 {
     if bytes.len() < 91 {
         return false;
@@ -63,13 +82,122 @@ fn layout_kept(bytes: &[u8]) -> bool
     if 127 < k {
         return false;
     }
-    if bytes.len() != 91 + 4 * k {
+    if bytes.len() != 91 + 4 * k + each * small_at(bytes, 16) {
         return false;
     }
     if !fields_kept(bytes, 4, 90, k) {
         return false;
     }
     bytes[90 + 4 * k] == 10
+}
+
+// The value of a field, 0 where it is no number field.
+fn small_of(x: Number) -> usize
+    ensures { λ r. ⌜ r ≡ valueOf x ⌝ }
+{
+    match x {
+        Number::Value(v, _) => v as usize,
+        Number::Bad => 0,
+    }
+}
+
+// Whether a line is two fields that zeros do not fill, and a line feed.
+fn line_kept(first: Number, second: Number, end: u8) -> bool
+    ensures { λ r. ⌜ r ≡ (blanksOnly first && blanksOnly second && eqb end 10) ⌝ }
+{
+    if !fields::blanks_only(first) {
+        return false;
+    }
+    if !fields::blanks_only(second) {
+        return false;
+    }
+    end == 10
+}
+
+// The bond line at a place.
+fn bond_line(bytes: &[u8], at: usize) -> BondLine
+    requires { ⌜ at + 9 ≤ length (now bytes) ⌝ }
+    ensures { λ r. ⌜ r ≡ lineAt (now (bytes .entry)) at ⌝ }
+{
+    let first = fields::number_at(bytes, 4, at);
+    let second = fields::number_at(bytes, 4, at + 4);
+    let kept = line_kept(first, second, bytes[at + 8]);
+    let left = small_of(first);
+    let right = small_of(second);
+    BondLine {
+        kept: kept,
+        left: left,
+        right: right,
+    }
+}
+
+// Whether the bond c d has its lower atom first and comes after a b in dictionary order.
+fn follows(a: usize, b: usize, c: usize, d: usize) -> bool
+    ensures { λ r. ⌜ r ≡ followed (a, b) (c, d) ⌝ }
+{
+    if d <= c {
+        return false;
+    }
+    if a < c {
+        return true;
+    }
+    if a != c {
+        return false;
+    }
+    b < d
+}
+
+// Whether a and b are bonded, where the bonds before them are the molecule's own.
+fn also_bonded(own: bool, rows: &[u8; 2048], n: usize, a: usize, b: usize) -> bool
+    requires { ⌜ n ≤ 128 ⌝ }
+    ensures { λ r. ⌜ r ≡ (own && bonded n (now (rows .entry)) a b) ⌝ }
+{
+    if !own {
+        return false;
+    }
+    if !molecule::is_atom(n, a) {
+        return false;
+    }
+    if !molecule::is_atom(n, b) {
+        return false;
+    }
+    molecule::linked(rows, a - 1, b - 1)
+}
+
+// So many bond lines from a place on, in one pass; a b is the bond of the line above.
+fn read_bonds(rows: &[u8; 2048], n: usize, bytes: &[u8], from: usize, count: usize) -> BondsRead
+    requires { ⌜ BondsIn n (now bytes) from count ⌝ }
+    ensures { λ r. ⌜ ReadsBonds n (now (rows .entry)) (now (bytes .entry)) from count r ⌝ }
+{
+    let mut a: usize = 0;
+    let mut b: usize = 0;
+    let mut own = true;
+    let mut at = from;
+    let mut rest = count;
+    while 0 < rest {
+        let line = bond_line(bytes, at);
+        if !line.kept {
+            return BondsRead {
+                kept: false,
+                own: false,
+            };
+        }
+        if !follows(a, b, line.left, line.right) {
+            return BondsRead {
+                kept: false,
+                own: false,
+            };
+        }
+        own = also_bonded(own, rows, n, line.left, line.right);
+        a = line.left;
+        b = line.right;
+        at += 9;
+        rest -= 1;
+    }
+    BondsRead {
+        kept: true,
+        own: own,
+    }
 }
 
 // An atom in a byte. Above 255 it is 255, which is no atom either.
@@ -122,20 +250,26 @@ fn search_of(bytes: &[u8], prefix: [u8; 128]) -> Search
     }
 }
 
-// Restores a search from a mark, on a molecule that rule 9 allows: rules 14, 15, 16, 17.
-pub fn restore_checked(m: Molecule, bytes: &[u8]) -> Made
-    requires { ⌜ wellFormed m ≡ true ⌝ }
-    ensures { λ r. ⌜ r ≡ restoreMark m (now (bytes .entry)) ⌝ }
+// Rule 15: whether a mark names n atoms and m bonds, and, where `own` says so, the bonds themselves.
+pub fn is_own(n: usize, m: usize, bytes: &[u8], own: bool) -> bool
+    requires { ⌜ 91 ≤ length (now bytes) ⌝ }
+    ensures { λ r. ⌜
+        r ≡ (eqb (valueAt 4 (now (bytes .entry)) 12) n && eqb (markBonds (now (bytes .entry))) m && own) ⌝ }
 {
-    if !layout_kept(bytes) {
-        return search::refused_search(Refusal::MarkBytes);
+    if small_at(bytes, 12) != n {
+        return false;
     }
-    if small_at(bytes, 12) != m.atoms {
-        return search::refused_search(Refusal::MarkMolecule);
+    if small_at(bytes, 16) != m {
+        return false;
     }
-    if small_at(bytes, 16) != m.bonds {
-        return search::refused_search(Refusal::MarkMolecule);
-    }
+    own
+}
+
+// Rules 16 and 17: the search that three lines name, on a molecule that rule 9 allows.
+pub fn placed_search(m: Molecule, bytes: &[u8]) -> Made
+    requires { ⌜ Placeable m (now bytes) ⌝ }
+    ensures { λ r. ⌜ r ≡ placedSearch m (now (bytes .entry)) ⌝ }
+{
     let k = small_at(bytes, 20);
     let q = search_of(bytes, atoms_of(bytes, k));
     if !search_rules::kind_kept(m.atoms, q.kind, q.s, q.t) {
@@ -148,4 +282,24 @@ pub fn restore_checked(m: Molecule, bytes: &[u8]) -> Made
         answer: Answer::Accepted,
         search: q,
     }
+}
+
+// Restores a search from a mark, on a molecule that rule 9 allows: rules 14, 15, 16, 17.
+pub fn restore_checked(m: Molecule, bytes: &[u8]) -> Made
+    requires { ⌜ wellFormed m ≡ true ⌝ }
+    ensures { λ r. ⌜ r ≡ restoreMark m (now (bytes .entry)) ⌝ }
+{
+    if !three_lines_kept(bytes, 9) {
+        return search::refused_search(Refusal::MarkBytes);
+    }
+    let rows = m.rows;
+    let from = 91 + 4 * small_at(bytes, 20);
+    let bonds = read_bonds(&rows, m.atoms, bytes, from, small_at(bytes, 16));
+    if !bonds.kept {
+        return search::refused_search(Refusal::MarkBytes);
+    }
+    if !is_own(m.atoms, m.bonds, bytes, bonds.own) {
+        return search::refused_search(Refusal::MarkMolecule);
+    }
+    placed_search(m, bytes)
 }

@@ -125,7 +125,7 @@ mod c {
 }
 
 /// The answer to rows, a record, numbers or a prefix of the wrong length.
-pub const WRONG_LENGTH: u32 = 200;
+pub const WRONG_LENGTH: u32 = 10_000;
 
 /// The answer of [`read_field`] to bytes that are no number field.
 pub const NO_FIELD: u64 = u64::MAX;

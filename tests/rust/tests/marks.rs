@@ -677,7 +677,7 @@ fn marks_without_lines() {
 }
 
 /// The longest marks that there are: 119 atoms in the beginning and 1,024 bonds;
-/// and one of 200 bytes, the number that a wrong length gives.
+/// and one of a chain.
 #[test]
 fn longest_marks() {
     let mut calls = Calls::new(84);

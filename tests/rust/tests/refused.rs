@@ -403,7 +403,7 @@ fn rule_9() {
     calls.at_least(1_000, "restore", &[0, 9, 14]);
 }
 
-/// Buffers of wrong lengths: 200 before anything else, and nothing written.
+/// Buffers of wrong lengths: 10,000 before anything else, and nothing written.
 #[test]
 fn wrong_lengths() {
     let document = generate::document().record();
