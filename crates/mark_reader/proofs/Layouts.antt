@@ -76,9 +76,9 @@ module _ {columns : ℕ} {bytes : List ℕ} {at k : ℕ} where
 
 -- the bytes of m bonds are no more than 9 × 9,999
 pub bonds-small :
-    (each : ℕ) (bytes : List ℕ) {m : ℕ} → each ≤ 9 → 91 ≤ length bytes → m ≡ markBonds bytes → each * m ≤ 89991
-bonds-small each bytes {m} few size is =
-    let fits = value-fits 4 bytes 16 (omega arith) in
+    (each : ℕ) (bytes : List ℕ) {m : ℕ} → each ≤ 9 → m ≡ markBonds bytes → each * m ≤ 89991
+bonds-small each bytes {m} few is =
+    let fits = value-fits 4 bytes 16 in
     omega (arith, mul-le-mul-right m few)
 
 module _ {each : ℕ} {bytes : List ℕ} where

@@ -24,7 +24,7 @@ long c = c .before .before .before .before .before .before .before .before .befo
 bonds-few : (c : tie.After-small-at2) → start (long c) .args .each * c .small-at2 .result ≤ 89991
 bonds-few c =
     let first = start (long c) in
-    bonds-small _ (first .args .bytes .now) (first .pre) (long c .if1 .left) (c .small-at2 .ensures)
+    bonds-small _ (first .args .bytes .now) (first .pre) (c .small-at2 .ensures)
 
 -- ---- the needs
 
