@@ -11,12 +11,12 @@ use Rattle.search.specs.declared.Search.{Search}
 use Rattle.search.specs.declared.Saved.the-variants.{Refused}
 use Rattle.search.specs.Place.{restorable}
 use Rattle.search.specs.Entries.{refusedSearch}
-use Rattle.search.specs.Mark.{saveAnswer, saveOutput, restoreMark}
+use Rattle.search.specs.Mark.{saveAnswer, saveOutput, restoreBy, restoreMark}
 use Rattle.search.proofs.MarkLaws.{save-record, save-search, save-refused}
 
 module _ (mol : Molecule) (bytes : List ℕ) where
   pub restore-record : wellFormed mol ≡ false → refusedSearch refusal.Record ≡ restoreMark mol bytes
-  unfolding restoreMark
+  unfolding restoreMark restoreBy
   restore-record e = rw e
 
 module _ (mol : Molecule) (q : Search) (out : List ℕ) where
