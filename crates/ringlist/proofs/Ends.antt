@@ -28,7 +28,7 @@ use Rattle.search.proofs.Views.{state-search}
 use Rattle.search.proofs.Readings.{family-atoms}
 use Rattle.history.specs.Calls.{Call, runs, Standing, start, refused, afterAccepted, afterCall, standing, History}
 use Rattle.history.specs.Demand.{Progress, Demand}
-use Rattle.history.proofs.Entered.{atoms-most}
+use Rattle.molecule.proofs.Bonds.{rule9}
 use Rattle.history.proofs.Each.{rings-demand3, rings-kept}
 use Rattle.history.proofs.Demand3.{fresh-sound, fresh-reached}
 use Rattle.history.proofs.Reached.{list-reached}
@@ -228,7 +228,7 @@ module _ {m : Molecule} {q : Search} (s : Stands m q) where
       by (rw (← s .search-is) at (demand s .goes-on .progress budget output trials room)) (stops .0) (stops .1)
     where
       atoms : m .atoms ≤ 128
-      atoms = atoms-most m (s .good)
+      atoms = rule9 m (s .good) .atoms-high
 
       squares : 2 * m .atoms * m .atoms ≤ 2 * 128 * 128
       squares = mul-le-mul (mul-le-mul {n₁ = 2} {n₂ = 2} (omega arith) atoms) atoms

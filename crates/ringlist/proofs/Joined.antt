@@ -27,7 +27,7 @@ use Rattle.search.specs.declared.Search.{Search}
 use Rattle.search.specs.Place.{searchAt, freshSearch}
 use Rattle.search.proofs.Readings.{family-atoms, family-lawful}
 use Rattle.search.proofs.Views.{state-search}
-use Rattle.history.proofs.Entered.{atoms-most}
+use Rattle.molecule.proofs.Bonds.{rule9}
 use Rattle.search.specs.Entries.{runOutput}
 use Rattle.report.specs.Lines.{refusalLine, ringLines, linesOf, countLine, printed, printedOn}
 use Rattle.report.proofs.Texts.{printed-whole}
@@ -202,7 +202,7 @@ final-is {m} s over =
     let F = ringsOf m in
     let L = family-lawful m 0 0 0 in
     let at-trials = stands-at s in
-    let short : F .atoms ≤ 128 = omega (arith, family-atoms m 0 0 0, atoms-most m (s .good)) in
+    let short : F .atoms ≤ 128 = omega (arith, family-atoms m 0 0 0, rule9 m (s .good) .atoms-high) in
     let over-there = over-state m (steps F (at-trials .made) fresh) (subst (OverAt m) (at-trials .search-is) over) in
     let same = over-is F L (at-trials .made) (at-trials .bounded) over-there in
     at-trials .search-is ∙ ap (searchAt 0 0 0) (same ∙ sym (whole-is F L short))

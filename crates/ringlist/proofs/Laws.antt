@@ -20,7 +20,7 @@ use Rattle.enumeration.proofs.Basics.{Decided, decided}
 use Rattle.molecule.specs.declared.Molecule.{Molecule}
 use Rattle.molecule.specs.Record.{wellFormed}
 use Rattle.search.proofs.Readings.{family-atoms, family-lawful}
-use Rattle.history.proofs.Entered.{atoms-most}
+use Rattle.molecule.proofs.Bonds.{rule9}
 use Rattle.report.specs.Lines.{linesOf, countLine}
 use Rattle.ringlist.specs.declared.text.Listing.{Listing}
 use Rattle.ringlist.specs.Text.{ringsOf, wholeRun, listingText, printedText}
@@ -32,7 +32,7 @@ module _ (m : Molecule) (good : wellFormed m ≡ true) where
   lawful = family-lawful m 0 0 0
 
   short : ringsOf m .atoms ≤ 128
-  short = omega (arith, family-atoms m 0 0 0, atoms-most m good)
+  short = omega (arith, family-atoms m 0 0 0, rule9 m good .atoms-high)
 
   -- The search of the definition ends done or limit, never spent or full
   pub ends-done-or-limit : (wholeRun m .stop ≡ Done) ⊎ (wholeRun m .stop ≡ Limit)
