@@ -3,9 +3,8 @@
 use Prim.Native.Nat.{ℕ, _+_, _*_, _≤_}
 use native.Mathlib.Omega.{arith}
 use mathlib.Core.Path.{_≡_, ap, sym, _∙_}
-use mathlib.Core.Bool.{Bool, true, false, _&&_, not, and-assoc}
+use mathlib.Core.Bool.{Bool, true, false, not, and-assoc}
 use mathlib.Core.List.{List, map, reverse-reverse}
-use lib.Dec.{eqb}
 use lib.ListN.{length, take, length-reverse}
 use borrow.Author.Tests.{eq-eqb, ne-eqb, not-false}
 use Rattle.graph.proofs.Below.{and-right}
@@ -28,7 +27,7 @@ use Rattle.search.proofs.Readings.{family-lawful, family-atoms, place-facts}
 use Rattle.search.proofs.Views.{held-take, held-length}
 use Rattle.mark_reader.specs.declared.BondsRead.{BondsRead}
 use Rattle.mark_reader.specs.Parts.{low, searchOf, Placeable}
-use Rattle.mark_reader.specs.Bonds.{linesAfter, ReadsBonds}
+use Rattle.mark_reader.specs.Bonds.{linesAfter, ReadsBonds, namesOwn}
 use Rattle.mark_reader.proofs.Layouts.{failed, passed}
 use Rattle.mark_reader.proofs.Stored.{values-size, low-length, stored-open, place-stored}
 
@@ -132,20 +131,18 @@ module _ {mol : Molecule} {bytes : List ℕ} {q : Search} (r : ReadFrom mol byte
 
 -- ---- rule 15
 
--- n and m are those of a mark, by the tests of the code
 module _ (n m : ℕ) (bytes : List ℕ) (own : Bool) where
-  -- the three tests
-  abbrev ownTests : Bool
-  ownTests = eqb (valueAt 4 bytes 12) n && eqb (markBonds bytes) m && own
-
-  pub other-atoms : (valueAt 4 bytes 12 ≡ n → ⊥) → false ≡ ownTests
+  pub other-atoms : (valueAt 4 bytes 12 ≡ n → ⊥) → false ≡ namesOwn n m bytes own
+  unfolding namesOwn
   other-atoms differ = rw (ne-eqb (valueAt 4 bytes 12) n differ)
 
   module _ (atoms : valueAt 4 bytes 12 ≡ n) where
-    pub other-bonds : (markBonds bytes ≡ m → ⊥) → false ≡ ownTests
+    pub other-bonds : (markBonds bytes ≡ m → ⊥) → false ≡ namesOwn n m bytes own
+    unfolding namesOwn
     other-bonds differ = rw (eq-eqb (valueAt 4 bytes 12) n atoms, ne-eqb (markBonds bytes) m differ)
 
-    pub same-counts : markBonds bytes ≡ m → own ≡ ownTests
+    pub same-counts : markBonds bytes ≡ m → own ≡ namesOwn n m bytes own
+    unfolding namesOwn
     same-counts bonds = rw (eq-eqb (valueAt 4 bytes 12) n atoms, eq-eqb (markBonds bytes) m bonds)
 
 -- ---- rules 14 and 15
@@ -191,14 +188,14 @@ module _ {mol : Molecule} {bytes : List ℕ} {r : BondsRead} (l : LinesRead mol 
         let lines = bondLinesKept bytes (bondsFrom bytes) (markBonds bytes) in
         and-right lines (ascending (0, 0) (bondsNamed bytes)) (sym (l .read .kept) ∙ right)
 
-    own-is : belongs mol bytes ≡ ownTests (mol .atoms) (mol .bonds) bytes (r .own)
-    unfolding belongs
+    own-is : belongs mol bytes ≡ namesOwn (mol .atoms) (mol .bonds) bytes (r .own)
+    unfolding belongs namesOwn
     own-is =
         let same = same-bonds mol (l .formed) (bondsNamed bytes) ordered in
         let count = bonds-at-length bytes (bondsFrom bytes) (markBonds bytes) in
         rw (← same, count, l .read .own right, and-assoc)
 
-    module _ {own : Bool} (is : own ≡ ownTests (mol .atoms) (mol .bonds) bytes (r .own)) where
+    module _ {own : Bool} (is : own ≡ namesOwn (mol .atoms) (mol .bonds) bytes (r .own)) where
       pub refuses-molecule : not own ≡ true → refusedSearch refusal.MarkMolecule ≡ restoreMark mol bytes
       unfolding restoreMark restoreBy
       refuses-molecule e = rw (l .formed, layout-is ∙ right, own-is ∙ failed is e)

@@ -38,7 +38,7 @@ line-read bytes at first-is second-is kept-is left-is right-is =
 
 -- ---- one bond after another
 
-module _ (a b : ℕ) {l r : ℕ} where
+module _ (a b l r : ℕ) where
   pub high-first : r ≤ l → false ≡ followed (a, b) (l, r)
   unfolding followed
   high-first h = rw (le-ltb l r h)

@@ -4,10 +4,10 @@ use mathlib.Core.Path.{_≡_}
 use mathlib.Core.Bool.{Bool, true, _&&_}
 use mathlib.Core.List.{List}
 use lib.ListN.{length}
-use lib.Dec.{ltb}
+use lib.Dec.{ltb, eqb}
 use Rattle.molecule.specs.BondList.{Bond, ascending, comesBefore}
 use Rattle.molecule.specs.Parts.{eachBonded}
-use Rattle.search.specs.Mark.{valueAt, fieldsKept, isFeed, bondLinesKept, bondsAt}
+use Rattle.search.specs.Mark.{valueAt, fieldsKept, isFeed, markBonds, bondLinesKept, bondsAt}
 use Rattle.mark_reader.specs.declared.BondLine.{BondLine}
 use Rattle.mark_reader.specs.declared.BondsRead.{BondsRead}
 
@@ -37,3 +37,7 @@ pub record BondsIn (n : ℕ) (bytes : List ℕ) (at k : ℕ) : Type 0 where
 pub record ReadsBonds (n : ℕ) (rows bytes : List ℕ) (at k : ℕ) (r : BondsRead) : Type 0 where
   pub kept : r .kept ≡ linesAfter (0, 0) bytes at k
   pub own : r .kept ≡ true → r .own ≡ eachBonded n rows (bondsAt bytes at k)
+
+-- a mark names n atoms and m bonds, and `own`, whether its bonds are the record's, is true
+unfoldable pub namesOwn : ℕ → ℕ → List ℕ → Bool → Bool
+namesOwn n m bytes own = eqb (valueAt 4 bytes 12) n && eqb (markBonds bytes) m && own

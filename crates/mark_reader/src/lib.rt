@@ -9,9 +9,9 @@ ghost use lib.Dec.{eqb};
 ghost use Rattle.fields.specs.Field.{blanksOnly, valueOf, valueAt};
 ghost use Rattle.molecule.specs.Record.{bonded, wellFormed};
 ghost use Rattle.search.specs.Place.{held};
-ghost use Rattle.search.specs.Mark.{fieldsKept, threeLinesKept, markBonds, valuesAt, placedSearch, restoreMark};
+ghost use Rattle.search.specs.Mark.{fieldsKept, threeLinesKept, valuesAt, placedSearch, restoreMark};
 ghost use Rattle.mark_reader.specs.Parts.{AtomsFit, low, searchOf, Placeable};
-ghost use Rattle.mark_reader.specs.Bonds.{lineAt, followed, BondsIn, ReadsBonds};
+ghost use Rattle.mark_reader.specs.Bonds.{lineAt, followed, BondsIn, ReadsBonds, namesOwn};
 use fields::Number;
 use molecule::Molecule;
 use refusal::Answer;
@@ -147,7 +147,7 @@ fn follows(a: usize, b: usize, c: usize, d: usize) -> bool
     b < d
 }
 
-// Whether a and b are bonded, where the bonds before them are the molecule's own.
+// Whether a and b are bonded too, where `own` says that the pairs before them are.
 fn also_bonded(own: bool, rows: &[u8; 2048], n: usize, a: usize, b: usize) -> bool
     requires { ⌜ n ≤ 128 ⌝ }
     ensures { λ r. ⌜ r ≡ (own && bonded n (now (rows .entry)) a b) ⌝ }
@@ -164,7 +164,7 @@ fn also_bonded(own: bool, rows: &[u8; 2048], n: usize, a: usize, b: usize) -> bo
     molecule::linked(rows, a - 1, b - 1)
 }
 
-// So many bond lines from a place on, in one pass; a b is the bond of the line above.
+// So many bond lines from a place on, in one pass: a b is the bond of the line above, or 0 0 above the first.
 fn read_bonds(rows: &[u8; 2048], n: usize, bytes: &[u8], from: usize, count: usize) -> BondsRead
     requires { ⌜ BondsIn n (now bytes) from count ⌝ }
     ensures { λ r. ⌜ ReadsBonds n (now (rows .entry)) (now (bytes .entry)) from count r ⌝ }
@@ -250,11 +250,10 @@ fn search_of(bytes: &[u8], prefix: [u8; 128]) -> Search
     }
 }
 
-// Rule 15: whether a mark names n atoms and m bonds, and, where `own` says so, the bonds themselves.
+// Rule 15: whether a mark names n atoms and m bonds, where `own` says whether its bonds are the molecule's.
 pub fn is_own(n: usize, m: usize, bytes: &[u8], own: bool) -> bool
     requires { ⌜ 91 ≤ length (now bytes) ⌝ }
-    ensures { λ r. ⌜
-        r ≡ (eqb (valueAt 4 (now (bytes .entry)) 12) n && eqb (markBonds (now (bytes .entry))) m && own) ⌝ }
+    ensures { λ r. ⌜ r ≡ namesOwn n m (now (bytes .entry)) own ⌝ }
 {
     if small_at(bytes, 12) != n {
         return false;

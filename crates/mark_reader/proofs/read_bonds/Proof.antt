@@ -1,5 +1,6 @@
 -- `mark_reader::read_bonds` meets its contract.
 -- The invariant is `Reading`: the lines still to be read decide as all of them do.
+use Prim.Native.Nat.{_<_}
 use native.Mathlib.Omega.{arith}
 use borrow.Author.Tests.{not-true, not-false}
 use Rattle.mark_reader.proofs.BondReading.{Reading, reading-none, reading-all, reading-fits}
@@ -16,19 +17,24 @@ abbrev μ-loop : tie.MeasureT-loop
 abbrev Place : (tie.InvT-loop → tie.MeasureT-loop → Type 0) → Type 0
 Place place = place Inv-loop μ-loop
 
+-- ---- what is known in a turn
+
+more : (c : Place tie.In-loop) → 0 < c .before .loop .rest
+more c = omega arith
+
 -- ---- the needs (`search` finds a place in c by its type)
 
 loop-holds : tie.Need-loop-holds Inv-loop μ-loop
 loop-holds c = let start : Place tie.Start = search in reading-none (start .pre .room)
 
 bond-line-requires : tie.Need-bond-line-requires Inv-loop μ-loop
-bond-line-requires c κs = reading-fits (c .before .loop .inv) (c .loop-test .taken)
+bond-line-requires c κs = reading-fits (c .before .loop .inv) (more c)
 
 returns : tie.Need-returns Inv-loop μ-loop
 returns c =
     let turn : Place tie.In-loop = search in
     let line : Place tie.After-bond-line = search in
-    reading-bad (turn .before .loop .inv) (turn .loop-test .taken) (line .bond-line .ensures)
+    reading-bad (turn .before .loop .inv) (more turn) (line .bond-line .ensures)
     (not-true _ (c .if1 .taken))
 
 returns-2 : tie.Need-returns-2 Inv-loop μ-loop
@@ -36,13 +42,13 @@ returns-2 c =
     let turn : Place tie.In-loop = search in
     let line : Place tie.After-bond-line = search in
     let told : Place tie.After-follows = search in
-    reading-early (turn .before .loop .inv) (turn .loop-test .taken) (line .bond-line .ensures)
+    reading-early (turn .before .loop .inv) (more turn) (line .bond-line .ensures)
     (told .follows .ensures) (not-true _ (c .if2 .taken))
 
 add-at : tie.Need-add-at Inv-loop μ-loop
 add-at c =
     let turn : Place tie.In-loop = search in
-    omega (arith, reading-fits (turn .before .loop .inv) (turn .loop-test .taken))
+    omega (arith, reading-fits (turn .before .loop .inv) (more turn))
 
 loop-again : tie.Need-loop-again Inv-loop μ-loop
 loop-again c =
@@ -52,7 +58,7 @@ loop-again c =
     let told : Place tie.After-follows = search in
     let after : Place tie.Else2 = search in
     let own : Place tie.After-also-bonded = search in
-    reading-more (turn .before .loop .inv) (turn .loop-test .taken) (line .bond-line .ensures)
+    reading-more (turn .before .loop .inv) (more turn) (line .bond-line .ensures)
     (not-false _ (kept .if1 .left)) (told .follows .ensures) (not-false _ (after .if2 .left))
     (own .also-bonded .ensures)
 

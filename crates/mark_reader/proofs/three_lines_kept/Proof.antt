@@ -8,23 +8,14 @@ use Rattle.mark_reader.proofs.Layouts.{other-size, same-size, last-deci
 use Rattle.mark_reader.proofs.three_lines_kept.Statement.{statement}
 use Rattle.mark_reader.proofs.three_lines_kept.Tie as tie
 
--- ---- the places: each name goes back from a later place to an earlier one
+-- ---- the place where the number of bonds is read, and what is known there: the bytes of the bonds
 -- (in a proof, the argument `(search)` is a place: it is found in c by its type)
 
--- from where there are 91 bytes
-abbrev start : tie.Else1 → tie.Start
-start c = c .before .before
+abbrev start : tie.After-small-at2 → tie.Start
+start c = c .before .before .before .before .before .before .before .before .before .before .before .before .before
 
--- from where the number of bonds is read
-abbrev long : tie.After-small-at2 → tie.Else1
-long c = c .before .before .before .before .before .before .before .before .before .before .before
-
--- ---- what is known there: the bytes of the bonds
-
-bonds-few : (c : tie.After-small-at2) → start (long c) .args .each * c .small-at2 .result ≤ 89991
-bonds-few c =
-    let first = start (long c) in
-    bonds-small _ (first .args .bytes .now) (first .pre) (c .small-at2 .ensures)
+bonds-few : (c : tie.After-small-at2) → start c .args .each * c .small-at2 .result ≤ 89991
+bonds-few c = bonds-small _ (start c .args .bytes .now) (start c .pre) (c .small-at2 .ensures)
 
 -- ---- the needs
 

@@ -17,7 +17,7 @@ add-size-2 : tie.Need-add-size-2
 add-size-2 c = omega (arith, saving-short (saving (search)), saving-few (saving (search)))
 
 returns : tie.Need-returns
-returns c = saved-room (saving (search)) _ (c .if1 .taken)
+returns c = saved-room (saving (search)) _ (omega arith)
 
 put-mark-requires : tie.Need-put-mark-requires
 put-mark-requires c κs = saving-fits (saving (search)) _ (c .before .if1 .left)
