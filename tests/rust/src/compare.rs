@@ -296,7 +296,6 @@ impl Calls {
             Ok(bytes) => (bytes.len() as u32, mark.begins(bytes)),
             Err(rule) => (*rule, mark.is_untouched()),
         };
-        let now = mark.buffer().escape_ascii().to_string();
         self.end(
             "save",
             (answer, code),
@@ -305,7 +304,10 @@ impl Calls {
                 ("numbers", numbers.is_untouched()),
                 ("prefix", prefix.is_untouched()),
             ],
-            || format!("{search:?}\nmark now {now}\non {}", on.describe()),
+            || {
+                let now = mark.content().escape_ascii();
+                format!("{search:?}\nmark now {now}\non {}", on.describe())
+            },
         );
         expected
     }

@@ -62,6 +62,11 @@ impl<T: Copy + PartialEq> Guarded<T> {
         &mut self.items[self.start..self.end]
     }
 
+    /// What it holds now.
+    pub fn content(&self) -> &[T] {
+        &self.items[self.start..self.end]
+    }
+
     /// Nothing was written, in the buffer or in its margins.
     pub fn is_untouched(&self) -> bool {
         self.items == self.before

@@ -303,8 +303,8 @@ pub fn list(sheet: &[u8], mark: &[u8], mut next: impl FnMut() -> (u64, usize)) -
             used += 1 + usize::from(rings[used]);
         }
         let len = mark_length(&saved);
-        assert!(rings[used..].iter().all(|&byte| byte == fill));
-        assert!(saved[len..].iter().all(|&byte| byte == !fill));
+        assert!(rings[used..] == vec![fill; room - used]);
+        assert!(saved[len..] == [!fill; LONGEST_MARK + 41][len..]);
         whole.sheet.extend_from_slice(&rings[..used]);
         whole.mark = saved[..len].to_vec();
         whole.calls += 1;
