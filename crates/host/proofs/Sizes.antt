@@ -35,7 +35,7 @@ listed-kept {bytes = bytes} lines =
     allBelow-at 3 (λ (i : ℕ). fieldKept 20 bytes (29 + 20 * i))
     (unfold fieldsKept in (lines .counts-kept)) 2 (omega arith)
 
--- fields of the first line that say how long a mark is
+-- the fields of the first line
 head-kept :
     {perBond : ℕ} {bytes : List ℕ} → ThreeLines perBond bytes → (i : ℕ) → i < 7 → fieldKept 4 bytes (4 * i) ≡ true
 head-kept {bytes = bytes} lines =

@@ -15,7 +15,7 @@ use Rattle.molecule.specs.declared.Molecule.{Molecule}
 use Rattle.molecule.specs.Record.{wellFormed}
 use Rattle.molecule.specs.BondList.{ascending}
 use Rattle.molecule.proofs.Bonds.{rule9}
-use Rattle.molecule.proofs.BondLaws.{same-bonds}
+use Rattle.molecule.proofs.BondLaws.{ascending-bonds}
 use Rattle.search.specs.declared.Search.{Search}
 use Rattle.search.specs.Place.{familyOf, family, beginning, held, searchAt, kindKept, placeKept}
 use Rattle.search.specs.Entries.{acceptedSearch, refusedSearch}
@@ -159,10 +159,10 @@ pub record LinesRead (mol : Molecule) (bytes : List ℕ) (r : BondsRead) : Type 
   pub read : ReadsBonds (mol .atoms) (mol .rows) bytes (bondsFrom bytes) (markBonds bytes) r
 
 -- the bond lines are those past the three
-pub bonds-read :
+pub bonds-past-three :
     {n : ℕ} {rows bytes : List ℕ} {k m : ℕ} {r : BondsRead} → k ≡ markLength bytes → m ≡ markBonds bytes →
     ReadsBonds n rows bytes (91 + 4 * k) m r → ReadsBonds n rows bytes (bondsFrom bytes) (markBonds bytes) r
-bonds-read length-is bonds-is read = rw (length-is, bonds-is) at read
+bonds-past-three length-is bonds-is read = rw (length-is, bonds-is) at read
 
 module _ {mol : Molecule} {bytes : List ℕ} {r : BondsRead} (l : LinesRead mol bytes r) where
   layout-is : layoutKept bytes ≡ r .kept
@@ -191,7 +191,7 @@ module _ {mol : Molecule} {bytes : List ℕ} {r : BondsRead} (l : LinesRead mol 
     own-is : belongs mol bytes ≡ namesOwn (mol .atoms) (mol .bonds) bytes (r .own)
     unfolding belongs namesOwn
     own-is =
-        let same = same-bonds mol (l .formed) (bondsNamed bytes) ordered in
+        let same = ascending-bonds mol (l .formed) (bondsNamed bytes) ordered in
         let count = bonds-at-length bytes (bondsFrom bytes) (markBonds bytes) in
         rw (← same, count, l .read .own right, and-assoc)
 

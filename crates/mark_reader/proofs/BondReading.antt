@@ -26,14 +26,14 @@ unfolding fieldsKept
 two-kept bytes at = rw (add-zero at)
 
 -- its two fields, and what is told of them
-pub line-read :
+pub line-told :
     (bytes : List ℕ) (at : ℕ) {first second : Number} {kept : Bool} {left right : ℕ} →
     first ≡ fieldAt 4 bytes at → second ≡ fieldAt 4 bytes (at + 4) →
     kept ≡ (blanksOnly first && blanksOnly second && isFeed bytes (at + 8)) →
     left ≡ valueOf first → right ≡ valueOf second →
     record { kept = kept; left = left; right = right } ≡ lineAt bytes at
 unfolding lineAt
-line-read bytes at first-is second-is kept-is left-is right-is =
+line-told bytes at first-is second-is kept-is left-is right-is =
     rw (kept-is, left-is, right-is, first-is, second-is, two-kept bytes at)
 
 -- ---- one bond after another
@@ -44,18 +44,18 @@ module _ (a b l r : ℕ) where
   high-first h = rw (le-ltb l r h)
 
   module _ (low : l < r) where
-    pub later-row : a < l → true ≡ followed (a, b) (l, r)
+    pub later-first : a < l → true ≡ followed (a, b) (l, r)
     unfolding followed comesBefore
-    later-row h = rw (lt-ltb l r low, lt-ltb a l h)
+    later-first h = rw (lt-ltb l r low, lt-ltb a l h)
 
     module _ (not-later : l ≤ a) where
-      pub earlier-row : (a ≡ l → ⊥) → false ≡ followed (a, b) (l, r)
+      pub earlier-first : (a ≡ l → ⊥) → false ≡ followed (a, b) (l, r)
       unfolding followed comesBefore
-      earlier-row differ = rw (lt-ltb l r low, le-ltb a l not-later, ne-eqb a l differ)
+      earlier-first differ = rw (lt-ltb l r low, le-ltb a l not-later, ne-eqb a l differ)
 
-      pub same-row : a ≡ l → ltb b r ≡ followed (a, b) (l, r)
+      pub same-first : a ≡ l → ltb b r ≡ followed (a, b) (l, r)
       unfolding followed comesBefore
-      same-row same = rw (lt-ltb l r low, le-ltb a l not-later, eq-eqb a l same)
+      same-first same = rw (lt-ltb l r low, le-ltb a l not-later, eq-eqb a l same)
 
 -- ---- the row of an atom
 

@@ -59,9 +59,9 @@ fn fields_kept(bytes: &[u8], columns: usize, at: usize, k: usize) -> bool
 
 // Whether the bytes are three lines of such fields, and past them so many bytes for each bond: 9, or 0 in marks before
 // request F-5.
-pub fn three_lines_kept(bytes: &[u8], each: usize) -> bool
-    requires { ⌜ each ≤ 9 ⌝ }
-    ensures { λ r. ⌜ r ≡ threeLinesKept each (now (bytes .entry)) ⌝ }
+fn three_lines_kept(bytes: &[u8], per_bond: usize) -> bool
+    requires { ⌜ «per_bond» ≤ 9 ⌝ }
+    ensures { λ r. ⌜ r ≡ threeLinesKept «per_bond» (now (bytes .entry)) ⌝ }
 {
     if bytes.len() < 91 {
         return false;
@@ -82,7 +82,7 @@ pub fn three_lines_kept(bytes: &[u8], each: usize) -> bool
     if 127 < k {
         return false;
     }
-    if bytes.len() != 91 + 4 * k + each * small_at(bytes, 16) {
+    if bytes.len() != 91 + 4 * k + per_bond * small_at(bytes, 16) {
         return false;
     }
     if !fields_kept(bytes, 4, 90, k) {
@@ -250,8 +250,8 @@ fn search_of(bytes: &[u8], prefix: [u8; 128]) -> Search
     }
 }
 
-// Rule 15: whether a mark names n atoms and m bonds, where `own` says whether its bonds are the molecule's.
-pub fn is_own(n: usize, m: usize, bytes: &[u8], own: bool) -> bool
+// Rule 15: whether a mark names n atoms and m bonds and, as `own` says, only bonds that the molecule has.
+fn is_own(n: usize, m: usize, bytes: &[u8], own: bool) -> bool
     requires { ⌜ 91 ≤ length (now bytes) ⌝ }
     ensures { λ r. ⌜ r ≡ namesOwn n m (now (bytes .entry)) own ⌝ }
 {
@@ -265,7 +265,7 @@ pub fn is_own(n: usize, m: usize, bytes: &[u8], own: bool) -> bool
 }
 
 // Rules 16 and 17: the search that three lines name, on a molecule that rule 9 allows.
-pub fn placed_search(m: Molecule, bytes: &[u8]) -> Made
+fn placed_search(m: Molecule, bytes: &[u8]) -> Made
     requires { ⌜ Placeable m (now bytes) ⌝ }
     ensures { λ r. ⌜ r ≡ placedSearch m (now (bytes .entry)) ⌝ }
 {

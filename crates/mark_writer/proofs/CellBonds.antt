@@ -15,6 +15,7 @@ use Rattle.molecule.specs.Record.{cell, symmetric, loopless, within}
 use Rattle.molecule.specs.BondList.{Bond, pairOf, bondHere, bondsTo, bondList}
 use Rattle.molecule.proofs.Rules.{Sound, sound-of-rules}
 use Rattle.molecule.proofs.BondOrder.{here-parts}
+use Rattle.molecule.proofs.BondLaws.{bonds-within}
 use Rattle.mark_writer.specs.Parts.{bondsBetween, cellBonds, byteBonds}
 
 -- ---- some cells, and more
@@ -141,12 +142,5 @@ module _ (rows : List ℕ) where
         omega arith)
 
     pub rows-beyond : n ≤ 128 → bondsBetween rows 0 (128 * n) ≡ bondList rows
-    unfolding bondList
     rows-beyond few =
-        let rest = 16384 - 128 * n in
-        let all : 128 * n + rest ≡ 16384 = omega arith in
-        let none = between-none rows (0 + 128 * n) rest (λ i h e.
-        let inside = here-within (0 + 128 * n + i) (omega arith) e .0 in
-        omega arith) in
-        let parts = rw (all, none, append-nil) at (between-split rows 0 (128 * n) rest) in
-        sym (to-between rows 16384 ∙ parts)
+        sym (to-between rows (128 * n)) ∙ bonds-within rows n few (sound-of-rules rows n sound)

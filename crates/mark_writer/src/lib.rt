@@ -135,7 +135,7 @@ fn put_bonds(out: &mut [u8], at: usize, rows: &[u8; 2048], n: usize)
 }
 
 // The three lines of a mark, of a search that need not keep rule 12.
-pub fn put_three_lines(m: Molecule, q: Search, out: &mut [u8])
+fn put_three_lines(m: Molecule, q: Search, out: &mut [u8])
     requires { ⌜ LinesFit q (now out) ⌝ }
     ensures { λ _. ⌜ now (out .exit) ≡ spliced 0 (threeLines m q) (now (out .entry)) ⌝ }
 {
@@ -159,7 +159,7 @@ pub fn put_three_lines(m: Molecule, q: Search, out: &mut [u8])
     put_feed(out, 90 + 4 * len);
 }
 
-// The mark of such a search: three lines, and then a line for each bond.
+// The mark of a search: its three lines, and then a line for each bond. The search need not keep rule 12.
 pub fn put_mark(m: Molecule, q: Search, out: &mut [u8])
     requires { ⌜ MarkFits m q (now out) ⌝ }
     ensures { λ _. ⌜ now (out .exit) ≡ spliced 0 (markText m q) (now (out .entry)) ⌝ }

@@ -110,8 +110,8 @@ module _ (mol : Molecule) (formed : wellFormed mol ≡ true) where
             bonded-is-listed (z .0) (z .1) (ascend-at (0, 0) xs ordered z m .0) (all-bonded-at n rows xs all z m)
 
     -- Ascending pairs are its bonds exactly when they are m and each is a bond of it
-    pub same-bonds : (eqb (length xs) (mol .bonds) && eachBonded n rows xs) ≡ sameBonds xs (bondList rows)
-    same-bonds =
+    pub ascending-bonds : (eqb (length xs) (mol .bonds) && eachBonded n rows xs) ≡ sameBonds xs (bondList rows)
+    ascending-bonds =
         same-test (eqb (length xs) (mol .bonds) && eachBonded n rows xs) (sameBonds xs (bondList rows))
         (λ e. ap (λ ys. sameBonds xs ys) (sym (same-there e)) ∙ same-itself xs)
         (λ e. back (same-list xs (bondList rows) e))
@@ -123,33 +123,29 @@ module _ (mol : Molecule) (formed : wellFormed mol ≡ true) where
 
 -- ---- the cells that have them
 
-module _ (mol : Molecule) (formed : wellFormed mol ≡ true) where
+module _ (rows : List ℕ) (n : ℕ) (few : n ≤ 128) (sound : Sound rows n) where
   -- where the rows of the atoms end
   abbrev end : ℕ
-  end = 128 * mol .atoms
+  end = 128 * n
 
-  none-past : (p : ℕ) → end ≤ p → p < 16384 → bondHere (mol .rows) p ≡ false
+  none-past : (p : ℕ) → end ≤ p → p < 16384 → bondHere rows p ≡ false
   unfolding Sound
-  none-past p past below = false-of (bondHere (mol .rows) p) (λ e. beyond (here-parts (mol .rows) p e .1))
+  none-past p past below = false-of (bondHere rows p) (λ e. beyond (here-parts rows p e .1))
     where
-      beyond : cell (mol .rows) (p / 128) (p % 128) ≡ true → ⊥
-      beyond set =
-          let sound = sound-of-rules (mol .rows) (mol .atoms) (rule9 mol formed .rows-sound) in
-          let mirror = sound (p / 128) (p % 128) (omega arith) (omega arith) set in
-          omega (arith, mirror .row-within)
+      beyond : cell rows (p / 128) (p % 128) ≡ true → ⊥
+      beyond set = omega (arith, sound (p / 128) (p % 128) (omega arith) (omega arith) set .row-within)
 
-  same-past : (k : ℕ) → end + k ≤ 16384 → bondsTo (mol .rows) (end + k) ≡ bondsTo (mol .rows) end
+  same-past : (k : ℕ) → end + k ≤ 16384 → bondsTo rows (end + k) ≡ bondsTo rows end
   unfolding bondsTo
   same-past zero h = rw (add-zero end)
   same-past (suc k) h = rw (add-suc end k, none-past (end + k) (omega arith) (omega arith)) (same-past k (omega arith))
 
   -- The cells of the first n rows have all of them
-  pub bonds-within : bondsTo (mol .rows) end ≡ bondList (mol .rows)
+  pub bonds-within : bondsTo rows end ≡ bondList rows
   unfolding bondList
   bonds-within =
-      let few = rule9 mol formed .atoms-high in
       let all : end + (16384 - end) ≡ 16384 = omega arith in
-      sym (same-past (16384 - end) (omega arith)) ∙ ap (bondsTo (mol .rows)) all
+      sym (same-past (16384 - end) (omega arith)) ∙ ap (bondsTo rows) all
 
 -- ---- two records with the same list
 
@@ -169,15 +165,6 @@ listed-one-way A B formed-a formed-b same a b e = go (decLt a b) (decLt b a)
         let diagonal : a ≡ b = omega arith in
         absurd (clash (bonded (A .atoms) (A .rows) a b) e (rw diagonal (bonded-irreflexive A formed-a b)))
 
--- Two records with as many atoms and the same list have the same bonds
-pub listed-bonds :
-    (A B : Molecule) → wellFormed A ≡ true → wellFormed B ≡ true → A .atoms ≡ B .atoms →
-    bondList (A .rows) ≡ bondList (B .rows) →
-    (a b : ℕ) → bonded (A .atoms) (A .rows) a b ≡ bonded (B .atoms) (B .rows) a b
-listed-bonds A B formed-a formed-b atoms same a b =
-    same-test (bonded (A .atoms) (A .rows) a b) (bonded (B .atoms) (B .rows) a b)
-    (listed-one-way A B formed-a formed-b same a b) (listed-one-way B A formed-b formed-a (sym same) a b)
-
 cells-one-way :
     (A B : Molecule) → wellFormed A ≡ true → wellFormed B ≡ true → bondList (A .rows) ≡ bondList (B .rows) →
     (i j : ℕ) → i < 128 → j < 128 → cell (A .rows) i j ≡ true → cell (B .rows) i j ≡ true
@@ -193,7 +180,7 @@ cells-one-way A B formed-a formed-b same i j hi hj e =
 abbrev molecule : ℕ → ℕ → List ℕ → Molecule
 molecule n m rows = record { atoms = n; bonds = m; rows = rows }
 
--- and, as their rows are 2,048 bytes, they are the same record
+-- Two records with as many atoms and the same list are the same record, as their rows are 2,048 bytes
 pub listed-record :
     (A B : Molecule) → wellFormed A ≡ true → wellFormed B ≡ true → A .atoms ≡ B .atoms →
     bondList (A .rows) ≡ bondList (B .rows) → A ≡ B

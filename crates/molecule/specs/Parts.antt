@@ -1,5 +1,5 @@
 -- What the parts of the record check decide. Nothing to believe: the law `rows-rules` relates them to rule 9, and
--- `same-bonds` relates the last one to the list of a record's bonds.
+-- `ascending-bonds` relates the last one to the list of a record's bonds.
 use Prim.Native.Nat.{ℕ, _+_, _*_, _/_, _%_}
 use mathlib.Core.Bool.{Bool, true, _&&_, _||_, not}
 use mathlib.Core.List.{List, [], _∷_}

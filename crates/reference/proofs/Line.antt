@@ -13,6 +13,8 @@ use Rattle.refusal.specs.declared.Answer.the-variants.{Accepted}
 use Rattle.molecule.specs.declared.Molecule.{Molecule}
 use Rattle.molecule.specs.Record.{wellFormed}
 use Rattle.molecule.specs.BondList.{Bond, bondsTo}
+use Rattle.molecule.proofs.Rules.{sound-of-rules}
+use Rattle.molecule.proofs.Bonds.{rule9}
 use Rattle.molecule.proofs.BondLaws.{bonds-within}
 use Rattle.sheet.specs.Read.{readSheet}
 use Rattle.sheet.proofs.Accepted.{accepted-well-formed}
@@ -77,7 +79,11 @@ markIn R q = threeLines R q ++ bondLines (bondsTo (R .rows) (128 * R .atoms))
 
 mark-within : (R : Molecule) (q : Search) → wellFormed R ≡ true → markText R q ≡ markIn R q
 unfolding markText markIn
-mark-within R q good = ap (λ (xs : List Bond). threeLines R q ++ bondLines xs) (sym (bonds-within R good))
+mark-within R q good =
+    let rule = rule9 R good in
+    let sound = sound-of-rules (R .rows) (R .atoms) (rule .rows-sound) in
+    ap (λ (xs : List Bond). threeLines R q ++ bondLines xs)
+    (sym (bonds-within (R .rows) (R .atoms) (rule .atoms-high) sound))
 
 -- What a line says where nothing is turned back: both sides of every equation compute
 pub record Computed (l : Line) : Type 0 where

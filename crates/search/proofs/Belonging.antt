@@ -26,7 +26,7 @@ one-owner :
     {A B : Molecule} {bytes : List ℕ} → wellFormed A ≡ true → wellFormed B ≡ true → Own A bytes → Own B bytes → A ≡ B
 one-owner {A} {B} formed-a formed-b a b =
     listed-record A B formed-a formed-b
-    (sym (a .same-atoms) ∙ b .same-atoms) (sym (a .same-bonds) ∙ b .same-bonds)
+    (sym (a .same-atoms) ∙ b .same-atoms) (sym (a .bonds-named) ∙ b .bonds-named)
 
 -- Molecules with the same atoms, the same bonds, and the same list for every kind, s and t
 pub record Alike (A B : Molecule) : Type 0 where
@@ -72,8 +72,8 @@ module _ (A B : Molecule) (q : Search) (formed-a : wellFormed A ≡ true) (forme
   other-refused other =
       rw (formed-b, layout-of (markText A q) (mark-layout A q formed-a kept full), not-own other)
 
-  -- The mark of an isomer, which differs in the bond of some a and b. This was the old lister's fault: it accepted the
-  -- mark, as n and m agree
+  -- The mark of a molecule that differs in the bond of some a and b, as an isomer does. (Before request F-5 it was
+  -- accepted where n and m agree: the old lister's fault.)
   pub isomer-refused :
       (a b : ℕ) → (bonded (A .atoms) (A .rows) a b ≡ bonded (B .atoms) (B .rows) a b → ⊥) →
       restoreMark B (markText A q) ≡ refusedSearch refusal.MarkMolecule

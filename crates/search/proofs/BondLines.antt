@@ -14,9 +14,9 @@ use Rattle.search.specs.Mark.{fieldsText, bondLines, valueAt, fieldsKept
 use Rattle.search.proofs.Text.{Fits, fields-length, Line, line-read, line-split}
 
 -- the atoms of every bond fit their columns
-pub data BondsFit : List Bond → Type 0 where
-  no-bond : BondsFit []
-  bond-fits : {x : Bond} {xs : List Bond} → Fits 4 (x .0) → Fits 4 (x .1) → BondsFit xs → BondsFit (x ∷ xs)
+pub data NarrowBonds : List Bond → Type 0 where
+  no-bond : NarrowBonds []
+  bond-fits : {x : Bond} {xs : List Bond} → Fits 4 (x .0) → Fits 4 (x .1) → NarrowBonds xs → NarrowBonds (x ∷ xs)
 
 -- the first bond line, and then the others
 first-line : (x : Bond) (xs : List Bond) → bondLines (x ∷ xs) ≡ fieldsText 4 (x .0 ∷ x .1 ∷ []) ++ 10 ∷ bondLines xs
@@ -37,13 +37,13 @@ module _ (bytes : List ℕ) where
 
   -- what is read at the first of some bond lines
   first-read :
-      (x : Bond) (xs : List Bond) (at : ℕ) → BondsFit (x ∷ xs) → drop at bytes ≡ bondLines (x ∷ xs) →
+      (x : Bond) (xs : List Bond) (at : ℕ) → NarrowBonds (x ∷ xs) → drop at bytes ≡ bondLines (x ∷ xs) →
       Line 4 bytes at 2 (x .0 ∷ x .1 ∷ []) (bondLines xs)
   first-read x xs at (bond-fits a b fits) e = line-read (omega arith) (a ◁ b ◁ none) refl (e ∙ first-line x xs)
 
   -- Where the text of bonds stands, its lines are kept,
   pub bond-lines-keep :
-      (xs : List Bond) (at : ℕ) → BondsFit xs → drop at bytes ≡ bondLines xs →
+      (xs : List Bond) (at : ℕ) → NarrowBonds xs → drop at bytes ≡ bondLines xs →
       bondLinesKept bytes at (length xs) ≡ true
   unfolding bondLinesKept
   bond-lines-keep [] at fits e = refl
@@ -54,7 +54,7 @@ module _ (bytes : List ℕ) where
 
   -- and the bonds that they name are those bonds
   pub bonds-read :
-      (xs : List Bond) (at : ℕ) → BondsFit xs → drop at bytes ≡ bondLines xs → bondsAt bytes at (length xs) ≡ xs
+      (xs : List Bond) (at : ℕ) → NarrowBonds xs → drop at bytes ≡ bondLines xs → bondsAt bytes at (length xs) ≡ xs
   unfolding bondsAt
   bonds-read [] at fits e = refl
   bonds-read (x ∷ xs) at (bond-fits a b fits) e =

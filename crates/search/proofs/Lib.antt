@@ -4,7 +4,7 @@ pub mod Views
 pub mod BondLines
 pub mod Lines
 pub mod Restores
-pub mod Named
+pub mod NamedSearch
 pub mod MarkLaws
 pub mod Belonging
 pub mod OldMarkLaws

@@ -1,6 +1,5 @@
--- The laws of marks (document 01, "Marks" and rules 12 to 17, as request F-5 amends them): a saved mark restores the
--- search, an accepted mark is saved again as the same bytes, and rule 12 allows exactly what some mark restores.
--- The three lines are those of every mark (Restores, Named); past them stand the bonds of the molecule, line by line.
+-- The laws of marks (document 01, rules 12 to 17, with F-5): saved ones restore, accepted ones are saved again as they
+-- were, rule 12 is what some mark restores. By the three lines of every mark (Restores, NamedSearch), then line by line.
 use Prim.Native.Nat.{ℕ, _+_, _*_, _≤_, _<_}
 use native.Mathlib.Omega.{arith}
 use mathlib.Core.Path.{_≡_, refl, ap, ap₂, sym, _∙_}
@@ -30,7 +29,7 @@ use Rattle.search.specs.Entries.{acceptedSearch}
 use Rattle.search.specs.Mark.{threeLines, bondLines, markText, saveAnswer, saveOutput, valueAt, markBonds}
 use Rattle.search.specs.Mark.{bondLinesKept, bondsAt, bondsFrom, bondsNamed, belongs, restoreMark}
 use Rattle.search.proofs.Text.{small-fits}
-use Rattle.search.proofs.BondLines.{BondsFit, no-bond, bond-fits, bond-lines-length, bonds-at-length}
+use Rattle.search.proofs.BondLines.{NarrowBonds, no-bond, bond-fits, bond-lines-length, bonds-at-length}
 use Rattle.search.proofs.BondLines.{bond-lines-keep, bonds-read, bond-lines-text}
 use Rattle.search.proofs.Lines.{Layout, layout-of, layout-facts}
 pub use Rattle.search.proofs.Readings.{family-lawful, family-atoms, Restorable, restorable-facts}
@@ -40,14 +39,14 @@ pub use Rattle.search.proofs.Views.{valid-restorable, valid-full, fresh
 use Rattle.search.proofs.Views.{prefix-most}
 use Rattle.search.proofs.Restores.{three-length, Restored, restored-facts, restored-of}
 use Rattle.search.proofs.Restores.{MarkOf, atoms-is, bonds-is, rest-is, lines-are, text-restored}
-use Rattle.search.proofs.Named.{named-restorable, named-full, named-text}
+use Rattle.search.proofs.NamedSearch.{named-restorable, named-full, named-text}
 
 -- ---- rule 15
 
 -- The mark names the atoms and the bonds of the molecule
 pub record Own (mol : Molecule) (bytes : List ℕ) : Type 0 where
   pub same-atoms : valueAt 4 bytes 12 ≡ mol .atoms
-  pub same-bonds : bondsNamed bytes ≡ bondList (mol .rows)
+  pub bonds-named : bondsNamed bytes ≡ bondList (mol .rows)
 
 module _ (mol : Molecule) (bytes : List ℕ) where
   pub own-facts : belongs mol bytes ≡ true → Own mol bytes
@@ -58,13 +57,13 @@ module _ (mol : Molecule) (bytes : List ℕ) where
       let (n, same) = and-parts (eqb (valueAt 4 bytes 12) (mol .atoms)) (sameBonds named bonds) e in
       record {
         same-atoms = eqb-true (valueAt 4 bytes 12) (mol .atoms) n;
-        same-bonds = same-list named bonds same;
+        bonds-named = same-list named bonds same;
       }
 
   pub own-of : Own mol bytes → belongs mol bytes ≡ true
   unfolding belongs
   own-of own =
-      rw (eq-eqb (valueAt 4 bytes 12) (mol .atoms) (own .same-atoms), own .same-bonds)
+      rw (eq-eqb (valueAt 4 bytes 12) (mol .atoms) (own .same-atoms), own .bonds-named)
       (same-itself (bondList (mol .rows)))
 
 -- ---- the mark of a search
@@ -74,7 +73,7 @@ bonds-size :
     (mol : Molecule) → wellFormed mol ≡ true → length (bondLines (bondList (mol .rows))) ≡ 9 * mol .bonds
 bonds-size mol formed = bond-lines-length (bondList (mol .rows)) ∙ ap (λ k. 9 * k) (bonds-count mol formed)
 
-bonded-fit : (n : ℕ) (rows : List ℕ) (xs : List Bond) → n ≤ 128 → eachBonded n rows xs ≡ true → BondsFit xs
+bonded-fit : (n : ℕ) (rows : List ℕ) (xs : List Bond) → n ≤ 128 → eachBonded n rows xs ≡ true → NarrowBonds xs
 unfolding eachBonded
 bonded-fit n rows [] few e = no-bond
 bonded-fit n rows (x ∷ xs) few e =
@@ -105,7 +104,7 @@ module _ (mol : Molecule) (q : Search) (formed : wellFormed mol ≡ true) (kept 
   m-is : markBonds bytes ≡ length bonds
   m-is = bonds-is three ∙ sym (bonds-count mol formed)
 
-  fit : BondsFit bonds
+  fit : NarrowBonds bonds
   fit = bonded-fit (mol .atoms) (mol .rows) bonds (rule9 mol formed .atoms-high) (bonds-bonded mol formed)
 
   names : bondsNamed bytes ≡ bonds
@@ -124,7 +123,7 @@ module _ (mol : Molecule) (q : Search) (formed : wellFormed mol ≡ true) (kept 
 
   -- and belongs to the molecule
   pub mark-own : Own mol bytes
-  mark-own = record { same-atoms = atoms-is three; same-bonds = names }
+  mark-own = record { same-atoms = atoms-is three; bonds-named = names }
 
   mark-restored : Restored mol bytes q
   mark-restored = text-restored three (layout-of bytes mark-layout) (own-of mol bytes mark-own)
@@ -149,12 +148,12 @@ module _ (mol : Molecule) (bytes : List ℕ) (q : Search) (f : Restored mol byte
   bonds-past : drop (bondsFrom bytes) bytes ≡ bondLines (bondList (mol .rows))
   bonds-past =
       bond-lines-text bytes (bondsFrom bytes) (markBonds bytes) (laid .bonds-kept) (laid .lines .size)
-      ∙ ap bondLines (own .same-bonds)
+      ∙ ap bondLines (own .bonds-named)
 
   named-count : markBonds bytes ≡ mol .bonds
   named-count =
       sym (bonds-at-length bytes (bondsFrom bytes) (markBonds bytes))
-      ∙ ap length (own .same-bonds)
+      ∙ ap length (own .bonds-named)
       ∙ bonds-count mol (f .formed)
 
   saves-again : markText mol q ≡ bytes
@@ -173,12 +172,6 @@ pub restored-restorable :
 restored-restorable mol bytes q e =
     let f = restored-facts mol bytes q e in
     (f .formed, named-restorable f, named-full f (laid mol bytes q f .lines))
-
--- The places of a search that rule 12 allows hold at most 128
-pub restorable-prefix :
-    (mol : Molecule) (q : Search) → wellFormed mol ≡ true → restorable mol q ≡ true → length (q .prefix) ≡ 128 →
-    (i : ℕ) → getD (q .prefix) i 0 ≤ 128
-restorable-prefix mol q formed kept full i = omega (arith, prefix-most mol q kept full i, rule9 mol formed .atoms-high)
 
 -- Rule 12: a search is allowed exactly when it could be restored from some mark on this molecule
 pub rule12 :

@@ -19,7 +19,7 @@ use Rattle.search.specs.OldMark.{oldMarkText, oldLayoutKept, oldBelongs,
 use Rattle.search.proofs.Lines.{three-lines-of, three-lines-facts}
 use Rattle.search.proofs.Restores.{three-length, RestoredBy, by-facts, by-of}
 use Rattle.search.proofs.Restores.{MarkOf, atoms-is, bonds-is, lines-are, text-restored}
-use Rattle.search.proofs.Named.{named-restorable, named-full, named-text}
+use Rattle.search.proofs.NamedSearch.{named-restorable, named-full, named-text}
 
 -- An old mark is 91 + 4 × length bytes
 pub old-mark-length : (mol : Molecule) (q : Search) → length (oldMarkText mol q) ≡ 91 + 4 * length (beginning q)

@@ -92,7 +92,7 @@ threeLinesKept perBond bytes =
     && fieldsKept 4 bytes 90 (markLength bytes)
     && isFeed bytes (90 + 4 * markLength bytes)
 
--- k bond lines from a place on: two such fields and a line feed each
+-- k bond lines from a place on: two fields that zeros do not fill and a line feed each
 unfoldable pub bondLinesKept : List ℕ → ℕ → ℕ → Bool
 bondLinesKept bytes at zero = true
 bondLinesKept bytes at (suc k) = fieldsKept 4 bytes at 2 && isFeed bytes (at + 8) && bondLinesKept bytes (at + 9) k

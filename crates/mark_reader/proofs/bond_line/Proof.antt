@@ -1,6 +1,6 @@
 -- `mark_reader::bond_line` meets its contract: what is told of its two fields and its end is the line.
 use borrow.Author.Needs.{needs}
-use Rattle.mark_reader.proofs.BondReading.{line-read}
+use Rattle.mark_reader.proofs.BondReading.{line-told}
 use Rattle.mark_reader.proofs.bond_line.Statement.{statement}
 use Rattle.mark_reader.proofs.bond_line.Tie as tie
 
@@ -11,7 +11,7 @@ returns c =
     let kept : tie.After-line-kept = search in
     let left : tie.After-small-of = search in
     let right : tie.After-small-of2 = search in
-    line-read _ _ (first .number-at .ensures) (second .number-at2 .ensures) (kept .line-kept .ensures)
+    line-told _ _ (first .number-at .ensures) (second .number-at2 .ensures) (kept .line-kept .ensures)
     (left .small-of .ensures) (right .small-of2 .ensures)
 
 pub bond-line-spec : {M : Type 1} → statement M

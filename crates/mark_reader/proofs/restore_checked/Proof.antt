@@ -5,7 +5,7 @@ use borrow.Author.Needs.{needs}
 use Rattle.molecule.proofs.Bonds.{rule9}
 use Rattle.search.proofs.Lines.{ThreeLines, three-lines-facts}
 use Rattle.mark_reader.proofs.Layouts.{failed, passed}
-use Rattle.mark_reader.proofs.Answers.{LinesRead, lines-placeable, bonds-read}
+use Rattle.mark_reader.proofs.Answers.{LinesRead, lines-placeable, bonds-past-three}
 use Rattle.mark_reader.proofs.Answers.{refuses-lines, refuses-bonds, refuses-molecule, goes-on}
 use Rattle.mark_reader.proofs.restore_checked.Statement.{statement}
 use Rattle.mark_reader.proofs.restore_checked.Tie as tie
@@ -36,7 +36,7 @@ read c =
     record {
       formed = start (laid c) .pre;
       lines = lines (laid c);
-      read = bonds-read (count .small-at .ensures) (bonds .small-at2 .ensures) (c .read-bonds .ensures);
+      read = bonds-past-three (count .small-at .ensures) (bonds .small-at2 .ensures) (c .read-bonds .ensures);
     }
 
 -- ---- the needs

@@ -14,7 +14,7 @@ use Rattle.mark_reader.proofs.three_lines_kept.Tie as tie
 abbrev start : tie.After-small-at2 → tie.Start
 start c = c .before .before .before .before .before .before .before .before .before .before .before .before .before
 
-bonds-few : (c : tie.After-small-at2) → start c .args .each * c .small-at2 .result ≤ 89991
+bonds-few : (c : tie.After-small-at2) → start c .args .per-bond * c .small-at2 .result ≤ 89991
 bonds-few c = bonds-small _ (start c .args .bytes .now) (start c .pre) (c .small-at2 .ensures)
 
 -- ---- the needs
