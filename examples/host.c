@@ -12,9 +12,9 @@
    start cuts it off, and the slice is made again from the old mark. No ring is lost, none comes twice. A first STATE,
    of 0 bytes and no mark, is there before OUT gets its first byte. The temporary file STATE.new is never read.
 
-   Nothing is written before all is checked: a STATE that is not whole or was made with another sheet, one of the former
-   layout, whose mark has no bond lines, an OUT with bytes in it and no STATE, an OUT that another host has locked, and
-   any refusal are errors that leave both files alone. */
+   Nothing is written before all is checked: a STATE that is not whole, was made with another sheet or has a mark of the
+   former layout (without bond lines), an OUT with bytes in it and no STATE, an OUT that another host has locked, and any
+   refusal are errors that leave both files alone. */
 #define _POSIX_C_SOURCE 200809L
 #define _FILE_OFFSET_BITS 64
 #include "ringlist.h"
@@ -30,7 +30,7 @@
 #include <sys/stat.h>
 #include <unistd.h>
 
-#define MARK 9815    /* the longest mark */
+#define MARK 9815    /* no mark is longer */
 #define RINGS 65536  /* bytes of records in a slice */
 #define HEAD 42      /* the first line of STATE, see write_head */
 #define WRONG "not what this host wrote for this sheet"

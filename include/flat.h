@@ -109,8 +109,8 @@ uint32_t flat_save(uint64_t atoms, uint64_t bonds,
 /* 0: the mark's search is written (used and made 0); 9, 14, 15, 16, 17:
    refused. A field that zeros fill falls under 14: marks have blanks only; and so
    do bond lines that are not as many as the mark names, or not each with its lower
-   atom first and later in dictionary order than the one above it. Bond lines that
-   keep this and are not the record's fall under 15. */
+   atom first and later in dictionary order than the one above it. A mark that
+   keeps this and has another n or other bonds than the record falls under 15. */
 uint32_t flat_restore(uint64_t atoms, uint64_t bonds,
                       const uint8_t *rows, size_t rows_len,
                       const uint8_t *mark, size_t mark_len,

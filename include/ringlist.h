@@ -11,17 +11,16 @@
    in twenty lines; examples/host.c keeps its mark in a file and goes on after
    being killed.
 
-   What a host has to change that was written before marks had bond lines
-   (request F-5). The mark output of ringlist_resume and ringlist_start has at
-   least 9,815 bytes, where 599 were enough; with fewer the call is refused
-   (13). A file or buffer that keeps marks needs as much: a mark has 9 bytes
-   more for each bond. ringlist_mark_length counts them, and gives 0 for bytes
-   that are a mark of before and no more. Such a mark is refused (14) on every
-   sheet that is accepted, and its search is to be started anew; but the marks
-   of molecules without bonds are the same bytes as before, and are taken. A
-   mark of another molecule is now always refused (15), an isomer's too, so
-   that a host need not see to that itself. The functions, their parameters and
-   the records are as they were. */
+   For hosts written before marks had bond lines (request F-5). To change: give
+   ringlist_resume and ringlist_start a mark output of at least 9,815 bytes (599
+   were enough; fewer than 9,815 are now refused, 13), and make files and
+   buffers that keep marks as large: a mark has 9 bytes more for each bond. Old
+   marks: of a molecule with bonds, an old mark is refused (14),
+   ringlist_mark_length of just its bytes is 0, and its search has to be started
+   anew. Of a molecule without bonds nothing has changed. ringlist_listed reads
+   old and new marks alike. A mark of another molecule, also of an isomer, is
+   now always refused (15), so a host need not check that itself. Functions,
+   parameters and records are as they were. */
 #ifndef RINGLIST_H
 #define RINGLIST_H
 

@@ -13,7 +13,7 @@ use Rattle.sheet.specs.Read.{readSheet}
 use Rattle.search.specs.declared.Search.{Search}
 use Rattle.search.specs.declared.Made.{Made}
 
--- The bytes that a mark output has at least: those of the longest mark, 91 + 4 × 127 + 9 × 1,024 (document 02, F-5)
+-- The bytes that a mark output has at least: 91 + 4 × 127 + 9 × 1,024, and no mark is longer (document 02, F-5)
 abbrev pub markRoom : ℕ
 markRoom = 9815
 

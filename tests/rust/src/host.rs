@@ -6,7 +6,7 @@ use std::collections::BTreeMap;
 use crate::guard::Guarded;
 use crate::model::host::{self, Resumed};
 use crate::model::list::{Lists, Task};
-use crate::model::mark::LONGEST_MARK;
+use crate::model::mark::MARK_ROOM;
 use crate::model::Record;
 use crate::rng::Rng;
 use crate::sample;
@@ -93,7 +93,7 @@ pub fn count_shortest(sheet: &[u8], (s, t): (u64, u64), count: &mut u64) -> u32 
 
 /// The fresh mark of a task that the sheet allows.
 pub fn fresh_mark(sheet: &[u8], task: Task) -> Vec<u8> {
-    let mut mark = [b'x'; LONGEST_MARK];
+    let mut mark = [b'x'; MARK_ROOM];
     assert_eq!(start(sheet, task.numbers(), &mut mark), 0, "{task:?}");
     mark[..mark_length(&mark)].to_vec()
 }
@@ -295,7 +295,7 @@ pub fn list(sheet: &[u8], mark: &[u8], mut next: impl FnMut() -> (u64, usize)) -
         let (budget, room) = next();
         let fill = (whole.calls % 251) as u8;
         let mut rings = vec![fill; room];
-        let mut saved = [!fill; LONGEST_MARK + 41];
+        let mut saved = [!fill; MARK_ROOM + 41];
         whole.stop = resume(sheet, &whole.mark, budget, &mut rings, &mut saved);
         assert!(whole.stop > 100, "refused {}", whole.stop);
         let mut used = 0;
@@ -304,7 +304,7 @@ pub fn list(sheet: &[u8], mark: &[u8], mut next: impl FnMut() -> (u64, usize)) -
         }
         let len = mark_length(&saved);
         assert!(rings[used..] == vec![fill; room - used]);
-        assert!(saved[len..] == [!fill; LONGEST_MARK + 41][len..]);
+        assert!(saved[len..] == [!fill; MARK_ROOM + 41][len..]);
         whole.sheet.extend_from_slice(&rings[..used]);
         whole.mark = saved[..len].to_vec();
         whole.calls += 1;

@@ -7,7 +7,7 @@ use flat_tests::host::{self, Entry};
 use flat_tests::model::field::LIMIT;
 use flat_tests::model::list::{self, Listed, Lists, Reached, Task};
 use flat_tests::model::machine::Search;
-use flat_tests::model::mark::{self, LONGEST_MARK};
+use flat_tests::model::mark::{self, MARK_ROOM};
 use flat_tests::model::{self, lister, Record};
 use flat_tests::rng::Rng;
 use flat_tests::{examples, sample, sampled, spoil, sum_of_parts};
@@ -117,11 +117,11 @@ fn any_room(rng: &mut Rng, n: u64) -> usize {
 fn any_mark_room(rng: &mut Rng) -> usize {
     match rng.below(16) {
         0 => 0,
-        1..=2 => LONGEST_MARK - 1,
-        3..=4 => LONGEST_MARK + 1,
-        5 => rng.index(LONGEST_MARK),
+        1..=2 => MARK_ROOM - 1,
+        3..=4 => MARK_ROOM + 1,
+        5 => rng.index(MARK_ROOM),
         6 => rng.pick(&[1, 90, 91, 99, 144, 599, 4_096, 9_307, 9_783, 65_536]),
-        _ => LONGEST_MARK,
+        _ => MARK_ROOM,
     }
 }
 
@@ -180,7 +180,7 @@ fn start_on(entry: &mut Entry, subject: &Subject, rng: &mut Rng) {
     let call = (subject.sheet.as_slice(), Ok(subject.lists));
     if let Ok(mark) = entry.start(call, numbers, room) {
         let (budget, room) = (any_budget(rng, n), any_room(rng, n));
-        let resumed = entry.resume(call, &mark, budget, (room, LONGEST_MARK));
+        let resumed = entry.resume(call, &mark, budget, (room, MARK_ROOM));
         assert!(resumed.is_ok(), "a fresh mark is not refused");
     }
 }
@@ -537,9 +537,9 @@ fn order_of_rules_of_a_start() {
     let (record, sheet) = (Record::new(0), b"   0   0\n");
     let lists = Listed::new(&record);
     let call = (&sheet[..], Ok(&lists as &dyn Lists));
-    assert!(entry.start(call, [2, 12, 0], LONGEST_MARK).is_ok());
-    assert_eq!(entry.start(call, [1, 0, 0], LONGEST_MARK), Err(10));
-    assert_eq!(entry.start(call, [3, 0, 0], LONGEST_MARK), Err(10));
+    assert!(entry.start(call, [2, 12, 0], MARK_ROOM).is_ok());
+    assert_eq!(entry.start(call, [1, 0, 0], MARK_ROOM), Err(10));
+    assert_eq!(entry.start(call, [3, 0, 0], MARK_ROOM), Err(10));
 }
 
 /// Every single byte of a mark changed to every other byte, and every length.
@@ -563,10 +563,10 @@ fn every_byte_of_a_mark() {
             for byte in (at % step..256).step_by(step) {
                 let mut changed = mark.clone();
                 changed[at] = byte as u8;
-                let _ = entry.resume(call, &changed, 4, (9, LONGEST_MARK));
+                let _ = entry.resume(call, &changed, 4, (9, MARK_ROOM));
             }
-            let _ = entry.resume(call, &mark[..at], 4, (9, LONGEST_MARK));
-            let _ = entry.resume(call, &mark[at..], 4, (9, LONGEST_MARK));
+            let _ = entry.resume(call, &mark[..at], 4, (9, MARK_ROOM));
+            let _ = entry.resume(call, &mark[at..], 4, (9, MARK_ROOM));
         }
     }
     entry.print();
@@ -622,15 +622,15 @@ fn isomers_of(entry: &mut Entry, rng: &mut Rng, molecules: &[Molecule; 2]) {
     for (own, other) in [(0, 1), (1, 0)] {
         let numbers = generate::any_task(rng, n).numbers();
         let mut mark = entry
-            .start(call(own), numbers, LONGEST_MARK)
+            .start(call(own), numbers, MARK_ROOM)
             .expect("a task");
         for _ in 0..3 {
             let (budget, room) = (any_budget(rng, n), any_room(rng, n));
-            for rooms in [(room, LONGEST_MARK), (room, rng.index(LONGEST_MARK))] {
+            for rooms in [(room, MARK_ROOM), (room, rng.index(MARK_ROOM))] {
                 let refused = entry.resume(call(other), &mark, budget, rooms);
                 assert_eq!(refused, Err(15));
             }
-            let resumed = entry.resume(call(own), &mark, budget, (room, LONGEST_MARK));
+            let resumed = entry.resume(call(own), &mark, budget, (room, MARK_ROOM));
             mark = resumed.expect("accepted").mark;
         }
     }
@@ -652,9 +652,9 @@ fn marks_without_lines() {
         let lists = Reached::new(&record);
         let call = (sheet.as_slice(), Ok(&lists as &dyn Lists));
         let numbers = generate::any_task(&mut rng, record.atoms).numbers();
-        let fresh = entry.start(call, numbers, LONGEST_MARK).expect("a task");
+        let fresh = entry.start(call, numbers, MARK_ROOM).expect("a task");
         let budget = any_budget(&mut rng, record.atoms).min(2_000);
-        let resumed = entry.resume(call, &fresh, budget, (300, LONGEST_MARK));
+        let resumed = entry.resume(call, &fresh, budget, (300, MARK_ROOM));
         let resumed = resumed.expect("accepted");
         let search = &resumed.search;
         let former = mark::write_lines(record.atoms, record.bonds, search);
@@ -668,9 +668,9 @@ fn marks_without_lines() {
         };
         assert_eq!(host::mark_length(&former), right);
         assert_eq!(host::listed(&former), search.listed);
-        for mark_room in [0, 599, LONGEST_MARK] {
+        for mark_room in [0, 599, MARK_ROOM] {
             let answer = entry.resume(call, &former, budget, (300, mark_room));
-            let of_room = (mark_room < LONGEST_MARK).then_some(13);
+            let of_room = (mark_room < MARK_ROOM).then_some(13);
             assert_eq!(answer.err(), if none { of_room } else { Some(14) });
         }
     }
@@ -698,9 +698,9 @@ fn numbers_of_lines() {
         let call = (sheet.as_slice(), Ok(&lists as &dyn Lists));
         for m in [0, 1, 2, 1_023, 1_024, 1_025, 2_000, 9_999] {
             let mark = spoil::with_bonds(&fresh, &pairs(m));
-            for mark_room in [LONGEST_MARK - 1, LONGEST_MARK] {
+            for mark_room in [MARK_ROOM - 1, MARK_ROOM] {
                 let rooms = (20, mark_room);
-                let of_room = (mark_room < LONGEST_MARK).then_some(13);
+                let of_room = (mark_room < MARK_ROOM).then_some(13);
                 let answer = entry.resume(call, &mark, 2, rooms).err();
                 assert_eq!(answer, if m == own { of_room } else { Some(15) });
                 let more = spoil::with_lines(&mark, &pairs(m + 1));
@@ -743,16 +743,16 @@ fn every_budget_and_room() {
             let start = match task {
                 None => Vec::new(),
                 Some(task) => entry
-                    .start(call, task.numbers(), LONGEST_MARK)
+                    .start(call, task.numbers(), MARK_ROOM)
                     .expect("allowed"),
             };
             let list = lister::list(&record, task.unwrap_or(Task::Rings)).sheet;
             for budget in (0..=record.atoms * 7 + 1).step_by(steps) {
                 for room in (0..=list.len() + 1).step_by(steps) {
-                    let first = entry.resume(call, &start, budget, (room, LONGEST_MARK));
+                    let first = entry.resume(call, &start, budget, (room, MARK_ROOM));
                     let first = first.expect("accepted");
                     let rest =
-                        entry.resume(call, &first.mark, u64::MAX, (list.len(), LONGEST_MARK));
+                        entry.resume(call, &first.mark, u64::MAX, (list.len(), MARK_ROOM));
                     let rest = rest.expect("accepted");
                     assert_eq!(rest.stop as u32, 101);
                     assert_eq!([first.records, rest.records].concat(), list);
@@ -760,7 +760,7 @@ fn every_budget_and_room() {
             }
         }
         let steps = flat_tests::sample().min(97) as usize;
-        for mark_room in (0..LONGEST_MARK).rev().step_by(steps) {
+        for mark_room in (0..MARK_ROOM).rev().step_by(steps) {
             let answer = entry.resume(call, &[], 1, (20, mark_room));
             assert_eq!(answer.err(), Some(13));
             let answer = entry.start(call, [2, 12, 0], mark_room);
@@ -785,7 +785,7 @@ fn longest() {
         call,
         &mark::write(&record, &bounded),
         1,
-        (300, LONGEST_MARK),
+        (300, MARK_ROOM),
     );
     assert_eq!(refused, Err(17));
     for task in [Task::Rings, Task::RingsUpTo { k: 128 }] {
@@ -818,9 +818,9 @@ fn longest() {
         let mark = mark::write(&record, &Search::at(task, &ring[..119], 120));
         assert_eq!(mark.len(), 9_783);
         for (room, stop) in [(120, 104), (121, 103)] {
-            let resumed = entry.resume(call, &mark, 1, (room, LONGEST_MARK));
+            let resumed = entry.resume(call, &mark, 1, (room, MARK_ROOM));
             assert_eq!(resumed.expect("accepted").stop as u32, stop);
-            let refused = entry.resume(call, &mark, 1, (room, LONGEST_MARK - 1));
+            let refused = entry.resume(call, &mark, 1, (room, MARK_ROOM - 1));
             assert_eq!(refused, Err(13));
         }
     }
@@ -831,14 +831,14 @@ fn longest() {
     assert_eq!(sheet.len(), 9_225);
     let call = (sheet.as_slice(), Ok(&lists as &dyn Lists));
     entry
-        .resume(call, &[], 10, (500, LONGEST_MARK))
+        .resume(call, &[], 10, (500, MARK_ROOM))
         .expect("accepted");
     for numbers in [[2, 12, 0], [3, 1, 128]] {
         let start = entry
-            .start(call, numbers, LONGEST_MARK)
+            .start(call, numbers, MARK_ROOM)
             .expect("a size, two atoms");
         entry
-            .resume(call, &start, 300, (500, LONGEST_MARK))
+            .resume(call, &start, 300, (500, MARK_ROOM))
             .expect("accepted");
     }
 }
@@ -848,22 +848,22 @@ fn longest_of(entry: &mut Entry, call: (&[u8], Result<&dyn Lists, u32>), mark: &
     let bonds = call.1.expect("a molecule").record().bonds;
     assert_eq!(mark.len(), mark::size(127, bonds as usize));
     for (room, stop) in [(0, 104), (128, 104), (129, 103), (130, 103), (300, 103)] {
-        for mark_room in [1_751, LONGEST_MARK - 1, LONGEST_MARK, LONGEST_MARK + 1] {
+        for mark_room in [1_751, MARK_ROOM - 1, MARK_ROOM, MARK_ROOM + 1] {
             match entry.resume(call, mark, 1, (room, mark_room)) {
                 Ok(resumed) => {
                     assert_eq!(resumed.stop as u32, stop);
-                    assert!(mark_room >= LONGEST_MARK);
+                    assert!(mark_room >= MARK_ROOM);
                     if stop == 104 {
                         assert_eq!(resumed.mark, mark);
                     }
                 }
-                Err(rule) => assert!(rule == 13 && mark_room < LONGEST_MARK),
+                Err(rule) => assert!(rule == 13 && mark_room < MARK_ROOM),
             }
         }
     }
     // No mark is longer: 128 atoms break the layout.
     let longer = spoil::lengthened(mark, 128, 128);
-    assert_eq!(entry.resume(call, &longer, 1, (300, LONGEST_MARK)), Err(14));
+    assert_eq!(entry.resume(call, &longer, 1, (300, MARK_ROOM)), Err(14));
 }
 
 /// Sheets filled by zeros, and by blanks or zeros from field to field: the same
@@ -892,7 +892,7 @@ fn both_fillings() {
         let numbers = generate::any_task(&mut rng, record.atoms).numbers();
         let [mut mark, second, third] = [&blanks, &zeros, &mixed].map(|sheet| {
             let call = (sheet.as_slice(), Ok(lists));
-            entry.start(call, numbers, LONGEST_MARK).expect("accepted")
+            entry.start(call, numbers, MARK_ROOM).expect("accepted")
         });
         assert!(mark == second && mark == third);
         if rng.one_in(2) {
@@ -905,7 +905,7 @@ fn both_fillings() {
             );
             let [first, second, third] = [&blanks, &zeros, &mixed].map(|sheet| {
                 let call = (sheet.as_slice(), Ok(lists));
-                let resumed = entry.resume(call, &mark, budget, (room, LONGEST_MARK));
+                let resumed = entry.resume(call, &mark, budget, (room, MARK_ROOM));
                 resumed.expect("accepted")
             });
             assert!(first == second && first == third);
@@ -1031,7 +1031,7 @@ fn mark_readers() {
                 let count = rng.pick(&spoil::COUNTS);
                 spoil::put(&mut bytes, 69, 20, count);
             }
-            3 => bytes.resize(rng.pick(&[599, 600, 700, 4_096, LONGEST_MARK]), rng.byte()),
+            3 => bytes.resize(rng.pick(&[599, 600, 700, 4_096, MARK_ROOM]), rng.byte()),
             4 => bytes.truncate(rng.pick(&[0, 1, 16, 20, 24, 88, 89, 90, 91, 92, 95])),
             // The bonds alone, and room for them.
             5 => {

@@ -390,7 +390,7 @@ fn limit() {
                 assert_eq!(members.len() as u64, more);
             }
             let mut again = whole.mark.clone();
-            again.resize(mark::LONGEST_MARK, 0);
+            again.resize(mark::MARK_ROOM, 0);
             let kept = again.clone();
             let stop = host::resume(&sheet, &whole.mark, 9, &mut [], &mut again);
             assert_eq!((stop, again == kept), (102, true));

@@ -5,7 +5,7 @@ use flat_tests::generate::{self, Molecule};
 use flat_tests::model::field::LIMIT;
 use flat_tests::model::list::{self, Listed, Lists, Reached, Task};
 use flat_tests::model::machine::{Search, Stop};
-use flat_tests::model::mark::{self, Bond, LONGEST_MARK};
+use flat_tests::model::mark::{self, Bond, MARK_ROOM};
 use flat_tests::model::{lister, Record};
 use flat_tests::rng::Rng;
 use flat_tests::spoil::{bond_places, bonds_from, lengthened, place, places, put, zero_fill};
@@ -17,7 +17,7 @@ use flat_tests::{examples, sample, sampled, spoil};
 fn compare(calls: &mut Calls, lists: &dyn Lists, mark: &[u8]) -> Result<Search, u32> {
     let on = On::lawful(lists);
     let search = calls.restore(on, mark)?;
-    let again = calls.save(on, &search, LONGEST_MARK);
+    let again = calls.save(on, &search, MARK_ROOM);
     assert_eq!(again.as_deref(), Ok(mark));
     Ok(search)
 }

@@ -7,7 +7,7 @@ use flat_tests::guard::Guarded;
 use flat_tests::model::field::LIMIT;
 use flat_tests::model::list::{self, Listed, Reached, Task};
 use flat_tests::model::machine::{Search, NUMBERS, PLACES};
-use flat_tests::model::mark::{self, LONGEST_MARK};
+use flat_tests::model::mark::{self, MARK_ROOM};
 use flat_tests::model::Record;
 use flat_tests::rng::Rng;
 use flat_tests::{ffi, sample, sampled};
@@ -18,7 +18,7 @@ fn refuse(calls: &mut Calls, on: On, search: &Search) {
         assert_eq!(calls.run(on, search, budget, room), Err(12), "{search:?}");
     }
     // 12 comes before 13.
-    for room in [0, 90, LONGEST_MARK] {
+    for room in [0, 90, MARK_ROOM] {
         assert_eq!(calls.save(on, search, room), Err(12), "{search:?}");
     }
 }
@@ -26,7 +26,7 @@ fn refuse(calls: &mut Calls, on: On, search: &Search) {
 /// Runs and saves a search that rule 12 allows.
 fn accept(calls: &mut Calls, on: On, search: &Search) {
     assert!(calls.run(on, search, 1, 300).is_ok(), "{search:?}");
-    assert!(calls.save(on, search, LONGEST_MARK).is_ok(), "{search:?}");
+    assert!(calls.save(on, search, MARK_ROOM).is_ok(), "{search:?}");
 }
 
 /// Every open beginning of a search with the first, a middle and the last next
@@ -57,7 +57,7 @@ fn of_other_kind(calls: &mut Calls, on: On, task: Task, right: &Search) {
         Task::Paths { .. } => {
             other.kind = 3;
             let ran = calls.run(on, &other, 1, 300);
-            assert_eq!(calls.save(on, &other, LONGEST_MARK).is_ok(), ran.is_ok());
+            assert_eq!(calls.save(on, &other, MARK_ROOM).is_ok(), ran.is_ok());
         }
         _ => {}
     }
@@ -209,7 +209,7 @@ fn rule_12() {
                     let mut search = right.clone();
                     search.prefix[place] = atom;
                     let ran = calls.run(on, &search, 1, 300);
-                    assert_eq!(calls.save(on, &search, LONGEST_MARK).is_ok(), ran.is_ok());
+                    assert_eq!(calls.save(on, &search, MARK_ROOM).is_ok(), ran.is_ok());
                     if atom == 0 || u64::from(atom) > n {
                         assert_eq!(ran, Err(12));
                     }
@@ -259,7 +259,7 @@ fn every_beginning() {
                         .collect();
                     let search = Search::at(task, &p, 1 + number % record.atoms);
                     let ran = calls.run(on, &search, 2, 9);
-                    let saved = calls.save(on, &search, LONGEST_MARK);
+                    let saved = calls.save(on, &search, MARK_ROOM);
                     assert_eq!(ran.is_ok(), saved.is_ok());
                 }
             }
@@ -435,7 +435,7 @@ fn wrong_lengths() {
         for function in 0..7 {
             let mut numbers = Guarded::numbers(numbers_len, case);
             let mut prefix = Guarded::new(prefix_len, case);
-            let mut out = Guarded::new(rng.pick(&[0, 99, 144, LONGEST_MARK]), case);
+            let mut out = Guarded::new(rng.pick(&[0, 99, 144, MARK_ROOM]), case);
             if (3..6).contains(&function) {
                 numbers = numbers.holding(&before);
                 prefix = prefix.holding(&vec![0; prefix_len]);

@@ -12,7 +12,7 @@ use flat_tests::host::Entry;
 use flat_tests::model::field::LIMIT;
 use flat_tests::model::list::{self, Listed, Lists, Reached, Task};
 use flat_tests::model::machine::{Ran, Search, Stop};
-use flat_tests::model::mark::{self, LONGEST_MARK};
+use flat_tests::model::mark::{self, MARK_ROOM};
 use flat_tests::model::{lister, Record};
 use flat_tests::rng::Rng;
 use flat_tests::{sample, sampled, spoil, sum_of_parts};
@@ -416,7 +416,7 @@ impl Course {
     /// Saves the search, restores it, and saves it again: the same bytes.
     fn restore(&mut self, tools: &mut Tools, subject: &Subject) {
         let calls = &mut tools.calls;
-        let saved = calls.save(subject.on(), &self.search, LONGEST_MARK);
+        let saved = calls.save(subject.on(), &self.search, MARK_ROOM);
         let saved = saved.expect("a mark");
         let restored = calls.restore(subject.on(), &saved).expect("its mark");
         assert_eq!(restored, self.search);
@@ -435,12 +435,12 @@ impl Course {
         room: usize,
     ) -> Result<Ran, u32> {
         let sheet = (subject.sheet, Ok(subject.lists));
-        let rooms = (room, LONGEST_MARK);
+        let rooms = (room, MARK_ROOM);
         let mark = if self.search == Search::fresh(Task::Rings) {
             Vec::new()
         } else if self.search == Search::fresh(subject.task) {
             let numbers = subject.task.numbers();
-            tools.entry.start(sheet, numbers, LONGEST_MARK)?
+            tools.entry.start(sheet, numbers, MARK_ROOM)?
         } else {
             mark::write(subject.lists.record(), &self.search)
         };
@@ -476,7 +476,7 @@ impl Course {
             }
             3 => {
                 let sheet = (subject.sheet, Ok(subject.lists));
-                let rooms = (room, rng.index(LONGEST_MARK));
+                let rooms = (room, rng.index(MARK_ROOM));
                 let refused = tools.entry.resume(sheet, &mark, budget, rooms);
                 assert_eq!(refused.err(), Some(13));
             }

@@ -6,7 +6,7 @@ use flat_tests::generate::{self, Molecule};
 use flat_tests::model::field::LIMIT;
 use flat_tests::model::list::{self, Listed, Lists, Reached, Task};
 use flat_tests::model::machine::{Search, Stop};
-use flat_tests::model::mark::{self, LONGEST_MARK};
+use flat_tests::model::mark::{self, MARK_ROOM};
 use flat_tests::model::shortest::Steps;
 use flat_tests::model::{lister, Record};
 use flat_tests::rng::Rng;
@@ -108,7 +108,7 @@ impl Course {
             1 => len - 1,
             2 => len,
             3 => len + 1,
-            4 => LONGEST_MARK,
+            4 => MARK_ROOM,
             _ => len + rng.index(900),
         };
         let saved = calls.save(on, &self.search, room);
@@ -145,7 +145,7 @@ impl Course {
                 };
                 match rng.below(8) {
                     0 => drop(calls.run(on, &search, budget, room)),
-                    1 => drop(calls.save(on, &search, LONGEST_MARK)),
+                    1 => drop(calls.save(on, &search, MARK_ROOM)),
                     2 => drop(calls.restore(on, &mark)),
                     3 => drop(calls.start_rings(on)),
                     4 => drop(calls.start_paths(on, search.s, search.t)),
@@ -160,7 +160,7 @@ impl Course {
             }
             3 => {
                 spoil::search(rng, n, &mut search);
-                let room = rng.index(LONGEST_MARK + 10);
+                let room = rng.index(MARK_ROOM + 10);
                 let _ = calls.save(on, &search, room);
             }
             5 => {
@@ -455,7 +455,7 @@ fn every_place() {
             while course.stop != Some(Stop::Done) {
                 course.run(&mut calls, &subject, 1, 13);
                 let saved = calls
-                    .save(On::lawful(&lists), &course.search, LONGEST_MARK)
+                    .save(On::lawful(&lists), &course.search, MARK_ROOM)
                     .expect("a mark");
                 let restored = calls.restore(On::lawful(&lists), &saved);
                 assert_eq!(restored, Ok(course.search.clone()));
@@ -625,7 +625,7 @@ fn longest_places() {
         for place in [last, last.max(2) - 1, 1] {
             let mut search = Search::at(task, &member[..127], place);
             search.trials = LIMIT - 1_000;
-            let mark = calls.save(on, &search, LONGEST_MARK).expect("a mark");
+            let mark = calls.save(on, &search, MARK_ROOM).expect("a mark");
             let size = mark::size(127, molecule.bonds.len());
             assert_eq!(mark.len(), size);
             assert_eq!(calls.save(on, &search, size), Ok(mark.clone()));

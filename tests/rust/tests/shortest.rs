@@ -8,7 +8,7 @@ use flat_tests::host::{self, Entry};
 use flat_tests::model::field::LIMIT;
 use flat_tests::model::list::{self, Reached, Task};
 use flat_tests::model::machine::Stop;
-use flat_tests::model::mark::LONGEST_MARK;
+use flat_tests::model::mark::MARK_ROOM;
 use flat_tests::model::sheet;
 use flat_tests::model::shortest::{self, OneByOne};
 use flat_tests::rng::Rng;
@@ -734,7 +734,7 @@ fn first_of_many() {
             let budget = rng.pick(&[1, 7, 100, 1_000, 5_000, 20_000, u64::MAX]);
             let room = rng.pick(&[0, 41, 42, 43, 200, 2_000, 4_200]);
             let mut out = vec![0xA5; room];
-            let mut next = [0; LONGEST_MARK];
+            let mut next = [0; MARK_ROOM];
             let stop = host::resume(&sheet, &mark, budget, &mut out, &mut next);
             assert!(stop == 103 || stop == 104, "stop {stop}");
             let new = host::listed(&next) - host::listed(&mark);
@@ -771,7 +771,7 @@ fn first_of_many_by_record() {
         for member in list::members_of(&ran.records) {
             assert_eq!(Some(member), expected.next());
         }
-        let mark = calls.save(on, &ran.search, LONGEST_MARK).expect("a mark");
+        let mark = calls.save(on, &ran.search, MARK_ROOM).expect("a mark");
         search = calls.restore(on, &mark).expect("its mark");
         assert_eq!(search, ran.search);
     }

@@ -3,7 +3,7 @@
 use super::field;
 use super::list::{Lists, Task};
 use super::machine::{self, Search, Stop};
-use super::mark::{self, LONGEST_MARK};
+use super::mark::{self, MARK_ROOM};
 use super::Record;
 
 /// Bytes of the shortest mark.
@@ -33,7 +33,7 @@ pub fn resume(
         [] => Search::fresh(Task::Rings),
         _ => mark::read(lists, mark)?,
     };
-    if mark_room < LONGEST_MARK {
+    if mark_room < MARK_ROOM {
         return Err(13);
     }
     let ran = machine::run(lists, &search, budget, room).expect("a search of a mark");
@@ -54,7 +54,7 @@ pub fn start(
 ) -> Result<Vec<u8>, u32> {
     let record = read?.record();
     let task = Task::start(record.atoms, kind, s, t)?;
-    if mark_room < LONGEST_MARK {
+    if mark_room < MARK_ROOM {
         return Err(13);
     }
     Ok(mark::write(record, &Search::fresh(task)))
@@ -263,7 +263,7 @@ mod tests {
             let mut mark = mark::write(&molecule.record(), &fresh);
             assert_eq!((mark.len(), mark_length(&mark)), (size, size));
             assert_eq!(mark_length(&mark[..size - 1]), 0);
-            mark.resize(LONGEST_MARK, 0xA5);
+            mark.resize(MARK_ROOM, 0xA5);
             assert_eq!(mark_length(&mark), size);
         }
     }

@@ -12,7 +12,7 @@ const WIDE: usize = 20;
 const LONGEST: u64 = 127;
 
 /// Bytes of the longest mark: 127 atoms in its beginning, and 1,024 bonds.
-pub const LONGEST_MARK: usize = 91 + 4 * 127 + 9 * 1024;
+pub const MARK_ROOM: usize = 91 + 4 * 127 + 9 * 1024;
 
 /// A bond as a mark has it, two atoms.
 pub type Bond = (u64, u64);
@@ -192,7 +192,7 @@ mod tests {
 
     #[test]
     fn sizes_by_hand() {
-        assert_eq!(LONGEST_MARK, 9_815);
+        assert_eq!(MARK_ROOM, 9_815);
         assert_eq!((size(0, 0), size(2, 5), size(127, 1024)), (91, 144, 9_815));
         assert_eq!(write_bond((1, 2)), b"   1   2\n");
         assert_eq!(write_bond((127, 128)), b" 127 128\n");
