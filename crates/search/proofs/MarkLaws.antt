@@ -1,5 +1,5 @@
 -- The laws of marks (document 01, rules 12 to 17, with F-5): saved ones restore, accepted ones are saved again as they
--- were, rule 12 is what some mark restores. By the three lines of every mark (Restores, NamedSearch), then by its bonds.
+-- were, rule 12 is what some mark restores. By the three lines of a mark (Restores, NamedSearch), then by its bonds.
 use Prim.Native.Nat.{ℕ, _+_, _*_, _≤_, _<_}
 use native.Mathlib.Omega.{arith}
 use mathlib.Core.Path.{_≡_, refl, ap, ap₂, sym, _∙_}

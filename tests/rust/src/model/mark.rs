@@ -11,7 +11,8 @@ const WIDE: usize = 20;
 /// The longest beginning.
 const LONGEST: u64 = 127;
 
-/// Bytes of the longest mark: 127 atoms in its beginning, and 1,024 bonds.
+/// Bytes that every mark has room in: those of 127 atoms in its beginning and
+/// 1,024 bonds.
 pub const MARK_ROOM: usize = 91 + 4 * 127 + 9 * 1024;
 
 /// A bond as a mark has it, two atoms.
