@@ -1,4 +1,4 @@
--- Buffers after a copy: a whole array filled, a whole list copied word by word, and a record's bytes behind its head.
+-- Buffers after a copy: a whole list copied word by word, and a record's bytes behind its head.
 -- From the laws of `take`, `drop` and `++`.
 use Prim.Native.Nat.{ℕ, _+_, _-_, _≤_, _<_}
 use native.Mathlib.Numerals.{add-one}
@@ -14,6 +14,7 @@ use Rattle.refusal.specs.declared.Answer.the-variants.{Accepted, Refused}
 use Rattle.refusal.specs.Number.{numberOf}
 use Rattle.sheet.specs.declared.SheetAnswer.{SheetAnswer}
 use Rattle.sheet.specs.Read.{readSheet}
+use Rattle.mark_writer.proofs.Splices.{filled}
 use Rattle.flat.specs.Codes.{wrongLength, flatBytes, readCode, readOutput}
 
 pub four-set :
@@ -24,14 +25,6 @@ four-set (x ∷ []) a b c d h = absurd (omega arith)
 four-set (x ∷ y ∷ []) a b c d h = absurd (omega arith)
 four-set (x ∷ y ∷ z ∷ []) a b c d h = absurd (omega arith)
 four-set (x ∷ y ∷ z ∷ w ∷ xs) a b c d h = refl
-
--- a source as long as the target fills it
-pub filled :
-    (src dst out : List ℕ) → length dst ≤ length src → out ≡ take (length src) src ++ drop (length src) dst → out ≡ src
-filled src dst out h copied =
-    let whole = take-all (length src) src (omega arith) in
-    let nothing = drop-of-length-le dst h in
-    copied ∙ ap₂ (λ a b. a ++ b) whole nothing ∙ append-nil src
 
 -- the first i words of a source are in the target dst, which was old
 pub record Copied (src old dst : List ℕ) (i : ℕ) : Type 0 where

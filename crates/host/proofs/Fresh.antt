@@ -67,8 +67,7 @@ unfolding freshSearch searchAt fresh
 fresh-fits mol kind s t next formed room =
     record {
       formed = formed;
-      short = omega arith;
-      full = fresh-full kind s t;
+      lines = record { short = omega arith; full = fresh-full kind s t; room = omega arith };
       room = omega (arith, rule9 mol formed .bonds-high);
     }
 

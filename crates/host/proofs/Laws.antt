@@ -39,6 +39,8 @@ use Rattle.search.proofs.Views.{beginning-length}
 use Rattle.search.proofs.MarkLaws.{family-lawful, restorable-facts, restorable-valid, valid-full, fresh-restorable}
 use Rattle.search.proofs.MarkLaws.{run-restorable, mark-length, saved-restores, restored-restorable}
 use Rattle.history.proofs.Entered.{save-wrote}
+use Rattle.mark_writer.specs.Parts.{OwnLines}
+use Rattle.mark_writer.proofs.Splices.{own-lines-none, own-lines-restored}
 use Rattle.host.specs.Gate.{markRoom}
 use Rattle.host.specs.Resume.{Resumed, refusedCall, searchFor, runAndSave, resume, markSize, listedIn}
 use Rattle.host.proofs.Gate.{by-test, Within, within-refused, GateNumber, SearchTaken, read-formed, went-on, ways}
@@ -73,10 +75,11 @@ mark-numbers mol mark r formed e =
 
 -- ---- the search that it runs
 
--- rule 12 allows it, and its listed count is the mark's
+-- rule 12 allows it, its listed count is the mark's, and the mark has the bond lines of its molecule
 record Begun (mol : Molecule) (mark : List ℕ) (q : Search) : Type 0 where
   kept : restorable mol q ≡ true
   listed-is : listedIn mark ≡ q .listed
+  own : OwnLines mol mark
 
 made-is : (x : Made) → x .answer ≡ Accepted → x ≡ acceptedSearch (x .search)
 made-is x e = ap (λ (a : Answer). record { answer = a; search = x .search }) e
@@ -89,6 +92,7 @@ begun-fresh mol mark formed none =
     (record {
       kept = fresh-restorable mol 0 0 0 formed (unfold kindKept in refl);
       listed-is = sym (listed-short mark (omega arith)) ∙ (unfold freshSearch searchAt fresh in refl);
+      own = own-lines-none mol mark none;
     })
 
 begun-restored :
@@ -101,6 +105,7 @@ begun-restored mol mark some e =
     record {
       kept = restored-restorable mol mark q is .1;
       listed-is = listed-restored mol mark q (restored-facts mol mark q is);
+      own = own-lines-restored mol mark q is;
     }
 
 begun :
@@ -112,12 +117,17 @@ begun mol mark formed e = go (ℕ-discrete (length mark) 0)
     go (yes none) = begun-fresh mol mark formed none
     go (no some) = begun-restored mol mark some e
 
--- the search that is made on an accepted sheet keeps rule 12
-pub made-kept :
-    {sheet : List ℕ} (mark : List ℕ) {read : SheetAnswer} {made : Made} →
-    SearchTaken sheet (λ mol. searchFor mol mark) read made → restorable (read .molecule) (made .search) ≡ true
-made-kept mark {read} m =
-    rw (m .is-made) (begun (read .molecule) mark (read-formed (m .of-sheet)) (rw (m .is-made) at (m .accepted)) .kept)
+-- the search that is made on an accepted sheet keeps rule 12, and the mark handed has the bond lines of its molecule
+module _ {sheet : List ℕ} (mark : List ℕ) {read : SheetAnswer} {made : Made}
+    (m : SearchTaken sheet (λ mol. searchFor mol mark) read made) where
+  made-begun : Begun (read .molecule) mark (searchFor (read .molecule) mark .search)
+  made-begun = begun (read .molecule) mark (read-formed (m .of-sheet)) (rw (m .is-made) at (m .accepted))
+
+  pub made-kept : restorable (read .molecule) (made .search) ≡ true
+  made-kept = rw (m .is-made) (made-begun .kept)
+
+  pub made-lines : OwnLines (read .molecule) mark
+  made-lines = made-begun .own
 
 -- ---- its run and its save
 

@@ -4,6 +4,7 @@ ghost use mathlib.Core.Bool.{true};
 ghost use lib.Dec.{leb};
 ghost use Rattle.molecule.specs.Record.{wellFormed};
 ghost use Rattle.search.specs.Place.{restorable};
+ghost use Rattle.mark_writer.specs.Parts.{OwnLines};
 ghost use Rattle.host.specs.Gate.{markRoom};
 ghost use Rattle.host.specs.Resume.{searchFor, runAndSave, resume, markSize, listedIn};
 ghost use Rattle.host.specs.Start.{startMark};
@@ -31,9 +32,16 @@ fn search_for(m: Molecule, mark: &[u8]) -> Made
     mark_reader::restore_checked(m, mark)
 }
 
-// Runs a search and saves the one that the run returns.
-fn run_and_save(m: Molecule, q: Search, budget: u64, rings: &mut [u8], next_mark: &mut [u8]) -> u32
-    requires { ⌜ (wellFormed m ≡ true) × (restorable m q ≡ true) ⌝ }
+// Runs a search and saves the one that the run returns, with the bond lines of the mark handed, if one was.
+fn run_and_save(
+    m: Molecule,
+    q: Search,
+    mark: &[u8],
+    budget: u64,
+    rings: &mut [u8],
+    next_mark: &mut [u8],
+) -> u32
+    requires { ⌜ (wellFormed m ≡ true) × (restorable m q ≡ true) × OwnLines m (now mark) ⌝ }
     ensures { λ r.
         let x = runAndSave m q budget (now (rings .entry)) (now («next_mark» .entry)) in
         ⌜ (r ≡ x .number) × (now (rings .exit) ≡ x .rings) × (now («next_mark» .exit) ≡ x .nextMark) ⌝ }
@@ -41,7 +49,7 @@ fn run_and_save(m: Molecule, q: Search, budget: u64, rings: &mut [u8], next_mark
     let ran = runner::run_checked(m, q, budget, rings);
     let search = ran.search;
     let ended = ran.ended;
-    mark_writer::save_checked(m, search, next_mark);
+    mark_writer::save_checked(m, search, mark, next_mark);
     search::ended_number(ended)
 }
 
@@ -80,7 +88,7 @@ pub extern "C" fn ringlist_resume(
                     if !has_room(next_mark.len()) {
                         return refusal::number(Refusal::MarkRoom);
                     }
-                    run_and_save(read.molecule, q, budget, rings, next_mark)
+                    run_and_save(read.molecule, q, mark, budget, rings, next_mark)
                 }
             }
         }
@@ -114,7 +122,8 @@ pub extern "C" fn ringlist_start(
                     if !has_room(next_mark.len()) {
                         return refusal::number(Refusal::MarkRoom);
                     }
-                    mark_writer::put_mark(read.molecule, q, next_mark);
+                    let none = [0u8; 0];
+                    mark_writer::put_mark(read.molecule, q, &none, next_mark);
                     0
                 }
             }

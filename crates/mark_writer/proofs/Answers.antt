@@ -51,7 +51,11 @@ module _ {mol : Molecule} {q : Search} (s : Saving mol q) where
 
     module _ (room : size ≤ length out) where
       pub saving-fits : MarkFits mol q out
-      saving-fits = record { formed = s .formed; short = saving-short; full = s .full; room = room }
+      saving-fits = record {
+        formed = s .formed;
+        lines = record { short = saving-short; full = s .full; room = omega arith };
+        room = room;
+      }
 
       pub saved-written :
           {last : List ℕ} → last ≡ spliced 0 (markText mol q) out →

@@ -4,9 +4,10 @@ use Prim.Native.Nat.{ℕ, _+_, _-_, _*_, _≤_, _<_}
 use native.Mathlib.Nat.{add-zero, zero-add}
 use native.Mathlib.Numerals.{add-one}
 use native.Mathlib.Omega.{arith}
-use mathlib.Core.Path.{_≡_, refl, ap, sym, _∙_}
+use mathlib.Core.Path.{_≡_, refl, ap, ap₂, sym, _∙_}
 use mathlib.Core.List.{List, [], _∷_, _++_, append-assoc, append-nil}
 use lib.ListN.{length, getD, take, drop, set, length-append, length-drop, take-append-drop}
+use lib.ListN.{drop-of-length-le}
 use lib.Seq.{take-at, drop-append-add, drop-drop, take-all, append-snoc, set-split, length-take-le}
 use Rattle.fields.specs.Field.{fieldText}
 use Rattle.fields.proofs.Laws.{field-length}
@@ -17,12 +18,13 @@ use Rattle.molecule.proofs.Bonds.{rule9}
 use Rattle.molecule.proofs.BondCount.{bonds-count}
 use Rattle.search.specs.declared.Search.{Search}
 use Rattle.search.specs.Place.{beginning}
-use Rattle.search.specs.Mark.{fieldsText, lineFeed, threeLines, bondLines, markText}
+use Rattle.search.specs.Entries.{acceptedSearch}
+use Rattle.search.specs.Mark.{fieldsText, lineFeed, threeLines, bondLines, bondsFrom, markText, restoreMark}
 use Rattle.search.proofs.Text.{fields-length, fields-more}
 use Rattle.search.proofs.Views.{beginning-length}
 use Rattle.search.proofs.Restores.{headOf, countsOf, three-length}
-use Rattle.search.proofs.MarkLaws.{mark-length}
-use Rattle.mark_writer.specs.Parts.{spliced, BondsFit, LinesFit, MarkFits}
+use Rattle.search.proofs.MarkLaws.{bonds-size, restored-bonds}
+use Rattle.mark_writer.specs.Parts.{spliced, BondsFit, CopyFits, OwnLines, LinesFit, MarkFits}
 
 -- ---- one splice
 
@@ -39,17 +41,51 @@ pub splice-byte : (l : List ℕ) (at b : ℕ) → at < length l → set l at b �
 unfolding spliced
 splice-byte l at b h = set-split l at b h ∙ rw (append-snoc, add-one)
 
--- a field written into its part of the list
+-- a text of k bytes written into its part of the list
+splice-part :
+    (l : List ℕ) {last text : List ℕ} (at k : ℕ) → at + k ≤ length l → length text ≡ k → last ≡ text →
+    take at l ++ (last ++ drop (at + k - at) (drop at l)) ≡ spliced at text l
+unfolding spliced
+splice-part l at k h size e =
+    let part : at + k - at ≡ k = omega arith in
+    rw (e, part, drop-drop k at l, size, append-assoc)
+
+-- that part
+part-length : (l : List ℕ) (at k : ℕ) → at + k ≤ length l → length (take (at + k - at) (drop at l)) ≡ k
+part-length l at k h =
+    let room : at + k - at ≤ length (drop at l) = rw (length-drop at l) (omega arith) in
+    length-take-le (at + k - at) (drop at l) room ∙ omega arith
+
+-- a field
 pub splice-field :
     (l : List ℕ) {last : List ℕ} (at columns v : ℕ) → at + columns ≤ length l →
     last ≡ fieldText (length (take (at + columns - at) (drop at l))) v →
     take at l ++ (last ++ drop (at + columns - at) (drop at l)) ≡ spliced at (fieldText columns v) l
-unfolding spliced
 splice-field l at columns v h e =
-    let k : at + columns - at ≡ columns = omega arith in
-    let room : columns ≤ length (drop at l) = rw (length-drop at l) (omega arith) in
-    let size : length (take columns (drop at l)) ≡ columns = length-take-le columns (drop at l) room in
-    rw (e, k, size, drop-drop columns at l, field-length, append-assoc)
+    splice-part l at columns h (field-length columns v) (e ∙ ap (λ k. fieldText k v) (part-length l at columns h))
+
+-- a source as long as the target fills it
+pub filled :
+    (src dst out : List ℕ) → length dst ≤ length src → out ≡ take (length src) src ++ drop (length src) dst → out ≡ src
+filled src dst out h copied =
+    let whole = take-all (length src) src (omega arith) in
+    let nothing = drop-of-length-le dst h in
+    copied ∙ ap₂ (λ a b. a ++ b) whole nothing ∙ append-nil src
+
+-- a copy of what another list has from a place on
+pub splice-copy :
+    (l bytes : List ℕ) {last : List ℕ} (at from : ℕ) {start : ℕ} → start ≡ from → from ≤ length bytes →
+    at + (length bytes - from) ≤ length l →
+    let k = length bytes - start in
+    let copied = take k (drop start bytes) in
+    last ≡ take (length copied) copied ++ drop (length copied) (take (at + k - at) (drop at l)) →
+    take at l ++ (last ++ drop (at + k - at) (drop at l)) ≡ spliced at (drop from bytes) l
+splice-copy l bytes at from is whole room e =
+    let k = length bytes - from in
+    let size : length (drop from bytes) ≡ k = length-drop from bytes in
+    let all : take k (drop from bytes) ≡ drop from bytes = take-all k (drop from bytes) (omega arith) in
+    let part = part-length l at k room in
+    rw is (splice-part l at k room size (filled _ _ _ (rw (all, size, part) (omega arith)) (rw is at e) ∙ all))
 
 -- ---- one after another
 
@@ -160,26 +196,50 @@ module _ {q : Search} {l : List ℕ} (fits : LinesFit q l) where
 
 -- ---- a mark
 
-module _ {mol : Molecule} {q : Search} {l : List ℕ} (fits : MarkFits mol q l) where
-  pub fits-lines : LinesFit q l
-  fits-lines = let room = fits .room in record { short = fits .short; full = fits .full; room = omega arith }
+-- of no bytes nothing is copied
+pub own-lines-none : (mol : Molecule) (last : List ℕ) → length last ≡ 0 → OwnLines mol last
+own-lines-none mol last none = record { whole = λ h. absurd (omega arith); lines = λ h. absurd (omega arith) }
 
-  -- past the three lines there is room for the bond lines
-  pub fits-bonds : (out : List ℕ) → length out ≡ length l → BondsFit (mol .rows) (mol .atoms) out (91 + 4 * q .len)
-  fits-bonds out same =
-      let rule = rule9 mol (fits .formed) in
-      let room = fits .room in
-      record { few = rule .atoms-high; sound = rule .rows-sound; room = omega (arith, bonds-count mol (fits .formed)) }
+-- an accepted mark has the bond lines of its molecule
+pub own-lines-restored :
+    (mol : Molecule) (last : List ℕ) (q : Search) → restoreMark mol last ≡ acceptedSearch q → OwnLines mol last
+own-lines-restored mol last q e =
+    let (whole, lines) = restored-bonds mol last q e in
+    record { whole = λ h. whole; lines = λ h. lines }
+
+module _ {mol : Molecule} {q : Search} {l : List ℕ} (fits : MarkFits mol q l) where
+  abbrev lines : List ℕ
+  lines = bondLines (bondList (mol .rows))
+
+  -- past the three lines there is room for the bond lines, made or copied
+  module _ (out : List ℕ) (same : length out ≡ length l) where
+    pub fits-bonds : BondsFit (mol .rows) (mol .atoms) out (91 + 4 * q .len)
+    fits-bonds =
+        let rule = rule9 mol (fits .formed) in
+        let room = fits .room in
+        record { few = rule .atoms-high; sound = rule .rows-sound; room = omega (arith, bonds-count mol (fits .formed)) }
+
+    pub fits-copy : {last : List ℕ} → OwnLines mol last → 1 ≤ length last → CopyFits last out (91 + 4 * q .len)
+    fits-copy {last} own some =
+        let given = own .lines some in
+        let size = sym (length-drop (bondsFrom last) last) ∙ ap length given ∙ bonds-size mol (fits .formed) in
+        let room = fits .room in
+        record { whole = own .whole some; room = omega arith }
 
   -- they are put where the three lines end
   pub mark-put :
-      {l1 l2 : List ℕ} → l1 ≡ spliced 0 (threeLines mol q) l →
-      l2 ≡ spliced (91 + 4 * q .len) (bondLines (bondList (mol .rows))) l1 → l2 ≡ spliced 0 (markText mol q) l
+      {l1 l2 : List ℕ} → l1 ≡ spliced 0 (threeLines mol q) l → l2 ≡ spliced (91 + 4 * q .len) lines l1 →
+      l2 ≡ spliced 0 (markText mol q) l
   unfolding markText
   mark-put {l1} e1 e2 =
-      let bonds = bondLines (bondList (mol .rows)) in
-      let len = fits-length fits-lines in
+      let len = fits-length (fits .lines) in
       let three = three-length mol q in
-      let whole = sym (length-append (threeLines mol q) bonds) ∙ mark-length mol q (fits .formed) in
+      let size = bonds-size mol (fits .formed) in
       let room = fits .room in
-      e2 ∙ splice-next l (threeLines mol q) bonds l1 0 (91 + 4 * q .len) e1 (omega arith) (omega arith)
+      e2 ∙ splice-next l (threeLines mol q) lines l1 0 (91 + 4 * q .len) e1 (omega arith) (omega arith)
+
+  pub mark-copied :
+      {last l1 l2 : List ℕ} → OwnLines mol last → 1 ≤ length last → l1 ≡ spliced 0 (threeLines mol q) l →
+      l2 ≡ spliced (91 + 4 * q .len) (drop (bondsFrom last) last) l1 → l2 ≡ spliced 0 (markText mol q) l
+  mark-copied {l1 = l1} own some e1 e2 =
+      mark-put e1 (e2 ∙ ap (λ text. spliced (91 + 4 * q .len) text l1) (own .lines some))

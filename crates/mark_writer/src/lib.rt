@@ -3,15 +3,16 @@ ghost use mathlib.Core.Path.{_≡_};
 ghost use mathlib.Core.Bool.{true};
 ghost use mathlib.Core.List.{[], _∷_};
 ghost use Prim.Native.Nat.{_+_, _*_, _≤_, _<_};
-ghost use lib.ListN.{length};
+ghost use lib.ListN.{length, drop};
 ghost use Rattle.fields.specs.Field.{fieldText};
 ghost use Rattle.molecule.specs.Record.{wellFormed};
 ghost use Rattle.search.specs.Place.{restorable};
-ghost use Rattle.search.specs.Mark.{fieldsText, threeLines, bondLines, markText};
+ghost use Rattle.search.specs.Mark.{fieldsText, threeLines, bondLines, bondsFrom, markText};
 ghost use Rattle.search.specs.Mark.{saveAnswer, saveOutput};
 ghost use Rattle.molecule.specs.BondList.{bondList};
 ghost use Rattle.mark_writer.specs.Parts.{spliced, cellBonds, byteBonds, rowBonds, LinesPut};
-ghost use Rattle.mark_writer.specs.Parts.{CellFits, ByteFits, RowFits, BondsFit, LinesFit, MarkFits};
+ghost use Rattle.mark_writer.specs.Parts.{CellFits, ByteFits, RowFits, BondsFit, CopyFits, LinesFit, MarkFits};
+ghost use Rattle.mark_writer.specs.Parts.{OwnLines};
 use molecule::Molecule;
 use refusal::Refusal;
 use search::Saved;
@@ -134,6 +135,18 @@ fn put_bonds(out: &mut [u8], at: usize, rows: &[u8; 2048], n: usize)
     }
 }
 
+// The bond lines of another mark.
+fn copy_bonds(out: &mut [u8], at: usize, mark: &[u8])
+    requires { ⌜ CopyFits (now mark) (now out) at ⌝ }
+    ensures { λ _.
+        let bytes = now (mark .entry) in
+        ⌜ now (out .exit) ≡ spliced at (drop (bondsFrom bytes) bytes) (now (out .entry)) ⌝ }
+{
+    let from = 91 + 4 * (fields::value_at(mark, 4, 20) as usize);
+    let end = at + (mark.len() - from);
+    bytes::copy(&mark[from..], &mut out[at..end]);
+}
+
 // The three lines of a mark, of a search that need not keep rule 12.
 fn put_three_lines(m: Molecule, q: Search, out: &mut [u8])
     requires { ⌜ LinesFit q (now out) ⌝ }
@@ -160,19 +173,25 @@ fn put_three_lines(m: Molecule, q: Search, out: &mut [u8])
 }
 
 // The mark of a search: its three lines, and then a line for each bond. The search need not keep rule 12.
-pub fn put_mark(m: Molecule, q: Search, out: &mut [u8])
-    requires { ⌜ MarkFits m q (now out) ⌝ }
+// The bond lines of `last`, a mark of the same molecule, are copied, which is faster than to make them; where it has no
+// bytes they are made.
+pub fn put_mark(m: Molecule, q: Search, last: &[u8], out: &mut [u8])
+    requires { ⌜ MarkFits m q (now out) × OwnLines m (now last) ⌝ }
     ensures { λ _. ⌜ now (out .exit) ≡ spliced 0 (markText m q) (now (out .entry)) ⌝ }
 {
     let len = q.len;
-    let rows = m.rows;
     put_three_lines(m, q, out);
+    if last.len() != 0 {
+        copy_bonds(out, 91 + 4 * len, last);
+        return;
+    }
+    let rows = m.rows;
     put_bonds(out, 91 + 4 * len, &rows, m.atoms);
 }
 
 // Saves a search that rules 9 and 12 allow as a mark: rule 13. Only the mark's bytes are written.
-pub fn save_checked(m: Molecule, q: Search, out: &mut [u8]) -> Saved
-    requires { ⌜ (wellFormed m ≡ true) × (restorable m q ≡ true) ⌝ }
+pub fn save_checked(m: Molecule, q: Search, last: &[u8], out: &mut [u8]) -> Saved
+    requires { ⌜ (wellFormed m ≡ true) × (restorable m q ≡ true) × OwnLines m (now last) ⌝ }
     ensures { λ r. ⌜
         (r ≡ saveAnswer m q (now (out .entry))) ×
         (now (out .exit) ≡ saveOutput m q (now (out .entry))) ⌝ }
@@ -182,6 +201,6 @@ pub fn save_checked(m: Molecule, q: Search, out: &mut [u8]) -> Saved
     if out.len() < size {
         return Saved::Refused(Refusal::MarkRoom);
     }
-    put_mark(m, q, out);
+    put_mark(m, q, last, out);
     Saved::Written(size)
 }

@@ -20,7 +20,8 @@ pub fn save(m: Molecule, q: Search, out: &mut [u8]) -> Saved
     if !search_rules::check_search(m, q) {
         return Saved::Refused(Refusal::Search);
     }
-    mark_writer::save_checked(m, q, out)
+    let none = [0u8; 0];
+    mark_writer::save_checked(m, q, &none, out)
 }
 
 // Restores a search from a mark: rules 9, 14, 15, 16, 17.

@@ -69,7 +69,7 @@ module _ (mol : Molecule) (bytes : List ℕ) where
 -- ---- the mark of a search
 
 -- the bond lines of a molecule
-bonds-size :
+pub bonds-size :
     (mol : Molecule) → wellFormed mol ≡ true → length (bondLines (bondList (mol .rows))) ≡ 9 * mol .bonds
 bonds-size mol formed = bond-lines-length (bondList (mol .rows)) ∙ ap (λ k. 9 * k) (bonds-count mol formed)
 
@@ -164,6 +164,14 @@ module _ (mol : Molecule) (bytes : List ℕ) (q : Search) (f : Restored mol byte
 pub restored-saves :
     (mol : Molecule) (bytes : List ℕ) (q : Search) → restoreMark mol bytes ≡ acceptedSearch q → markText mol q ≡ bytes
 restored-saves mol bytes q e = saves-again mol bytes q (restored-facts mol bytes q e)
+
+-- Past its three lines it has the bond lines of the molecule
+pub restored-bonds :
+    (mol : Molecule) (bytes : List ℕ) (q : Search) → restoreMark mol bytes ≡ acceptedSearch q →
+    (bondsFrom bytes ≤ length bytes) × (drop (bondsFrom bytes) bytes ≡ bondLines (bondList (mol .rows)))
+restored-bonds mol bytes q e =
+    let f = restored-facts mol bytes q e in
+    (omega (arith, laid mol bytes q f .lines .size), bonds-past mol bytes q f)
 
 -- An accepted mark restores a search that rule 12 allows, on a molecule that rule 9 allows
 pub restored-restorable :

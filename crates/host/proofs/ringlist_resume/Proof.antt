@@ -8,7 +8,7 @@ use Rattle.host.specs.Resume.{searchFor}
 use Rattle.host.proofs.Gate.{SheetTaken, SearchTaken, read-formed}
 use Rattle.host.proofs.Gate.{sheet-refused, search-refused, room-refused, goes-on}
 use Rattle.host.proofs.Answers.{leaves}
-use Rattle.host.proofs.Laws.{made-kept}
+use Rattle.host.proofs.Laws.{made-kept, made-lines}
 use Rattle.host.proofs.ringlist_resume.Statement.{statement}
 use Rattle.host.proofs.ringlist_resume.Tie as tie
 
@@ -59,7 +59,9 @@ returns c =
     leaves full _ _ _ (c .number3 .ensures, refl, refl)
 
 run-and-save-requires : tie.Need-run-and-save-requires
-run-and-save-requires c κs = (read-formed (sheet-taken (search)), made-kept _ (mark-taken (search)))
+run-and-save-requires c κs =
+    let made = mark-taken (search) in
+    (read-formed (sheet-taken (search)), made-kept _ made, made-lines _ made)
 
 returns-2 : tie.Need-returns-2
 returns-2 c =

@@ -4,6 +4,7 @@ use mathlib.Core.Path.{refl, sym, _∙_}
 use borrow.Author.Tests.{not-true, not-false}
 use borrow.Author.Needs.{needs}
 use Rattle.search.specs.Entries.{startSearch}
+use Rattle.mark_writer.proofs.Splices.{own-lines-none}
 use Rattle.host.proofs.Gate.{SheetTaken, SearchTaken}
 use Rattle.host.proofs.Gate.{sheet-refused, search-refused, room-refused, goes-on}
 use Rattle.host.proofs.Answers.{leaves-mark, mark-put}
@@ -58,7 +59,7 @@ put-mark-requires : tie.Need-put-mark-requires
 put-mark-requires c κs =
     let else1 : tie.Else1 = search in
     let room = sym (else1 .before .has-room .ensures) ∙ not-false _ (else1 .if1 .left) in
-    start-fits _ _ _ _ (start-taken (search)) room
+    (start-fits _ _ _ _ (start-taken (search)) room, own-lines-none _ _ (search needs))
 
 returns-2 : tie.Need-returns-2
 returns-2 c =
@@ -87,4 +88,4 @@ ringlist-start-spec =
     (tie.spec
     (λ c κs. search needs) (λ c. search needs) (λ c κs. search needs) enum-told (λ c κs. search needs)
     (λ c. search needs) (λ c κs. search needs) (λ c. search needs) (λ c κs. search needs) (λ c κs. search needs)
-    returns put-mark-requires returns-2 returns-3 (λ c. search needs) returns-4)
+    returns (λ c. search needs) put-mark-requires returns-2 returns-3 (λ c. search needs) returns-4)

@@ -10,9 +10,9 @@ save-checked-requires : tie.Need-save-checked-requires
 save-checked-requires c κs =
     let start : tie.Start = search in
     let ran : tie.After-run-checked = search in
-    let (formed, kept) = start .pre in
+    let (formed, kept, own) = start .pre in
     let (is-ran, is-out) = ran .run-checked .ensures in
-    (formed, ran-kept _ _ formed kept _ _ _ is-ran)
+    (formed, ran-kept _ _ formed kept _ _ _ is-ran, own)
 
 returns : tie.Need-returns
 returns c =

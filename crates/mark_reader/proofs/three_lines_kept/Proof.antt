@@ -8,16 +8,7 @@ use Rattle.mark_reader.proofs.Layouts.{other-size, same-size, last-deci
 use Rattle.mark_reader.proofs.three_lines_kept.Statement.{statement}
 use Rattle.mark_reader.proofs.three_lines_kept.Tie as tie
 
--- ---- the place where the number of bonds is read, and what is known there: the bytes of the bonds
--- (in a proof, the argument `(search)` is a place: it is found in c by its type)
-
-abbrev start : tie.After-small-at2 → tie.Start
-start c = c .before .before .before .before .before .before .before .before .before .before .before .before .before
-
-bonds-few : (c : tie.After-small-at2) → start c .args .per-bond * c .small-at2 .result ≤ 89991
-bonds-few c = bonds-small _ (start c .args .bytes .now) (start c .pre) (c .small-at2 .ensures)
-
--- ---- the needs
+-- ---- the needs (`search` finds a place in c by its type)
 
 returns : tie.Need-returns
 returns c = broken (λ lines. omega arith)
@@ -38,10 +29,16 @@ returns-6 : tie.Need-returns-6
 returns-6 c = broken (λ lines. omega arith)
 
 mul-if7-2 : tie.Need-mul-if7-2
-mul-if7-2 c = omega (arith, bonds-few (search))
+mul-if7-2 c =
+    let start : tie.Start = search in
+    let bonds : tie.After-small-at2 = search in
+    omega (arith, bonds-small _ (start .args .bytes .now) (start .pre) (bonds .small-at2 .ensures))
 
 add-if7-2 : tie.Need-add-if7-2
-add-if7-2 c = omega (arith, bonds-few (search))
+add-if7-2 c =
+    let start : tie.Start = search in
+    let bonds : tie.After-small-at2 = search in
+    omega (arith, bonds-small _ (start .args .bytes .now) (start .pre) (bonds .small-at2 .ensures))
 
 returns-7 : tie.Need-returns-7
 returns-7 c =

@@ -20,7 +20,9 @@ returns : tie.Need-returns
 returns c = saved-room (saving (search)) _ (omega arith)
 
 put-mark-requires : tie.Need-put-mark-requires
-put-mark-requires c κs = saving-fits (saving (search)) _ (c .before .if1 .left)
+put-mark-requires c κs =
+    let start : tie.Start = search in
+    (saving-fits (saving (search)) _ (c .before .if1 .left), start .pre .2)
 
 returns-2 : tie.Need-returns-2
 returns-2 c =

@@ -5,6 +5,7 @@ use mathlib.Core.Bool.{true}
 use borrow.Author.Tests.{not-true, not-false}
 use borrow.Author.Needs.{needs}
 use Rattle.molecule.specs.Record.{wellFormed}
+use Rattle.mark_writer.proofs.Splices.{own-lines-none}
 use Rattle.marks.proofs.Answers.{saved-record, saved-search}
 use Rattle.marks.proofs.save.Statement.{statement}
 use Rattle.marks.proofs.save.Tie as tie
@@ -34,11 +35,12 @@ returns-2 c =
 save-checked-requires : tie.Need-save-checked-requires
 save-checked-requires c κs =
     let else2 : tie.Else2 = search in
-    (formed (search), sym (else2 .before .check-search .ensures) ∙ not-false _ (else2 .if2 .left))
+    let kept = sym (else2 .before .check-search .ensures) ∙ not-false _ (else2 .if2 .left) in
+    (formed (search), kept, own-lines-none _ _ (search needs))
 
 pub save-spec : {M : Type 1} → statement M
 save-spec =
     tie.close
     (tie.spec
-    (λ c κs. search needs) returns check-search-requires returns-2 save-checked-requires (λ c. search needs)
-    (λ c. search needs))
+    (λ c κs. search needs) returns check-search-requires returns-2 (λ c. search needs) save-checked-requires
+    (λ c. search needs) (λ c. search needs))
