@@ -40,7 +40,7 @@ use Rattle.search.proofs.MarkLaws.{family-lawful, restorable-facts, restorable-
 use Rattle.search.proofs.MarkLaws.{run-restorable, mark-length, saved-restores, restored-restorable}
 use Rattle.history.proofs.Entered.{save-wrote}
 use Rattle.mark_writer.specs.Parts.{OwnLines}
-use Rattle.mark_writer.proofs.Splices.{own-lines-none, own-lines-restored}
+use Rattle.mark_writer.proofs.MarkSplices.{own-lines-none, own-lines-restored}
 use Rattle.host.specs.Gate.{markRoom}
 use Rattle.host.specs.Resume.{Resumed, refusedCall, searchFor, runAndSave, resume, markSize, listedIn}
 use Rattle.host.proofs.Gate.{by-test, Within, within-refused, GateNumber, SearchTaken, read-formed, went-on, ways}

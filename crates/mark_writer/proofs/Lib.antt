@@ -1,4 +1,5 @@
 pub mod Splices
+pub mod MarkSplices
 pub mod CellBonds
 pub mod BondSplices
 pub mod Answers

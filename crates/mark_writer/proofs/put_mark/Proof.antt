@@ -1,7 +1,7 @@
 -- `mark_writer::put_mark` meets its contract: the bond lines, made or copied, are put where the three lines end.
 use native.Mathlib.Omega.{arith}
 use borrow.Author.Needs.{needs}
-use Rattle.mark_writer.proofs.Splices.{fits-bonds, fits-copy, mark-put, mark-copied}
+use Rattle.mark_writer.proofs.MarkSplices.{fits-bonds, fits-copy, mark-put, mark-copied}
 use Rattle.mark_writer.proofs.put_mark.Statement.{statement}
 use Rattle.mark_writer.proofs.put_mark.Tie as tie
 

@@ -4,7 +4,7 @@ use native.Mathlib.Omega.{arith}
 use mathlib.Core.Path.{sym}
 use borrow.Author.Needs.{needs}
 use Rattle.search.specs.Place.{beginning}
-use Rattle.mark_writer.proofs.Splices.{fits-length, lines-put}
+use Rattle.mark_writer.proofs.MarkSplices.{fits-length, lines-put}
 use Rattle.mark_writer.proofs.put_three_lines.Statement.{statement}
 use Rattle.mark_writer.proofs.put_three_lines.Tie as tie
 

@@ -5,7 +5,7 @@ use mathlib.Core.Bool.{true}
 use borrow.Author.Tests.{not-true, not-false}
 use borrow.Author.Needs.{needs}
 use Rattle.molecule.specs.Record.{wellFormed}
-use Rattle.mark_writer.proofs.Splices.{own-lines-none}
+use Rattle.mark_writer.proofs.MarkSplices.{own-lines-none}
 use Rattle.marks.proofs.Answers.{saved-record, saved-search}
 use Rattle.marks.proofs.save.Statement.{statement}
 use Rattle.marks.proofs.save.Tie as tie
