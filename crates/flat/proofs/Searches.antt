@@ -1,6 +1,5 @@
--- The entries on searches: what they return and write, by the lengths
--- of their buffers and by the answer of the entry that they call.
--- The definitions go by the test of the lengths, and then by the cases of the answer.
+-- The entries on searches: what they return and write, by the lengths of their buffers and the answer of the entry that
+-- they call. The definitions go by the test of the lengths, and then by the cases of the answer.
 use Prim.Native.Nat.{ℕ, _≤_}
 use native.Mathlib.Omega.{arith}
 use mathlib.Core.Path.{_≡_, ap, _∙_}

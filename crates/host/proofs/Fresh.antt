@@ -1,5 +1,4 @@
--- The fresh mark, from which a host starts a search of any kind (include/ringlist.h): its bytes, what it restores, and
--- that 9,815 bytes have room for it.
+-- The fresh mark, from which a host starts a search of any kind: its bytes, what it restores, and that it has room.
 -- The bytes by computing; a fresh search keeps rule 12 where its kind, s and t keep rule 16, so its mark restores it.
 use Prim.Native.Nat.{ℕ, _≤_}
 use native.Mathlib.Omega.{arith}

@@ -1,5 +1,4 @@
--- The laws of `ringlist_resume`: which numbers it returns, that a refusal leaves both
--- outputs as they were, and that neither its run nor its save is refused.
+-- The laws of `ringlist_resume`: its numbers, that a refusal leaves both outputs, that no run and no save is refused.
 -- An accepted sheet keeps rule 9 and an accepted mark rule 12, a run keeps both, and a mark is at most 9,815 bytes.
 use Prim.Native.Nat.{ℕ, _+_, _≤_, _<_}
 use native.Mathlib.Decide.{ℕ-discrete}

@@ -1,6 +1,5 @@
--- The laws of the entry that starts a search: which numbers it returns, that a refusal leaves its output as it was,
--- that otherwise the mark of the fresh search is written, and that demand 3 holds of calls from there on.
--- By its ways; the mark is a first mark of `host-demand3`.
+-- The laws of `ringlist_start`: its numbers, that a refusal leaves its output as it was, that else the fresh mark is
+-- written, and demand 3 from there on. By its ways; the mark is a first mark of `host-demand3`.
 use Prim.Native.Nat.{ℕ, _+_, _*_, _≤_}
 use native.Mathlib.Omega.{arith}
 use mathlib.Core.Path.{_≡_, refl, sym, ap, _∙_}

@@ -1,6 +1,5 @@
--- `host::ringlist_resume` meets its contract: each way out is one answer of the definition.
--- The three refusals leave both outputs as they were; the last way is the run and the save, of a molecule and a search
--- that keep rules 9 and 12.
+-- `host::ringlist_resume` meets its contract: each way out is one answer of the definition. Three leave both outputs as
+-- they were; the last is the run and the save, of a molecule, a search and a mark that are what these ask for.
 use mathlib.Core.Path.{refl, sym, _∙_}
 use borrow.Author.Tests.{not-true, not-false}
 use borrow.Author.Needs.{needs}
