@@ -17,9 +17,9 @@
    buffers that keep marks as large: a mark has 9 bytes more for each bond. Old
    marks: of a molecule with bonds, an old mark is refused (14),
    ringlist_mark_length of just its bytes is 0, and its search has to be started
-   anew. Of a molecule without bonds nothing has changed. ringlist_listed reads
-   old and new marks alike. A mark of another molecule, also of an isomer, is
-   now always refused (15), so a host need not check that itself. Functions,
+   anew. The marks of a molecule without bonds have not changed. ringlist_listed
+   reads old and new marks alike. A mark of another molecule, also of an isomer,
+   is now always refused (15), so a host need not check that itself. Functions,
    parameters and records are as they were. */
 #ifndef RINGLIST_H
 #define RINGLIST_H

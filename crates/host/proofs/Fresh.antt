@@ -1,4 +1,4 @@
--- The fresh mark, from which a host starts a search of any kind: its bytes, what it restores, and that it has room.
+-- The fresh mark, from which a host starts a search of any kind: its bytes, what it restores, its room in the output.
 -- The bytes by computing; a fresh search keeps rule 12 where its kind, s and t keep rule 16, so its mark restores it.
 use Prim.Native.Nat.{ℕ, _≤_}
 use native.Mathlib.Omega.{arith}

@@ -1,4 +1,4 @@
--- The laws of `ringlist_resume`: its numbers, that a refusal leaves both outputs, that no run and no save is refused.
+-- The laws of `ringlist_resume`: its numbers, that a refusal changes no output, that its run and save are not refused.
 -- An accepted sheet keeps rule 9 and an accepted mark rule 12, a run keeps both, and a mark is at most 9,815 bytes.
 use Prim.Native.Nat.{ℕ, _+_, _≤_, _<_}
 use native.Mathlib.Decide.{ℕ-discrete}
@@ -74,7 +74,7 @@ mark-numbers mol mark r formed e =
 
 -- ---- the search that it runs
 
--- rule 12 allows it, its listed count is the mark's, and the mark has the bond lines of its molecule
+-- rule 12 allows it, its listed count is the mark's, and the mark has its molecule's bond lines or no bytes
 record Begun (mol : Molecule) (mark : List ℕ) (q : Search) : Type 0 where
   kept : restorable mol q ≡ true
   listed-is : listedIn mark ≡ q .listed
@@ -116,7 +116,7 @@ begun mol mark formed e = go (ℕ-discrete (length mark) 0)
     go (yes none) = begun-fresh mol mark formed none
     go (no some) = begun-restored mol mark some e
 
--- the search that is made on an accepted sheet keeps rule 12, and the mark handed has the bond lines of its molecule
+-- the search made on an accepted sheet keeps rule 12, and the mark handed has its molecule's bond lines or no bytes
 module _ {sheet : List ℕ} (mark : List ℕ) {read : SheetAnswer} {made : Made}
     (m : SearchTaken sheet (λ mol. searchFor mol mark) read made) where
   made-begun : Begun (read .molecule) mark (searchFor (read .molecule) mark .search)

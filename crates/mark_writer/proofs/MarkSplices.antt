@@ -1,6 +1,6 @@
 -- The parts of a mark put over a list, each where the one before it ends, are its text put over the front.
--- The bond lines are made, or copied from a mark of the same molecule, which has just them.
-use Prim.Native.Nat.{ℕ, _+_, _-_, _*_, _≤_}
+-- The bond lines are made, or copied from a mark of the same molecule, which has the same ones.
+use Prim.Native.Nat.{ℕ, _+_, _*_, _≤_}
 use native.Mathlib.Omega.{arith}
 use mathlib.Core.Path.{_≡_, refl, ap, sym, _∙_}
 use mathlib.Core.List.{List, _++_}
@@ -60,14 +60,14 @@ module _ {q : Search} {l : List ℕ} (fits : LinesFit q l) where
 -- ---- a mark
 
 -- of no bytes nothing is copied
-pub own-lines-none : (mol : Molecule) (last : List ℕ) → length last ≡ 0 → OwnLines mol last
-own-lines-none mol last none = record { whole = λ h. absurd (omega arith); lines = λ h. absurd (omega arith) }
+pub own-lines-none : (mol : Molecule) (mark : List ℕ) → length mark ≡ 0 → OwnLines mol mark
+own-lines-none mol mark none = record { whole = λ h. absurd (omega arith); lines = λ h. absurd (omega arith) }
 
 -- an accepted mark has the bond lines of its molecule
 pub own-lines-restored :
-    (mol : Molecule) (last : List ℕ) (q : Search) → restoreMark mol last ≡ acceptedSearch q → OwnLines mol last
-own-lines-restored mol last q e =
-    let (whole, lines) = restored-bonds mol last q e in
+    (mol : Molecule) (mark : List ℕ) (q : Search) → restoreMark mol mark ≡ acceptedSearch q → OwnLines mol mark
+own-lines-restored mol mark q e =
+    let (whole, lines) = restored-bonds mol mark q e in
     record { whole = λ h. whole; lines = λ h. lines }
 
 module _ {mol : Molecule} {q : Search} {l : List ℕ} (fits : MarkFits mol q l) where
@@ -83,10 +83,10 @@ module _ {mol : Molecule} {q : Search} {l : List ℕ} (fits : MarkFits mol q l) 
         let count = bonds-count mol (fits .formed) in
         record { few = rule .atoms-high; sound = rule .rows-sound; room = omega arith }
 
-    pub fits-copy : {last : List ℕ} → OwnLines mol last → 1 ≤ length last → CopyFits last out (91 + 4 * q .len)
-    fits-copy {last} own some =
+    pub fits-copy : {mark : List ℕ} → OwnLines mol mark → 1 ≤ length mark → CopyFits mark out (91 + 4 * q .len)
+    fits-copy {mark} own some =
         let given = own .lines some in
-        let size = sym (length-drop (bondsFrom last) last) ∙ ap length given ∙ bonds-size mol (fits .formed) in
+        let size = sym (length-drop (bondsFrom mark) mark) ∙ ap length given ∙ bonds-size mol (fits .formed) in
         let room = fits .room in
         record { whole = own .whole some; room = omega arith }
 
@@ -103,7 +103,7 @@ module _ {mol : Molecule} {q : Search} {l : List ℕ} (fits : MarkFits mol q l) 
       e2 ∙ splice-next l (threeLines mol q) lines l1 0 (91 + 4 * q .len) e1 (omega arith) (omega arith)
 
   pub mark-copied :
-      {last l1 l2 : List ℕ} → OwnLines mol last → 1 ≤ length last → l1 ≡ spliced 0 (threeLines mol q) l →
-      l2 ≡ spliced (91 + 4 * q .len) (drop (bondsFrom last) last) l1 → l2 ≡ spliced 0 (markText mol q) l
+      {mark l1 l2 : List ℕ} → OwnLines mol mark → 1 ≤ length mark → l1 ≡ spliced 0 (threeLines mol q) l →
+      l2 ≡ spliced (91 + 4 * q .len) (drop (bondsFrom mark) mark) l1 → l2 ≡ spliced 0 (markText mol q) l
   mark-copied {l1 = l1} own some e1 e2 =
       mark-put e1 (e2 ∙ ap (λ text. spliced (91 + 4 * q .len) text l1) (own .lines some))

@@ -39,7 +39,7 @@ splice-part l at k h size e =
     let part : at + k - at ≡ k = omega arith in
     rw (e, part, drop-drop k at l, size, append-assoc)
 
--- that part
+-- the length of that part
 part-length : (l : List ℕ) (at k : ℕ) → at + k ≤ length l → length (take (at + k - at) (drop at l)) ≡ k
 part-length l at k h =
     let room : at + k - at ≤ length (drop at l) = rw (length-drop at l) (omega arith) in
@@ -53,7 +53,7 @@ pub splice-field :
 splice-field l at columns v h e =
     splice-part l at columns h (field-length columns v) (e ∙ ap (λ k. fieldText k v) (part-length l at columns h))
 
--- a source as long as the target fills it
+-- a source at least as long as the target fills it
 pub filled :
     (src dst out : List ℕ) → length dst ≤ length src → out ≡ take (length src) src ++ drop (length src) dst → out ≡ src
 filled src dst out h copied =

@@ -135,7 +135,7 @@ fn put_bonds(out: &mut [u8], at: usize, rows: &[u8; 2048], n: usize)
     }
 }
 
-// The bond lines of another mark.
+// The bond lines of a mark, copied to a place.
 fn copy_bonds(out: &mut [u8], at: usize, mark: &[u8])
     requires { ⌜ CopyFits (now mark) (now out) at ⌝ }
     ensures { λ _.
@@ -173,25 +173,26 @@ fn put_three_lines(m: Molecule, q: Search, out: &mut [u8])
 }
 
 // The mark of a search: its three lines, and then a line for each bond. The search need not keep rule 12.
-// The bond lines of `last`, a mark of the same molecule, are copied, which is faster than to make them; where it has no
+// The bond lines of `mark`, a mark of the same molecule, are copied, which is faster than to make them; where it has no
 // bytes they are made.
-pub fn put_mark(m: Molecule, q: Search, last: &[u8], out: &mut [u8])
-    requires { ⌜ MarkFits m q (now out) × OwnLines m (now last) ⌝ }
+pub fn put_mark(m: Molecule, q: Search, mark: &[u8], out: &mut [u8])
+    requires { ⌜ MarkFits m q (now out) × OwnLines m (now mark) ⌝ }
     ensures { λ _. ⌜ now (out .exit) ≡ spliced 0 (markText m q) (now (out .entry)) ⌝ }
 {
     let len = q.len;
     put_three_lines(m, q, out);
-    if last.len() != 0 {
-        copy_bonds(out, 91 + 4 * len, last);
+    if mark.len() != 0 {
+        copy_bonds(out, 91 + 4 * len, mark);
         return;
     }
     let rows = m.rows;
     put_bonds(out, 91 + 4 * len, &rows, m.atoms);
 }
 
-// Saves a search that rules 9 and 12 allow as a mark: rule 13. Only the mark's bytes are written.
-pub fn save_checked(m: Molecule, q: Search, last: &[u8], out: &mut [u8]) -> Saved
-    requires { ⌜ (wellFormed m ≡ true) × (restorable m q ≡ true) × OwnLines m (now last) ⌝ }
+// Saves a search that rules 9 and 12 allow as a mark: rule 13. Only the mark's bytes are written. The bond lines are
+// copied from `mark` or made, as in `put_mark`.
+pub fn save_checked(m: Molecule, q: Search, mark: &[u8], out: &mut [u8]) -> Saved
+    requires { ⌜ (wellFormed m ≡ true) × (restorable m q ≡ true) × OwnLines m (now mark) ⌝ }
     ensures { λ r. ⌜
         (r ≡ saveAnswer m q (now (out .entry))) ×
         (now (out .exit) ≡ saveOutput m q (now (out .entry))) ⌝ }
@@ -201,6 +202,6 @@ pub fn save_checked(m: Molecule, q: Search, last: &[u8], out: &mut [u8]) -> Save
     if out.len() < size {
         return Saved::Refused(Refusal::MarkRoom);
     }
-    put_mark(m, q, last, out);
+    put_mark(m, q, mark, out);
     Saved::Written(size)
 }

@@ -6,7 +6,7 @@ use mathlib.Core.Path.{_≡_, refl, ap, ap₂, sym, _∙_}
 use mathlib.Core.Bool.{Bool, true, false, cond}
 use mathlib.Core.List.{List, [], _∷_, _++_}
 use mathlib.Core.Logic.{_↔_}
-use lib.ListN.{length, getD, take, drop, length-append, length-drop}
+use lib.ListN.{length, take, drop, length-append, length-drop}
 use lib.Seq.{take-at, drop-at}
 use lib.Dec.{leb, eqb}
 use borrow.Author.Tests.{le-leb, lt-leb, leb-true, eq-eqb, eqb-true}
@@ -36,7 +36,6 @@ pub use Rattle.search.proofs.Readings.{family-lawful, family-atoms, Res
 pub use Rattle.search.proofs.Readings.{restorable-of, restorable-iff}
 pub use Rattle.search.proofs.Views.{state-search, search-state, restorable-valid, restorable-bounded}
 pub use Rattle.search.proofs.Views.{valid-restorable, valid-full, fresh-restorable, run-restorable}
-use Rattle.search.proofs.Views.{prefix-most}
 use Rattle.search.proofs.Restores.{three-length, Restored, restored-facts, restored-of}
 use Rattle.search.proofs.Restores.{MarkOf, atoms-is, bonds-is, rest-is, lines-are, text-restored}
 use Rattle.search.proofs.NamedSearch.{named-restorable, named-full, named-text}
@@ -165,7 +164,7 @@ pub restored-saves :
     (mol : Molecule) (bytes : List ℕ) (q : Search) → restoreMark mol bytes ≡ acceptedSearch q → markText mol q ≡ bytes
 restored-saves mol bytes q e = saves-again mol bytes q (restored-facts mol bytes q e)
 
--- Past its three lines it has the bond lines of the molecule
+-- An accepted mark has, past its three lines, the bond lines of the molecule
 pub restored-bonds :
     (mol : Molecule) (bytes : List ℕ) (q : Search) → restoreMark mol bytes ≡ acceptedSearch q →
     (bondsFrom bytes ≤ length bytes) × (drop (bondsFrom bytes) bytes ≡ bondLines (bondList (mol .rows)))

@@ -1,5 +1,5 @@
 -- `host::ringlist_resume` meets its contract: each way out is one answer of the definition. Three leave both outputs as
--- they were; the last is the run and the save, of a molecule, a search and a mark that are what these ask for.
+-- they were; the last is the run and the save, of a molecule, a search and a mark as `run_and_save` requires them.
 use mathlib.Core.Path.{refl, sym, _∙_}
 use borrow.Author.Tests.{not-true, not-false}
 use borrow.Author.Needs.{needs}

@@ -1,6 +1,5 @@
 -- `mark_reader::three_lines_kept` meets its contract: a test that fails is one that the definition asks for,
 -- and past the others the last one decides.
-use Prim.Native.Nat.{_*_, _≤_}
 use native.Mathlib.Omega.{arith}
 use borrow.Author.Needs.{needs}
 use Rattle.mark_reader.proofs.Layouts.{refuted, passed, bonds-small, broken}

@@ -55,8 +55,9 @@ const AIM: f64 = 1.0;
 /// The place of `best` among the listers.
 const BEST: usize = 1;
 /// The ratios of the fourth table before request F-5, when marks had no bond
-/// lines, in its order: measured at commit b5856c4 by the same section, the middle
-/// one of three runs. And what a call may cost more since: to read the sheet twice.
+/// lines, in its order: measured with the code of commit b5856c4 and this section,
+/// the middle one of three runs. And what a call may cost more since: to read the
+/// sheet twice.
 const BEFORE: [f64; 4] = [2.04, 2.96, 1.56, 1.12];
 const MORE: f64 = 2.0;
 const DONE: u32 = 101;
