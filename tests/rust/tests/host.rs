@@ -621,9 +621,7 @@ fn isomers_of(entry: &mut Entry, rng: &mut Rng, molecules: &[Molecule; 2]) {
     let n = molecules[0].atoms;
     for (own, other) in [(0, 1), (1, 0)] {
         let numbers = generate::any_task(rng, n).numbers();
-        let mut mark = entry
-            .start(call(own), numbers, MARK_ROOM)
-            .expect("a task");
+        let mut mark = entry.start(call(own), numbers, MARK_ROOM).expect("a task");
         for _ in 0..3 {
             let (budget, room) = (any_budget(rng, n), any_room(rng, n));
             for rooms in [(room, MARK_ROOM), (room, rng.index(MARK_ROOM))] {
@@ -751,8 +749,7 @@ fn every_budget_and_room() {
                 for room in (0..=list.len() + 1).step_by(steps) {
                     let first = entry.resume(call, &start, budget, (room, MARK_ROOM));
                     let first = first.expect("accepted");
-                    let rest =
-                        entry.resume(call, &first.mark, u64::MAX, (list.len(), MARK_ROOM));
+                    let rest = entry.resume(call, &first.mark, u64::MAX, (list.len(), MARK_ROOM));
                     let rest = rest.expect("accepted");
                     assert_eq!(rest.stop as u32, 101);
                     assert_eq!([first.records, rest.records].concat(), list);
@@ -781,12 +778,7 @@ fn longest() {
     let call = (sheet.as_slice(), Ok(&lists as &dyn Lists));
     let ring: Vec<u8> = (1..=128).collect();
     let bounded = Search::at(Task::RingsUpTo { k: 127 }, &ring[..127], 128);
-    let refused = entry.resume(
-        call,
-        &mark::write(&record, &bounded),
-        1,
-        (300, MARK_ROOM),
-    );
+    let refused = entry.resume(call, &mark::write(&record, &bounded), 1, (300, MARK_ROOM));
     assert_eq!(refused, Err(17));
     for task in [Task::Rings, Task::RingsUpTo { k: 128 }] {
         longest_of(
