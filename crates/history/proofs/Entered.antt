@@ -3,24 +3,22 @@
 use Prim.Native.Nat.{ℕ, _+_, _≤_}
 use native.Mathlib.Omega.{arith}
 use mathlib.Core.Path.{_≡_, refl, ap, _∙_}
-use mathlib.Core.Bool.{true, cond}
+use mathlib.Core.Bool.{true}
 use mathlib.Core.List.{List, _++_}
 use lib.ListN.{length, take, drop, length-append, length-replicate, length-reverse}
 use lib.Seq.{take-append-seam}
-use lib.Dec.{leb}
 use borrow.Author.Tests.{le-leb}
 use Rattle.enumeration.specs.Machine.{State}
 use Rattle.enumeration.specs.Run.{Outcome, run}
-use Rattle.refusal.specs.declared.Refusal.the-variants as refusal
 use Rattle.molecule.specs.declared.Molecule.{Molecule}
 use Rattle.molecule.specs.Record.{wellFormed}
 use Rattle.search.specs.declared.Search.{Search}
 use Rattle.search.specs.declared.Ran.{Ran}
 use Rattle.search.specs.declared.Ended.the-variants.{Stopped}
-use Rattle.search.specs.declared.Saved.the-variants.{Written, Refused}
 use Rattle.search.specs.Place.{familyOf, stateOf, held, searchAt, restorable}
 use Rattle.search.specs.Entries.{outcome, ran, runSearch, runOutput}
-use Rattle.search.specs.Mark.{markText, saveAnswer, saveOutput}
+use Rattle.search.specs.Mark.{markText, saveOutput}
+use Rattle.search.proofs.MarkLaws.{save-allowed}
 use Rattle.history.specs.Calls.{Standing}
 
 -- what the run of a state returns for a search of a kind, s and t
@@ -65,18 +63,11 @@ module _ (R : Molecule) (good : wellFormed R ≡ true) where
       let bytes = outcome R q budget out .bytes in
       rw (good, e) (take-append-seam bytes (drop (length bytes) out))
 
-  pub save-at :
-      (q : Search) (buffer : List ℕ) → restorable R q ≡ true →
-      saveAnswer R q buffer ≡
-      cond (leb (length (markText R q)) (length buffer)) (Written (length (markText R q))) (Refused refusal.MarkRoom)
-  unfolding saveAnswer
-  save-at q buffer e = rw (good, e)
-
   pub save-wrote :
       (q : Search) (buffer : List ℕ) → restorable R q ≡ true → length (markText R q) ≤ length buffer →
       saveOutput R q buffer ≡ markText R q ++ drop (length (markText R q)) buffer
   unfolding saveOutput
-  save-wrote q buffer e h = rw (save-at q buffer e, le-leb (length (markText R q)) (length buffer) h)
+  save-wrote q buffer e h = rw (save-allowed R q buffer good e, le-leb (length (markText R q)) (length buffer) h)
 
   module _ (kind s t : ℕ) (st : State) (back : stateOf (searchAt kind s t st) ≡ st)
       (passes : restorable R (searchAt kind s t st) ≡ true) where

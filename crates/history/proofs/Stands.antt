@@ -23,9 +23,10 @@ use Rattle.search.specs.declared.Ended.the-variants.{Stopped}
 use Rattle.search.specs.Place.{familyOf, stateOf, searchAt, kindKept}
 use Rattle.search.specs.Entries.{runSearch}
 use Rattle.search.proofs.Readings.{family-atoms}
+use Rattle.search.proofs.MarkLaws.{save-allowed}
 use Rattle.history.specs.Calls.{Standing}
 use Rattle.history.specs.Demand.{Progress, GoesOn}
-use Rattle.history.proofs.Entered.{ranAt, save-at, save-wrote}
+use Rattle.history.proofs.Entered.{ranAt, save-wrote}
 use Rattle.history.proofs.Reached.{Reached, stateAt, lawful, valid-at, back-of, reached-restorable, reached-restores, reached-state, reached-runs}
 
 -- ---- what is said
@@ -147,7 +148,7 @@ module _ (R : Molecule) (kind s t : ℕ) (good : wellFormed R ≡ true) (kept : 
         record {
           run-accepted = λ budget out. (_, ap (λ (a : Ran). a .ended) (runs-as budget out));
           restore-accepted = reached-restores R kind s t good kept origin sound said k x r;
-          save-answers = λ buffer. save-at R good (x .search) buffer passes;
+          save-answers = λ buffer. save-allowed R (x .search) buffer good passes;
           save-writes = λ buffer. save-wrote R good (x .search) buffer passes;
           progress = progresses;
         }

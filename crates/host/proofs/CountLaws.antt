@@ -14,10 +14,12 @@ use Rattle.refusal.specs.declared.Answer.{Answer}
 use Rattle.refusal.specs.declared.Answer.the-variants.{Accepted}
 use Rattle.refusal.specs.declared.Answer.the-variants as answer-of
 use Rattle.refusal.specs.Number.{numberOf}
+use Rattle.refusal.proofs.Ranges.{by-test}
 use Rattle.molecule.specs.declared.Molecule.{Molecule}
 use Rattle.molecule.specs.Record.{wellFormed}
 use Rattle.sheet.specs.Read.{readSheet}
 use Rattle.sheet.proofs.Accepted.{accepted-well-formed}
+use Rattle.sheet.proofs.Numbers.{sheet-numbers}
 use Rattle.search.specs.Place.{kindKept, endsKept}
 use Rattle.search.proofs.Readings.{KindFacts, kind-facts, ends-of}
 use Rattle.counter.specs.declared.Counted.{Counted}
@@ -29,7 +31,7 @@ use Rattle.host.specs.Resume.{listedIn}
 use Rattle.host.specs.Start.{startMark}
 use Rattle.host.specs.Count.{CountedSheet, refusedCount, wroteCount, countSheet}
 use Rattle.host.specs.Calls.{HostCall, keeping, keptBy, HostHistory, allCallsIn, returnedDone}
-use Rattle.host.proofs.Gate.{by-test, by-ends, sheet-numbers}
+use Rattle.host.proofs.Gate.{by-ends}
 use Rattle.host.proofs.Answers.{count-unread, count-read}
 use Rattle.host.proofs.History.{host-done}
 use Rattle.host.proofs.StartLaws.{start-began, start-kind, start-first, start-demand3}

@@ -14,6 +14,7 @@ use Rattle.molecule.specs.Record.{wellFormed}
 use Rattle.molecule.specs.BondList.{bondList}
 use Rattle.molecule.proofs.Bonds.{rule9}
 use Rattle.sheet.specs.declared.SheetAnswer.{SheetAnswer}
+use Rattle.sheet.proofs.Accepted.{read-formed}
 use Rattle.search.specs.declared.Made.{Made}
 use Rattle.search.specs.Place.{beginning, searchAt, freshSearch, kindKept}
 use Rattle.search.specs.Entries.{acceptedSearch, startSearch}
@@ -23,7 +24,7 @@ use Rattle.search.proofs.Views.{search-length}
 use Rattle.search.proofs.Accepts.{started-fresh}
 use Rattle.mark_writer.specs.Parts.{MarkFits}
 use Rattle.host.specs.Gate.{markRoom}
-use Rattle.host.proofs.Gate.{SearchTaken, read-formed}
+use Rattle.host.proofs.Gate.{SearchTaken}
 
 -- the array of a fresh search has 128 places
 pub fresh-full : (kind s t : ℕ) → length (freshSearch kind s t .prefix) ≡ 128

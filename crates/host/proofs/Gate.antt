@@ -1,10 +1,10 @@
 -- The ways through what the entries that resume and start do first: a refusal of sheet, search or room, or none.
--- From the definition, at the tests that were made on the way; a sheet is refused by rules 1 to 8.
+-- From the definition, at the tests that were made on the way.
 use Prim.Native.Nat.{ℕ, _≤_, _<_}
 use native.Mathlib.Decide.{decLt}
 use native.Mathlib.Omega.{arith}
 use mathlib.Core.Path.{_≡_, refl}
-use mathlib.Core.Bool.{Bool, true, false, _&&_, cond}
+use mathlib.Core.Bool.{true, false, _&&_}
 use mathlib.Core.List.{List}
 use mathlib.Core.Logic.{_⊎_, inl, inr}
 use lib.ListN.{length}
@@ -15,30 +15,21 @@ use Rattle.refusal.specs.declared.Refusal.the-variants as refusal
 use Rattle.refusal.specs.declared.Answer.{Answer}
 use Rattle.refusal.specs.declared.Answer.the-variants.{Accepted, Refused}
 use Rattle.refusal.specs.Number.{numberOf}
+use Rattle.refusal.proofs.Ranges.{by-test}
 use Rattle.molecule.specs.declared.Molecule.{Molecule}
 use Rattle.molecule.specs.Record.{isAtom, wellFormed}
 use Rattle.molecule.specs.Ends.{withEnds}
 use Rattle.sheet.specs.declared.SheetAnswer.{SheetAnswer}
-use Rattle.sheet.specs.Bonds.{atomsKept, noneToItself, noneTwice}
-use Rattle.sheet.specs.Read.{lengthKept, linesKept, atomsOf, bondsOf, bondOf, readBonds, readSheet}
-use Rattle.sheet.proofs.Accepted.{accepted-well-formed}
+use Rattle.sheet.specs.Read.{readSheet}
+use Rattle.sheet.proofs.Accepted.{accepted-well-formed, SheetTaken}
+use Rattle.sheet.proofs.Numbers.{sheet-numbers}
 use Rattle.search.specs.declared.Search.{Search}
 use Rattle.search.specs.declared.Made.{Made}
 use Rattle.host.specs.Gate.{markRoom, gated}
 
 -- ---- the numbers of the refusals
 
--- a refusal with a number from a to b
-abbrev pub Within : ℕ → ℕ → Answer → Type 0
-Within a b Accepted = Unit {0}
-Within a b (Refused r) = (a ≤ numberOf r) × (numberOf r ≤ b)
-
--- what a test decides between, where both hold
-pub by-test : {A : Type 0} (P : A → Type 0) (t : Bool) (x y : A) → P y → P x → P (cond t x y)
-by-test P true x y failed passed = passed
-by-test P false x y failed passed = failed
-
--- the same of rules 10 and 11
+-- what rules 10 and 11 decide between, where each holds
 pub by-ends :
     {A : Type 0} (P : A → Type 0) (n s t : ℕ) (refuse : Refusal → A) (goes : A) →
     P (refuse refusal.PathEnd) → P (refuse refusal.SameEnds) → P goes → P (withEnds n s t refuse goes)
@@ -46,47 +37,17 @@ unfolding withEnds
 by-ends P n s t refuse goes no-atom same passed =
     by-test P (isAtom n s && isAtom n t) _ _ no-atom (by-test P (eqb s t) _ _ passed same)
 
-pub within-refused :
-    (a b : ℕ) (x : Answer) (r : Refusal) → x ≡ Refused r → Within a b x → (a ≤ numberOf r) × (numberOf r ≤ b)
-within-refused a b x r e h = rw e at h
-
--- a sheet is refused by rules 1 to 8
-abbrev SheetRule : SheetAnswer → Type 0
-SheetRule x = Within 1 8 (x .answer)
-
-pub sheet-numbers : (s : List ℕ) (r : Refusal) → readSheet s .answer ≡ Refused r → (1 ≤ numberOf r) × (numberOf r ≤ 8)
-unfolding readSheet readBonds
-sheet-numbers s r e =
-    within-refused 1 8 _ r e
-    (by-test SheetRule (lengthKept s) _ _ (omega arith, omega arith)
-    (by-test SheetRule (linesKept s) _ _ (omega arith, omega arith)
-    (by-test SheetRule (leb (atomsOf s) 128) _ _ (omega arith, omega arith)
-    (by-test SheetRule (leb (bondsOf s) 1024) _ _ (omega arith, omega arith)
-    (by-test SheetRule (eqb (length s) _) _ _ (omega arith, omega arith)
-    (by-test SheetRule (atomsKept (atomsOf s) (bondOf s) (bondsOf s)) _ _ (omega arith, omega arith)
-    (by-test SheetRule (noneToItself (bondOf s) (bondsOf s)) _ _ (omega arith, omega arith)
-    (by-test SheetRule (noneTwice (bondOf s) (bondsOf s)) _ _ (omega arith, omega arith) tt))))))))
-
 -- rules 1 to 8, rule 13, or a rule of making the search
 abbrev pub GateNumber : (ℕ → Type 0) → ℕ → Type 0
 GateNumber Rule k = ((1 ≤ k) × (k ≤ 8)) ⊎ ((k ≡ 13) ⊎ Rule k)
 
 -- ---- what is known on the way
 
--- Where the sheet was accepted
-pub record SheetTaken (sheet : List ℕ) (read : SheetAnswer) : Type 0 where
-  pub is-read : read ≡ readSheet sheet
-  pub accepted : read .answer ≡ Accepted
-
--- and where the search was made
+-- Where the sheet was accepted, and the search made
 pub record SearchTaken (sheet : List ℕ) (make : Molecule → Made) (read : SheetAnswer) (made : Made) : Type 0 where
   pub of-sheet : SheetTaken sheet read
   pub is-made : made ≡ make (read .molecule)
   pub accepted : made .answer ≡ Accepted
-
--- an accepted sheet keeps rule 9
-pub read-formed : {sheet : List ℕ} {read : SheetAnswer} → SheetTaken sheet read → wellFormed (read .molecule) ≡ true
-read-formed {sheet} s = rw (s .is-read) (accepted-well-formed sheet (rw (s .is-read) at (s .accepted)))
 
 -- ---- the ways
 

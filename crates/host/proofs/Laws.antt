@@ -17,32 +17,34 @@ use Rattle.enumeration.specs.RunFacts.{RunFacts}
 use Rattle.enumeration.specs.Run.{stopNumber, Outcome}
 use Rattle.enumeration.proofs.Theorems.{run-outcome, run-keeps-valid}
 use Rattle.refusal.specs.declared.Refusal.{Refusal}
-use Rattle.refusal.specs.declared.Answer.{Answer}
 use Rattle.refusal.specs.declared.Answer.the-variants.{Accepted, Refused}
 use Rattle.refusal.specs.Number.{numberOf}
+use Rattle.refusal.proofs.Ranges.{Within, by-test, within-refused}
 use Rattle.molecule.specs.declared.Molecule.{Molecule}
 use Rattle.molecule.specs.Record.{wellFormed}
 use Rattle.molecule.proofs.Bonds.{rule9}
 use Rattle.sheet.specs.declared.SheetAnswer.{SheetAnswer}
 use Rattle.sheet.specs.Read.{readSheet}
-use Rattle.sheet.proofs.Accepted.{accepted-well-formed}
+use Rattle.sheet.proofs.Accepted.{accepted-well-formed, read-formed}
 use Rattle.search.specs.declared.Search.{Search}
 use Rattle.search.specs.declared.Made.{Made}
 use Rattle.search.specs.declared.Ran.{Ran}
 use Rattle.search.specs.declared.Ended.the-variants.{Stopped}
-use Rattle.search.specs.Place.{familyOf, family, stateOf, searchAt, freshSearch, kindKept, placeKept, restorable}
+use Rattle.search.specs.Place.{family, stateOf, searchAt, freshSearch, kindKept, restorable}
 use Rattle.search.specs.Entries.{acceptedSearch, startRings, outcome, ran, runSearch, runOutput, endedNumber}
-use Rattle.search.specs.Mark.{valueAt, markText, layoutKept, markBeginning, belongs, placedSearch, restoreBy, restoreMark}
+use Rattle.search.specs.declared.Form.the-variants.{New}
+use Rattle.search.specs.Mark.{markText, restoreMark}
 use Rattle.search.proofs.Restores.{restored-facts}
 use Rattle.search.proofs.Views.{beginning-length}
 use Rattle.search.proofs.MarkLaws.{family-lawful, restorable-facts, restorable-valid, valid-full, fresh-restorable}
 use Rattle.search.proofs.MarkLaws.{run-restorable, mark-length, saved-restores, restored-restorable}
+use Rattle.search.proofs.FormLaws.{made-accepted, form-rules}
 use Rattle.history.proofs.Entered.{save-wrote}
 use Rattle.mark_writer.specs.Parts.{OwnLines}
 use Rattle.mark_writer.proofs.MarkSplices.{own-lines-none, own-lines-restored}
 use Rattle.host.specs.Gate.{markRoom}
 use Rattle.host.specs.Resume.{Resumed, refusedCall, searchFor, runAndSave, resume, markSize, listedIn}
-use Rattle.host.proofs.Gate.{by-test, Within, within-refused, GateNumber, SearchTaken, read-formed, went-on, ways}
+use Rattle.host.proofs.Gate.{GateNumber, SearchTaken, went-on, ways}
 use Rattle.host.proofs.Answers.{search-fresh, search-restored, listed-short}
 use Rattle.host.proofs.Sizes.{listed-restored, mark-some, mark-size, mark-listed}
 
@@ -52,25 +54,14 @@ use Rattle.host.proofs.Sizes.{listed-restored, mark-some, mark-size, ma
 abbrev pub MarkNumber : ℕ → Type 0
 MarkNumber k = (14 ≤ k) × (k ≤ 17)
 
-abbrev MarkRule : Made → Type 0
-MarkRule x = Within 14 17 (x .answer)
-
 pub mark-numbers :
     (mol : Molecule) (mark : List ℕ) (r : Refusal) → wellFormed mol ≡ true → searchFor mol mark .answer ≡ Refused r →
     MarkNumber (numberOf r)
-unfolding searchFor startRings restoreMark restoreBy placedSearch
+unfolding searchFor startRings
 mark-numbers mol mark r formed e =
-    let kind = valueAt 4 mark 0 in
-    let s = valueAt 4 mark 4 in
-    let t = valueAt 4 mark 8 in
-    let place = placeKept (familyOf mol kind s t) (markBeginning mark) (valueAt 4 mark 24) in
     within-refused 14 17 (searchFor mol mark .answer) r e
-    (rw formed
-    (by-test MarkRule (eqb (length mark) 0) _ _
-    (by-test MarkRule (layoutKept mark) _ _ (omega arith, omega arith)
-    (by-test MarkRule (belongs mol mark) _ _ (omega arith, omega arith)
-    (by-test MarkRule (kindKept (mol .atoms) kind s t) _ _ (omega arith, omega arith)
-    (by-test MarkRule place _ _ (omega arith, omega arith) tt)))) tt))
+    (by-test (λ (x : Made). Within 14 17 (x .answer)) (eqb (length mark) 0) _ _ (form-rules New mol mark formed)
+    (rw formed tt))
 
 -- ---- the search that it runs
 
@@ -79,9 +70,6 @@ record Begun (mol : Molecule) (mark : List ℕ) (q : Search) : Type 0 where
   kept : restorable mol q ≡ true
   listed-is : listedIn mark ≡ q .listed
   own : OwnLines mol mark
-
-made-is : (x : Made) → x .answer ≡ Accepted → x ≡ acceptedSearch (x .search)
-made-is x e = ap (λ (a : Answer). record { answer = a; search = x .search }) e
 
 begun-fresh :
     (mol : Molecule) (mark : List ℕ) → wellFormed mol ≡ true → length mark ≡ 0 →
@@ -100,7 +88,7 @@ begun-restored :
 begun-restored mol mark some e =
     let made = searchFor mol mark in
     let q = made .search in
-    let is : restoreMark mol mark ≡ acceptedSearch q = search-restored mol mark some ∙ made-is made e in
+    let is : restoreMark mol mark ≡ acceptedSearch q = search-restored mol mark some ∙ made-accepted made e in
     record {
       kept = restored-restorable mol mark q is .1;
       listed-is = listed-restored mol mark q (restored-facts mol mark q is);

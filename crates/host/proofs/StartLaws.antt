@@ -14,6 +14,7 @@ use Rattle.refusal.specs.declared.Refusal.{Refusal}
 use Rattle.refusal.specs.declared.Answer.{Answer}
 use Rattle.refusal.specs.declared.Answer.the-variants.{Accepted, Refused}
 use Rattle.refusal.specs.Number.{numberOf}
+use Rattle.refusal.proofs.Ranges.{by-test}
 use Rattle.molecule.specs.declared.Molecule.{Molecule}
 use Rattle.molecule.specs.Record.{wellFormed}
 use Rattle.sheet.specs.Read.{readSheet}
@@ -30,7 +31,7 @@ use Rattle.host.specs.Gate.{markRoom}
 use Rattle.host.specs.Resume.{markSize}
 use Rattle.host.specs.Start.{Started, refusedStart, startMark}
 use Rattle.host.specs.Calls.{HostCall, keeping, keptBy, HostHistory, allCallsIn, FirstMark, HostDemand}
-use Rattle.host.proofs.Gate.{by-test, by-ends, went-on, ways}
+use Rattle.host.proofs.Gate.{by-ends, went-on, ways}
 use Rattle.host.proofs.Sizes.{mark-size}
 use Rattle.host.proofs.Fresh.{fresh-full}
 use Rattle.host.proofs.History.{host-demand3}

@@ -8,5 +8,6 @@ pub mod NamedSearch
 pub mod MarkLaws
 pub mod Belonging
 pub mod OldMarkLaws
+pub mod FormLaws
 pub mod Starts
 pub mod Accepts

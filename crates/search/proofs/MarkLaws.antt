@@ -26,8 +26,8 @@ use Rattle.search.specs.declared.Saved.{Saved}
 use Rattle.search.specs.declared.Saved.the-variants.{Written, Refused}
 use Rattle.search.specs.Place.{beginning, restorable}
 use Rattle.search.specs.Entries.{acceptedSearch}
-use Rattle.search.specs.Mark.{threeLines, bondLines, markText, saveAnswer, saveOutput, valueAt, markBonds}
-use Rattle.search.specs.Mark.{bondLinesKept, bondsAt, bondsFrom, bondsNamed, belongs, restoreMark}
+use Rattle.search.specs.Mark.{threeLines, bondLines, markText, writeAnswer, saveAnswer, saveOutput, valueAt}
+use Rattle.search.specs.Mark.{markBonds, bondLinesKept, bondsAt, bondsFrom, bondsNamed, belongs, restoreMark}
 use Rattle.search.proofs.Text.{small-fits}
 use Rattle.search.proofs.BondLines.{NarrowBonds, no-bond, bond-fits, bond-lines-length, bonds-at-length}
 use Rattle.search.proofs.BondLines.{bond-lines-keep, bonds-read, bond-lines-text}
@@ -209,6 +209,12 @@ module _ (mol : Molecule) (q : Search) (out : List ℕ) where
   pub save-search : wellFormed mol ≡ true → restorable mol q ≡ false → saveAnswer mol q out ≡ Refused refusal.Search
   unfolding saveAnswer
   save-search e f = rw (e, f)
+
+  -- past rules 9 and 12 only rule 13 decides
+  pub save-allowed :
+      wellFormed mol ≡ true → restorable mol q ≡ true → saveAnswer mol q out ≡ writeAnswer (markText mol q) out
+  unfolding saveAnswer
+  save-allowed e f = rw (e, f)
 
   pub save-room :
       wellFormed mol ≡ true → restorable mol q ≡ true → length out < length (markText mol q) →

@@ -2,3 +2,4 @@ pub mod Place
 pub mod Entries
 pub mod Mark
 pub mod OldMark
+pub mod Forms

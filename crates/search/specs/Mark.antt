@@ -42,23 +42,25 @@ bondLines (x ∷ xs) = fieldsText 4 (x .0 ∷ x .1 ∷ []) ++ lineFeed ++ bondLi
 unfoldable pub markText : Molecule → Search → List ℕ
 markText mol q = threeLines mol q ++ bondLines (bondList (mol .rows))
 
--- A save: rule 9, rule 12, rule 13 (the output has the bytes of the mark); the number of bytes written
+-- Rule 13: a mark is written where the output has its bytes; the number of bytes written
+abbrev pub writeAnswer : List ℕ → List ℕ → Saved
+writeAnswer text out = cond (leb (length text) (length out)) (Written (length text)) (Refused refusal.MarkRoom)
+
+-- the bytes that an answer leaves in the output: the mark, and then the bytes that were there
+abbrev pub writtenBytes : Saved → List ℕ → List ℕ → List ℕ
+writtenBytes (Written k) text out = text ++ drop k out
+writtenBytes (Refused r) text out = out
+
+-- A save: rule 9, rule 12, rule 13
 unfoldable pub saveAnswer : Molecule → Search → List ℕ → Saved
 saveAnswer mol q out =
     cond (wellFormed mol)
-    (cond (restorable mol q)
-    (cond (leb (length (markText mol q)) (length out)) (Written (length (markText mol q))) (Refused refusal.MarkRoom))
-    (Refused refusal.Search))
+    (cond (restorable mol q) (writeAnswer (markText mol q) out) (Refused refusal.Search))
     (Refused refusal.Record)
 
--- the bytes that an answer leaves in the buffer
-abbrev pub savedBytes : Saved → Molecule → Search → List ℕ → List ℕ
-savedBytes (Written k) mol q out = markText mol q ++ drop k out
-savedBytes (Refused r) mol q out = out
-
--- Its buffer: the mark, and then the bytes that were there
+-- Its output
 unfoldable pub saveOutput : Molecule → Search → List ℕ → List ℕ
-saveOutput mol q out = savedBytes (saveAnswer mol q out) mol q out
+saveOutput mol q out = writtenBytes (saveAnswer mol q out) (markText mol q) out
 
 -- a field that a mark may have: a number field that zeros do not fill
 abbrev pub fieldKept : ℕ → List ℕ → ℕ → Bool

@@ -45,6 +45,12 @@ pub enum Saved {
     Refused(Refusal),
 }
 
+// The form of a mark: as it was before request F-5, without bond lines, or as it is now.
+pub enum Form {
+    Old,
+    New,
+}
+
 // The fresh search: no beginning, next atom 1, counts 0.
 pub fn fresh_search(kind: usize, s: usize, t: usize) -> Search
     ensures { λ r. ⌜ r ≡ freshSearch kind s t ⌝ }

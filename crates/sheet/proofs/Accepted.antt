@@ -180,3 +180,14 @@ accepted-same s e =
     let rules = accepted-rules s e in
     let pairs = record-bonds (atomsOf s) (bondOf s) (bondsOf s) (rules-kept rules) in
     rw (rules .reads) (record { atoms = refl; bonds = refl; pairs = pairs })
+
+-- ---- a sheet that an entry has read
+
+-- it was accepted
+pub record SheetTaken (sheet : List ℕ) (read : SheetAnswer) : Type 0 where
+  pub is-read : read ≡ readSheet sheet
+  pub accepted : read .answer ≡ Accepted
+
+-- its record keeps rule 9
+pub read-formed : {sheet : List ℕ} {read : SheetAnswer} → SheetTaken sheet read → wellFormed (read .molecule) ≡ true
+read-formed {sheet} s = rw (s .is-read) (accepted-well-formed sheet (rw (s .is-read) at (s .accepted)))

@@ -6,6 +6,7 @@ pub mod Complete
 pub mod EveryRecord
 pub mod Filling
 pub mod Lines
+pub mod Numbers
 pub mod Reading
 pub mod Refills
 pub mod Same

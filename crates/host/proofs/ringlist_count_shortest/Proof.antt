@@ -2,7 +2,7 @@
 -- The two refusals leave the output as it was; the last way stores the number that the count answered.
 use mathlib.Core.Path.{refl, sym, _∙_}
 use borrow.Author.Needs.{needs}
-use Rattle.host.proofs.Gate.{SheetTaken, read-formed}
+use Rattle.sheet.proofs.Accepted.{SheetTaken, read-formed}
 use Rattle.host.proofs.Answers.{leaves-count, count-unread, count-read}
 use Rattle.host.proofs.ringlist_count_shortest.Statement.{statement}
 use Rattle.host.proofs.ringlist_count_shortest.Tie as tie

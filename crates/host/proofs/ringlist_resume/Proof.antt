@@ -3,8 +3,9 @@
 use mathlib.Core.Path.{refl, sym, _∙_}
 use borrow.Author.Tests.{not-true, not-false}
 use borrow.Author.Needs.{needs}
+use Rattle.sheet.proofs.Accepted.{SheetTaken, read-formed}
 use Rattle.host.specs.Resume.{searchFor}
-use Rattle.host.proofs.Gate.{SheetTaken, SearchTaken, read-formed}
+use Rattle.host.proofs.Gate.{SearchTaken}
 use Rattle.host.proofs.Gate.{sheet-refused, search-refused, room-refused, goes-on}
 use Rattle.host.proofs.Answers.{leaves}
 use Rattle.host.proofs.Laws.{made-kept, made-lines}

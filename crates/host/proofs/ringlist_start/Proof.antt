@@ -3,9 +3,10 @@
 use mathlib.Core.Path.{refl, sym, _∙_}
 use borrow.Author.Tests.{not-true, not-false}
 use borrow.Author.Needs.{needs}
+use Rattle.sheet.proofs.Accepted.{SheetTaken}
 use Rattle.search.specs.Entries.{startSearch}
 use Rattle.mark_writer.proofs.MarkSplices.{own-lines-none}
-use Rattle.host.proofs.Gate.{SheetTaken, SearchTaken}
+use Rattle.host.proofs.Gate.{SearchTaken}
 use Rattle.host.proofs.Gate.{sheet-refused, search-refused, room-refused, goes-on}
 use Rattle.host.proofs.Answers.{leaves-mark, mark-put}
 use Rattle.host.proofs.Fresh.{start-fits}
