@@ -3,7 +3,7 @@
 use Prim.Native.Nat.{ℕ, _+_, _*_, _≤_}
 use native.Mathlib.Omega.{arith}
 use mathlib.Core.Path.{_≡_, ap, sym, _∙_}
-use mathlib.Core.Bool.{Bool, true, false, not, and-assoc}
+use mathlib.Core.Bool.{Bool, true, false, not, and-assoc, and-true}
 use mathlib.Core.List.{List, map, reverse-reverse}
 use lib.ListN.{length, take, length-reverse}
 use borrow.Author.Tests.{eq-eqb, ne-eqb, not-false}
@@ -21,7 +21,8 @@ use Rattle.search.specs.Place.{familyOf, family, beginning, held, searchAt, kin
 use Rattle.search.specs.Entries.{acceptedSearch, refusedSearch}
 use Rattle.search.specs.Mark.{valueAt, valuesAt, markBonds, markLength, markBeginning, markSearch, bondsFrom, bondsNamed}
 use Rattle.search.specs.Mark.{threeLinesKept, bondLinesKept, layoutKept, belongs, placedSearch, restoreBy, restoreMark}
-use Rattle.search.proofs.Lines.{ThreeLines, three-lines-of}
+use Rattle.search.specs.OldMark.{oldBelongs, restoreOldMark}
+use Rattle.search.proofs.Lines.{ThreeLines, three-lines-of, three-lines-facts}
 use Rattle.search.proofs.BondLines.{bonds-at-length}
 use Rattle.search.proofs.Readings.{family-lawful, family-atoms, place-facts}
 use Rattle.search.proofs.Views.{held-take, held-length}
@@ -203,3 +204,30 @@ module _ {mol : Molecule} {bytes : List ℕ} {r : BondsRead} (l : LinesRead mol 
       pub goes-on : not own ≡ false → placedSearch mol bytes ≡ restoreMark mol bytes
       unfolding restoreMark restoreBy
       goes-on e = rw (l .formed, layout-is ∙ right, own-is ∙ passed is e)
+
+-- ---- the same of an old mark
+
+module _ (mol : Molecule) (bytes : List ℕ) (formed : wellFormed mol ≡ true) where
+  pub refuses-old-lines : threeLinesKept 0 bytes ≡ false → refusedSearch refusal.MarkBytes ≡ restoreOldMark mol bytes
+  unfolding restoreOldMark restoreBy
+  refuses-old-lines e = rw (formed, e)
+
+  module _ (kept : threeLinesKept 0 bytes ≡ true) where
+    pub old-placeable : Placeable mol bytes
+    old-placeable =
+        let lines = three-lines-facts 0 bytes kept in
+        record { formed = formed; most = lines .most; room = omega arith }
+
+    -- rule 15 compares n and m
+    module _ {own : Bool} (is : own ≡ namesOwn (mol .atoms) (mol .bonds) bytes true) where
+      old-own : oldBelongs mol bytes ≡ own
+      unfolding namesOwn
+      old-own = rw (is, and-true)
+
+      pub refuses-old-molecule : not own ≡ true → refusedSearch refusal.MarkMolecule ≡ restoreOldMark mol bytes
+      unfolding restoreOldMark restoreBy
+      refuses-old-molecule e = rw (formed, kept, failed (sym old-own) e)
+
+      pub old-goes-on : not own ≡ false → placedSearch mol bytes ≡ restoreOldMark mol bytes
+      unfolding restoreOldMark restoreBy
+      old-goes-on e = rw (formed, kept, passed (sym old-own) e)

@@ -1,5 +1,5 @@
-// Reading a mark (document 01, "Marks", and request F-5): what bytes restore to on a molecule that rule 9 allows, rules
-// 14 to 17.
+// Reading a mark (document 01, "Marks", and requests F-5 and F-6): what bytes restore to on a molecule that rule 9
+// allows, rules 14 to 17, in the form of now or in that from before F-5.
 ghost use mathlib.Core.Path.{_≡_};
 ghost use mathlib.Core.Bool.{true, _&&_};
 ghost use mathlib.Core.List.{map};
@@ -10,12 +10,15 @@ ghost use Rattle.fields.specs.Field.{blanksOnly, valueOf, valueAt};
 ghost use Rattle.molecule.specs.Record.{bonded, wellFormed};
 ghost use Rattle.search.specs.Place.{held};
 ghost use Rattle.search.specs.Mark.{fieldsKept, threeLinesKept, valuesAt, placedSearch, restoreMark};
+ghost use Rattle.search.specs.OldMark.{restoreOldMark};
+ghost use Rattle.search.specs.Forms.{restoreIn};
 ghost use Rattle.mark_reader.specs.Parts.{AtomsFit, low, searchOf, Placeable};
 ghost use Rattle.mark_reader.specs.Bonds.{lineAt, followed, BondsIn, ReadsBonds, namesOwn};
 use fields::Number;
 use molecule::Molecule;
 use refusal::Answer;
 use refusal::Refusal;
+use search::Form;
 use search::Made;
 use search::Search;
 
@@ -301,4 +304,30 @@ pub fn restore_checked(m: Molecule, bytes: &[u8]) -> Made
         return search::refused_search(Refusal::MarkMolecule);
     }
     placed_search(m, bytes)
+}
+
+// Restores a search from an old mark, on a molecule that rule 9 allows: rules 14, 15, 16, 17. It has no bond lines, and
+// rule 15 compares n and m.
+fn restore_old(m: Molecule, bytes: &[u8]) -> Made
+    requires { ⌜ wellFormed m ≡ true ⌝ }
+    ensures { λ r. ⌜ r ≡ restoreOldMark m (now (bytes .entry)) ⌝ }
+{
+    if !three_lines_kept(bytes, 0) {
+        return search::refused_search(Refusal::MarkBytes);
+    }
+    if !is_own(m.atoms, m.bonds, bytes, true) {
+        return search::refused_search(Refusal::MarkMolecule);
+    }
+    placed_search(m, bytes)
+}
+
+// Restores a search from a mark in either form, on a molecule that rule 9 allows: rules 14, 15, 16, 17.
+pub fn restore_in(m: Molecule, bytes: &[u8], form: Form) -> Made
+    requires { ⌜ wellFormed m ≡ true ⌝ }
+    ensures { λ r. ⌜ r ≡ restoreIn form m (now (bytes .entry)) ⌝ }
+{
+    match form {
+        Form::Old => restore_old(m, bytes),
+        Form::New => restore_checked(m, bytes),
+    }
 }

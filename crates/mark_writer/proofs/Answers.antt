@@ -6,6 +6,7 @@ use mathlib.Core.Path.{_≡_, ap, sym, _∙_}
 use mathlib.Core.Bool.{true}
 use mathlib.Core.List.{List}
 use lib.ListN.{length}
+use borrow.Author.Tests.{le-leb, lt-leb}
 use Rattle.refusal.specs.declared.Refusal.the-variants as refusal
 use Rattle.molecule.specs.declared.Molecule.{Molecule}
 use Rattle.molecule.specs.Record.{wellFormed}
@@ -13,11 +14,14 @@ use Rattle.molecule.proofs.Bonds.{rule9}
 use Rattle.search.specs.declared.Search.{Search}
 use Rattle.search.specs.declared.Saved.the-variants.{Written, Refused}
 use Rattle.search.specs.Place.{restorable}
-use Rattle.search.specs.Mark.{markText, saveAnswer, saveOutput}
+use Rattle.search.specs.declared.Saved.{Saved}
+use Rattle.search.specs.Mark.{markText, writeAnswer, writtenBytes, saveAnswer, saveOutput}
+use Rattle.search.specs.OldMark.{oldMarkText}
 use Rattle.search.proofs.Readings.{restorable-facts}
 use Rattle.search.proofs.Views.{beginning-length}
-use Rattle.search.proofs.MarkLaws.{mark-length, save-room, save-writes, save-refused}
-use Rattle.mark_writer.specs.Parts.{MarkFits, spliced}
+use Rattle.search.proofs.MarkLaws.{mark-length, save-allowed, save-room, save-writes, save-refused}
+use Rattle.search.proofs.OldMarkLaws.{old-mark-length}
+use Rattle.mark_writer.specs.Parts.{LinesFit, MarkFits, spliced}
 use Rattle.mark_writer.proofs.Splices.{splice-start}
 
 -- what a save past rules 9 and 12 knows
@@ -64,3 +68,33 @@ module _ {mol : Molecule} {q : Search} (s : Saving mol q) where
       saved-written put =
           let answer = save-writes mol q out (s .formed) (s .kept) (omega (arith, mark-size)) in
           (rw (← mark-size) (sym answer), put ∙ splice-start out (markText mol q) ∙ rw answer)
+
+    -- the same of an old mark
+    old-size : length (oldMarkText mol q) ≡ 91 + 4 * q .len
+    old-size = old-mark-length mol q ∙ ap (λ k. 91 + 4 * k) (beginning-length q (s .full) saving-short)
+
+    pub old-room : length out < 91 + 4 * q .len → Refused refusal.MarkRoom ≡ writeAnswer (oldMarkText mol q) out
+    old-room h = let size = old-size in rw (lt-leb (length (oldMarkText mol q)) (length out) (omega arith))
+
+    module _ (room : 91 + 4 * q .len ≤ length out) where
+      pub old-fits : LinesFit q out
+      old-fits = record { short = saving-short; full = s .full; room = room }
+
+      pub old-written :
+          {last : List ℕ} → last ≡ spliced 0 (oldMarkText mol q) out →
+          (Written (91 + 4 * q .len) ≡ writeAnswer (oldMarkText mol q) out) ×
+          (last ≡ writtenBytes (Written (91 + 4 * q .len)) (oldMarkText mol q) out)
+      old-written put =
+          let size = old-size in
+          let fits = le-leb (length (oldMarkText mol q)) (length out) (omega arith) in
+          (rw (fits, size), rw (← size) (put ∙ splice-start out (oldMarkText mol q)))
+
+    -- the mark of now, whose save tries rules 9 and 12 too
+    pub new-saved :
+        {r : Saved} {last : List ℕ} → (r ≡ saveAnswer mol q out) × (last ≡ saveOutput mol q out) →
+        (r ≡ writeAnswer (markText mol q) out) × (last ≡ writtenBytes r (markText mol q) out)
+    unfolding saveOutput
+    new-saved (answer, output) = (
+      answer ∙ save-allowed mol q out (s .formed) (s .kept),
+      output ∙ ap (λ (x : Saved). writtenBytes x (markText mol q) out) (sym answer),
+    )

@@ -1,4 +1,5 @@
-// The text of a mark (document 01, "Marks", and request F-5), and saving a search that rules 9 and 12 allow: rule 13.
+// The text of a mark (document 01, "Marks", and requests F-5 and F-6), and saving a search that rules 9 and 12 allow:
+// rule 13, in the form of now or in that from before F-5.
 ghost use mathlib.Core.Path.{_≡_};
 ghost use mathlib.Core.Bool.{true};
 ghost use mathlib.Core.List.{[], _∷_};
@@ -8,13 +9,16 @@ ghost use Rattle.fields.specs.Field.{fieldText};
 ghost use Rattle.molecule.specs.Record.{wellFormed};
 ghost use Rattle.search.specs.Place.{restorable};
 ghost use Rattle.search.specs.Mark.{fieldsText, threeLines, bondLines, bondsFrom, markText};
-ghost use Rattle.search.specs.Mark.{saveAnswer, saveOutput};
+ghost use Rattle.search.specs.Mark.{writeAnswer, writtenBytes, saveAnswer, saveOutput};
+ghost use Rattle.search.specs.OldMark.{oldMarkText};
+ghost use Rattle.search.specs.Forms.{markIn};
 ghost use Rattle.molecule.specs.BondList.{bondList};
 ghost use Rattle.mark_writer.specs.Parts.{spliced, cellBonds, byteBonds, rowBonds, LinesPut};
 ghost use Rattle.mark_writer.specs.Parts.{CellFits, ByteFits, RowFits, BondsFit, CopyFits, LinesFit, MarkFits};
 ghost use Rattle.mark_writer.specs.Parts.{OwnLines};
 use molecule::Molecule;
 use refusal::Refusal;
+use search::Form;
 use search::Saved;
 use search::Search;
 
@@ -204,4 +208,36 @@ pub fn save_checked(m: Molecule, q: Search, mark: &[u8], out: &mut [u8]) -> Save
     }
     put_mark(m, q, mark, out);
     Saved::Written(size)
+}
+
+// Saves a search that rules 9 and 12 allow as an old mark, which has no bond lines: rule 13.
+fn save_old(m: Molecule, q: Search, out: &mut [u8]) -> Saved
+    requires { ⌜ (wellFormed m ≡ true) × (restorable m q ≡ true) ⌝ }
+    ensures { λ r. ⌜
+        (r ≡ writeAnswer (oldMarkText m q) (now (out .entry))) ×
+        (now (out .exit) ≡ writtenBytes r (oldMarkText m q) (now (out .entry))) ⌝ }
+{
+    let len = q.len;
+    let size = 91 + 4 * len;
+    if out.len() < size {
+        return Saved::Refused(Refusal::MarkRoom);
+    }
+    put_three_lines(m, q, out);
+    Saved::Written(size)
+}
+
+// Saves a search that rules 9 and 12 allow as a mark in either form: rule 13. Only the mark's bytes are written.
+pub fn save_in(m: Molecule, q: Search, form: Form, out: &mut [u8]) -> Saved
+    requires { ⌜ (wellFormed m ≡ true) × (restorable m q ≡ true) ⌝ }
+    ensures { λ r. ⌜
+        (r ≡ writeAnswer (markIn form m q) (now (out .entry))) ×
+        (now (out .exit) ≡ writtenBytes r (markIn form m q) (now (out .entry))) ⌝ }
+{
+    match form {
+        Form::Old => save_old(m, q, out),
+        Form::New => {
+            let none = [0u8; 0];
+            save_checked(m, q, &none, out)
+        }
+    }
 }
