@@ -15,8 +15,11 @@ use Rattle.molecule.specs.declared.Molecule.{Molecule}
 use Rattle.molecule.specs.Record.{wellFormed}
 use Rattle.sheet.specs.declared.SheetAnswer.{SheetAnswer}
 use Rattle.sheet.specs.Read.{readSheet}
+use Rattle.sheet.proofs.Accepted.{SheetTaken}
 use Rattle.search.specs.declared.Search.{Search}
 use Rattle.search.specs.declared.Ran.{Ran}
+use Rattle.search.specs.declared.Form.{Form}
+use Rattle.search.specs.declared.Saved.{Saved}
 use Rattle.search.specs.Place.{freshSearch}
 use Rattle.search.specs.Entries.{acceptedSearch, runSearch, runOutput, endedNumber}
 use Rattle.search.specs.Mark.{fieldKept, valueAt, markBonds, markLength, markText, saveOutput, restoreMark}
@@ -25,10 +28,11 @@ use Rattle.mark_writer.specs.Parts.{spliced}
 use Rattle.mark_writer.proofs.Splices.{splice-start}
 use Rattle.counter.specs.declared.Counted.{Counted}
 use Rattle.counter.specs.Count.{countShortest}
+use Rattle.carry.specs.Carry.{carryAnswer, carryOutput}
 use Rattle.host.specs.Resume.{Resumed, searchFor, runAndSave, namedSize, markSize, listedIn}
 use Rattle.host.specs.Start.{Started, wroteMark}
 use Rattle.host.specs.Count.{CountedSheet, refusedCount, wroteCount, countSheet}
-use Rattle.host.proofs.Gate.{SheetTaken}
+use Rattle.host.specs.Carry.{Carried, savedNumber, savedLength, carrySheet}
 
 module _ (mol : Molecule) (mark : List ℕ) where
   pub search-fresh : wellFormed mol ≡ true → length mark ≡ 0 → acceptedSearch (freshSearch 0 0 0) ≡ searchFor mol mark
@@ -94,6 +98,22 @@ module _ (sheet : List ℕ) {read : SheetAnswer} (s t count : ℕ) where
       wroteCount counted count ≡ countSheet sheet s t count
   unfolding countSheet
   count-read taken is-counted = rw (← taken .is-read, taken .accepted, ← is-counted)
+
+-- the same of the entries that carry a mark
+abbrev pub LeavesCarried : ℕ → List ℕ → ℕ → Carried → Type 0
+LeavesCarried number mark length x = (number ≡ x .number) × (mark ≡ x .mark) × (length ≡ x .length)
+
+-- their answer in numbers
+pub carried :
+    (from to : Form) (sheet mark out : List ℕ) (before : ℕ) {saved : Saved} {last : List ℕ} {number after : ℕ} →
+    (saved ≡ carryAnswer from to sheet mark out) × (last ≡ carryOutput from to sheet mark out) →
+    (number ≡ savedNumber saved) × (after ≡ savedLength saved before) →
+    LeavesCarried number last after (carrySheet from to sheet mark out before)
+carried from to sheet mark out before (is-answer, is-output) (is-number, is-length) = (
+  is-number ∙ ap savedNumber is-answer,
+  is-output,
+  is-length ∙ ap (λ (x : Saved). savedLength x before) is-answer,
+)
 
 -- ---- what a host reads off a mark
 

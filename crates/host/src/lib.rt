@@ -9,12 +9,15 @@ ghost use Rattle.host.specs.Gate.{markRoom};
 ghost use Rattle.host.specs.Resume.{searchFor, runAndSave, resume, markSize, listedIn};
 ghost use Rattle.host.specs.Start.{startMark};
 ghost use Rattle.host.specs.Count.{countSheet};
+ghost use Rattle.search.specs.declared.Form.the-variants.{Old, New};
+ghost use Rattle.host.specs.Carry.{savedNumber, savedLength, carrySheet};
 use counter::Counted;
 use fields::Number;
 use molecule::Molecule;
 use refusal::Answer;
 use refusal::Refusal;
 use search::Made;
+use search::Saved;
 use search::Search;
 
 // The search that a mark names; no bytes mean a fresh ring search.
@@ -153,6 +156,55 @@ pub extern "C" fn ringlist_count_shortest(sheet: &[u8], s: u64, t: u64, count: &
             }
         }
     }
+}
+
+// What a save answered: the number of bytes written is put into `length`, or the number of its rule is returned.
+fn put_length(saved: Saved, length: &mut usize) -> u32
+    ensures { λ r. ⌜
+        (r ≡ savedNumber saved) ×
+        (now (length .exit) ≡ savedLength saved (now (length .entry))) ⌝ }
+{
+    match saved {
+        Saved::Refused(r) => refusal::number(r),
+        Saved::Written(k) => {
+            *length = k;
+            0
+        }
+    }
+}
+
+// Reads a sheet and an old mark and writes the mark of the same search: rules 1 to 8, 14 to 17, 13.
+#[no_mangle]
+pub extern "C" fn ringlist_carry_over(
+    sheet: &[u8],
+    old_mark: &[u8],
+    mark: &mut [u8],
+    length: &mut usize,
+) -> u32
+    ensures { λ r.
+        let x =
+        carrySheet Old New (now (sheet .entry)) (now («old_mark» .entry)) (now (mark .entry)) (now (length .entry)) in
+        ⌜ (r ≡ x .number) × (now (mark .exit) ≡ x .mark) × (now (length .exit) ≡ x .length) ⌝ }
+{
+    let saved = carry::carry_over(sheet, old_mark, mark);
+    put_length(saved, length)
+}
+
+// Reads a sheet and a mark and writes the old mark of the same search: rules 1 to 8, 14 to 17, 13.
+#[no_mangle]
+pub extern "C" fn ringlist_carry_back(
+    sheet: &[u8],
+    mark: &[u8],
+    old_mark: &mut [u8],
+    length: &mut usize,
+) -> u32
+    ensures { λ r.
+        let x =
+        carrySheet New Old (now (sheet .entry)) (now (mark .entry)) (now («old_mark» .entry)) (now (length .entry)) in
+        ⌜ (r ≡ x .number) × (now («old_mark» .exit) ≡ x .mark) × (now (length .exit) ≡ x .length) ⌝ }
+{
+    let saved = carry::carry_back(sheet, mark, old_mark);
+    put_length(saved, length)
 }
 
 // The bytes of the mark at the start of a buffer, by the bonds and the length of p that it names;
