@@ -7,20 +7,25 @@
    the search where a mark left it, makes at most `budget` trials, and writes
    the rings that it found and the mark to go on from. A search for all rings
    may also start without a mark. ringlist_count_shortest works out the number
-   of shortest paths without listing them. examples/minimal.c is a whole host
-   in twenty lines; examples/host.c keeps its mark in a file and goes on after
-   being killed.
+   of shortest paths without listing them. ringlist_carry_over takes over a mark
+   from before request F-5, and ringlist_carry_back gives one for the library
+   from before it. examples/minimal.c is a whole host in twenty lines;
+   examples/host.c keeps its mark in a file and goes on after being killed.
 
    For hosts written before marks had bond lines (request F-5). To change: give
    ringlist_resume and ringlist_start a mark output of at least 9,815 bytes (599
    were enough; fewer than 9,815 are now refused, 13), and make files and
    buffers that keep marks as large: a mark has 9 bytes more for each bond. Old
-   marks: of a molecule with bonds, an old mark is refused (14),
-   ringlist_mark_length of just its bytes is 0, and its search has to be started
-   anew. The marks of a molecule without bonds have not changed. ringlist_listed
-   reads old and new marks alike. A mark of another molecule, also of an isomer,
-   is now always refused (15), so a host need not check that itself. Functions,
-   parameters and records are as they were. */
+   marks: of a molecule with bonds, an old mark is refused (14), and
+   ringlist_mark_length of just its bytes is 0. ringlist_carry_over gives the
+   mark of the same search, once, and the listing goes on from it; a host that
+   goes back to the former library takes its marks with it by
+   ringlist_carry_back. examples/carry.c does both with the state of
+   examples/host.c. The marks of a molecule without bonds have not changed.
+   ringlist_listed reads old and new marks alike. A mark of another molecule,
+   also of an isomer, is now always refused (15), so a host need not check that
+   itself; of an old mark it has to. Functions, parameters and records are as
+   they were. */
 #ifndef RINGLIST_H
 #define RINGLIST_H
 
@@ -132,8 +137,8 @@ extern "C" {
    several threads, where no output of one call overlaps a stretch of another.
    They take no memory from the heap and use less than 32 kilobytes of stack.
    This paragraph is not proved: no Rattle function has a heap, or variables
-   that outlive a call; the stack is measured on starts, resumes and a count
-   (tests/c/host_test.c). That the prototypes in this header are those of the
+   that outlive a call; the stack is measured on starts, resumes, a count and
+   carried marks (tests/c/host_test.c). That the prototypes in this header are those of the
    code is tested (tests/prototypes.py). The proofs of these functions assume
    nothing of the C library; only those of the program ringlist do, of its read
    and write. */
@@ -205,6 +210,69 @@ uint32_t ringlist_start(const uint8_t *sheet, size_t sheet_len,
    No other number comes back. */
 uint32_t ringlist_count_shortest(const uint8_t *sheet, size_t sheet_len,
                                  uint64_t s, uint64_t t, uint64_t *count);
+
+/* Carries an old mark over: writes the mark, as it is now, of the same search.
+
+   sheet      the bond sheet, as for ringlist_resume: that of the molecule which
+              the old mark was written for.
+   old_mark   an old mark, old_mark_len bytes exactly: the three lines of a mark
+              (see ringlist_resume) and no bond line, 91 + 4 * (atoms in the
+              beginning) bytes, as all marks were before request F-5.
+   mark       the mark output, mark_len bytes. The mark has 9 * m bytes more
+              than the old one; 9,815 bytes always will do.
+   length     where the number of its bytes is put.
+
+   Taken on trust, and nothing else: the three stretches are real memory of the
+   lengths given, and length the place of a real number, aligned as one, that
+   may be read and written for as long as the call lasts; neither the mark
+   output nor *length overlaps any other of the four, and nobody else writes to
+   any of the four during the call. The sheet and the old mark may overlap each
+   other. Of a stretch of length 0 nothing is read or written, and its pointer
+   may be any, also null. All else is checked.
+
+   Returned when the mark is written: 0. It stands at the start of the output,
+   *length bytes; the bytes past it keep their values. Its three lines are those
+   of the old mark, with the same place and counts, and its bond lines are those
+   of the sheet. It restores the search that the old mark restores: what
+   ringlist_resume lists from it is what would have been listed from the old
+   one, and no member of the list is lost and none comes twice.
+
+   Returned when it was refused, by the first rule that is broken in the order
+   1 to 8, 14 to 17, 13. A refused call writes nothing, and leaves *length.
+       1 to 8  as for ringlist_resume
+      14  the old mark's bytes do not follow the layout of three lines, in which
+          zeros fill no field: so also when bytes follow the third line
+      15  the old mark's n or m differs from the sheet's. It has no bonds to
+          compare: the sheet of an isomer keeps this rule, and if the place of
+          the mark is open there too (17) the mark is carried over to the
+          isomer. So a host that keeps old marks must know whose they are
+      16, 17  as for ringlist_resume
+      13  the mark output is shorter than the mark to be written
+   No other number comes back. */
+uint32_t ringlist_carry_over(const uint8_t *sheet, size_t sheet_len,
+                             const uint8_t *old_mark, size_t old_mark_len,
+                             uint8_t *mark, size_t mark_len, size_t *length);
+
+/* Carries a mark back: writes the old mark of the same search, for the library
+   as it was before request F-5. Parameters, trust and answers are as for
+   ringlist_carry_over, with these differences.
+
+   mark       a mark as it is now, mark_len bytes exactly.
+   old_mark   the output for the old mark, old_mark_len bytes. The old mark is
+              the three lines of the mark, 9 * m bytes fewer; 599 bytes always
+              will do.
+
+   Rules 14 and 15 are those of ringlist_resume: the bond lines follow the
+   layout, and are the bonds of the sheet. Marks of kinds 2 and 3 are carried
+   back too, and read again by ringlist_carry_over; a library that does not know
+   a kind refuses it (16).
+
+   With one sheet, over and then back gives the old mark byte for byte, and back
+   and then over the mark, for every mark that the first call accepts, where the
+   second output is long enough. */
+uint32_t ringlist_carry_back(const uint8_t *sheet, size_t sheet_len,
+                             const uint8_t *mark, size_t mark_len,
+                             uint8_t *old_mark, size_t old_mark_len, size_t *length);
 
 /* The bytes of the mark at the start of a buffer: 91 + 4 * the number in
    columns 21 to 24 of its first line, its atoms in the beginning, + 9 * that in

@@ -1,7 +1,8 @@
 #!/usr/bin/env bash
 # Runs all tests of target/staticlib/libflat.a, target/staticlib/libhost.a and
-# target/bin/ringlist: in C, in Rust, by killing the example host, and a sample
-# under valgrind. Any failure is a non-zero exit.
+# target/bin/ringlist: in C, in Rust, by killing the example host and the program
+# that carries its states over, and a sample under valgrind. Any failure is a
+# non-zero exit.
 set -euo pipefail
 cd "$(dirname "$0")/.."
 root=$PWD
@@ -38,6 +39,8 @@ $compile tests/c/flat_test.c "$flat" -o "$out/flat_test"
 $compile tests/c/host_test.c "$host" -pthread -o "$out/host_test"
 $compile examples/host.c "$host" -o "$out/host"
 $compile tests/c/host_steps.c "$host" -o "$out/host_steps"
+$compile examples/carry.c "$host" -o "$out/carry"
+$compile tests/c/carry_steps.c "$host" -o "$out/carry_steps"
 $compile examples/minimal.c "$host" -o "$out/minimal"
 "$out/flat_test"
 "$out/host_test"
@@ -56,10 +59,11 @@ sed 1d examples/minimal.c | cmp - "$out/minimal.text" || die "README.md does not
 echo "== Rust tests"
 (cd tests/rust && cargo test --release --offline)
 
-echo "== Killing the example host"
-python3 tests/kill_test.py "$out/host" "$out/host_steps" "$ringlist" examples "$out/kill"
+echo "== Killing the example host, and the program that carries its states over"
+python3 tests/kill_test.py "$out/host" "$out/host_steps" "$out/carry" "$out/carry_steps" "$ringlist" examples \
+    "$out/kill"
 
-echo "== C tests, ringlist and hosts under valgrind"
+echo "== C tests, ringlist, hosts and carry under valgrind"
 $checker "$out/flat_test" || die "flat_test under valgrind: exit code $?"
 $checker "$out/host_test" without-stack || die "host_test under valgrind: exit code $?"
 $checker "$ringlist" <examples/dodecahedrane.sheet >"$out/checked.text" || die "ringlist under valgrind: exit code $?"
@@ -72,6 +76,12 @@ for run in first second; do
         die "host under valgrind, $run run: exit code $?"
     "$ringlist" <examples/cubane.sheet | cmp - "$out/rings" || die "host under valgrind, $run run: another output"
 done
+cp "$out/state" "$out/state.text"
+for way in over back back over; do
+    $checker "$out/carry" "$way" examples/cubane.sheet "$out/state" "$out/rings" ||
+        die "carry $way under valgrind: exit code $?"
+done
+cmp "$out/state.text" "$out/state" || die "carry under valgrind: another state"
 
 echo "== Rust tests under valgrind, one case in 200"
 rust=$(rustc -vV | sed -n 's/^host: //p')

@@ -366,6 +366,14 @@ static void zero_lengths(void) {
         uint64_t number = 7;
         EQUAL(ringlist_count_shortest(any, 0, 1, 2, &number), 1);
         EQUAL(number, 7);
+        size_t length = 7;
+        EQUAL(ringlist_carry_over(any, 0, any, 0, any, 0, &length), 1);
+        EQUAL(ringlist_carry_over((const uint8_t *)SHEET, any, 0, any, 0, &length), 14);
+        EQUAL(ringlist_carry_over((const uint8_t *)SHEET, next, 99, any, 0, &length), 13);
+        EQUAL(ringlist_carry_back(any, 0, any, 0, any, 0, &length), 1);
+        EQUAL(ringlist_carry_back((const uint8_t *)SHEET, any, 0, any, 0, &length), 14);
+        EQUAL(ringlist_carry_back((const uint8_t *)SHEET, next, 144, any, 0, &length), 13);
+        EQUAL(length, 7);
         EQUAL(ringlist_mark_length(any, 0), 0);
         EQUAL(ringlist_listed(any, 0), 0);
     }
@@ -788,6 +796,133 @@ static void counts_of_shortest(void) {
     counted(layers, len - 1, 1, 1, 1, NO_COUNT, __LINE__);
 }
 
+/* One of the two functions that carry a mark to its other form. */
+typedef uint32_t carrier(const uint8_t *, size_t, const uint8_t *, size_t, uint8_t *, size_t,
+                         size_t *);
+
+/* A mark carried into an output of `room` bytes: its answer, all that it wrote,
+   and the length, which only the answer 0 sets. */
+static void carried(carrier *carry, const void *sheet, size_t sheet_len, const void *mark,
+                    size_t mark_len, size_t room, uint32_t answer, const char *other, int line) {
+    const size_t before = 7;
+    size_t length = before;
+    uint8_t *given_sheet = exact(sheet, sheet_len), *given_mark = exact(mark, mark_len);
+    uint8_t *out = some(room + 2 * MARGIN);
+    memset(out, PATTERN, room + 2 * MARGIN);
+    check_number(carry(given_sheet, sheet_len, given_mark, mark_len, out + MARGIN, room, &length),
+                 answer, line, "answer of carrying");
+    check(sheet_len == 0 || memcmp(given_sheet, sheet, sheet_len) == 0, line, "sheet kept");
+    check(mark_len == 0 || memcmp(given_mark, mark, mark_len) == 0, line, "mark kept");
+    check(begins(out, room, other, strlen(other)), line, "carried mark");
+    check_number(length, answer == 0 ? strlen(other) : before, line, "length");
+    free(given_sheet);
+    free(given_mark);
+    free(out);
+}
+
+/* The carbons of cubane. The search for its rings, trial by trial:
+     1: -      1  open     p = 1          2: 1    1  no
+     3: 1      2  open     p = 1 2        4, 5: 1 2 with 1, 2  no
+     6: 1 2    3  open     p = 1 2 3      7, 8, 9: 1 2 3 with 1, 2, 3  no
+    10: 1 2 3  4  listed
+   So after nine trials and three extensions p = 1 2 3 and the next atom is 4: an
+   old mark of 91 + 4 * 3 bytes, and a new one of 9 * 12 more. */
+static const char cubane[] =
+    "   8  12\n"
+    "   7   8\n   6   7\n   5   8\n   5   6\n   4   8\n   3   7\n"
+    "   3   4\n   2   6\n   2   3\n   5   1\n   4   1\n   2   1\n";
+static const char cubane_old[] =
+    "   0   0   0   8  12   3   4\n"
+    "                   9                   3                   0\n"
+    "   1   2   3\n";
+static const char cubane_new[] =
+    "   0   0   0   8  12   3   4\n"
+    "                   9                   3                   0\n"
+    "   1   2   3\n"
+    "   1   2\n   1   4\n   1   5\n   2   3\n   2   6\n   3   4\n"
+    "   3   7\n   4   8\n   5   6\n   5   8\n   6   7\n   7   8\n";
+
+#define CUBANE cubane, sizeof cubane - 1
+
+/* Cubane's mark there and back, in outputs of just its length, of one byte fewer
+   and of more; the mark carried over goes on. */
+static void carrying_of_cubane(void) {
+    static const size_t rooms[6] = {0, 102, 103, 210, 211, MARK};
+    EQUAL(sizeof cubane_old - 1, 103);
+    EQUAL(sizeof cubane_new - 1, 211);
+    for (int i = 0; i < 6; i++) {
+        int over = rooms[i] >= 211, back = rooms[i] >= 103;
+        carried(ringlist_carry_over, CUBANE, cubane_old, 103, rooms[i], over ? 0 : 13,
+                over ? cubane_new : "", __LINE__);
+        carried(ringlist_carry_back, CUBANE, cubane_new, 211, rooms[i], back ? 0 : 13,
+                back ? cubane_old : "", __LINE__);
+    }
+    wrote(call(CUBANE, NULL, 0, 9, 5, MARK), 103, "", 0, cubane_new, 211, __LINE__);
+    static uint8_t over[MARK], next[MARK];
+    uint8_t rings[5];
+    size_t length = 0;
+    EQUAL(ringlist_carry_over((const uint8_t *)CUBANE, (const uint8_t *)cubane_old, 103, over, MARK,
+                              &length),
+          0);
+    EQUAL(ringlist_resume((const uint8_t *)CUBANE, over, length, 1, rings, 5, next, MARK), 103);
+    CHECK(memcmp(rings, "\4\1\2\3\4", 5) == 0);
+    EQUAL(ringlist_listed(next, MARK), 1);
+}
+
+/* A mark of each form that the function of that form refuses, or carries where
+   `rule` is 0 and the room is enough: it is `lines` without the bond lines or with
+   them. */
+#define CARRIED(sheet, lines, bonds, room, rule)                                                   \
+    do {                                                                                           \
+        carried(ringlist_carry_over, sheet, sizeof(sheet) - 1, lines, sizeof(lines) - 1, room, rule, \
+                rule == 0 ? lines bonds : "", __LINE__);                                           \
+        carried(ringlist_carry_back, sheet, sizeof(sheet) - 1, lines bonds,                        \
+                sizeof(lines bonds) - 1, room, rule, rule == 0 ? lines : "", __LINE__);            \
+    } while (0)
+
+/* On the document's sheet: each kind, every rule, and each rule before the next. */
+static void carrying(void) {
+    char mark[160], old[160];
+    for (int trials = 0; trials <= 16; trials++) {
+        size_t len = mark_after(trials, mark) - 45;
+        memcpy(old, mark, len);
+        old[len] = 0;
+        carried(ringlist_carry_over, SHEET, old, len, len + 45, 0, mark, __LINE__);
+        carried(ringlist_carry_back, SHEET, mark, len + 45, len, 0, old, __LINE__);
+    }
+    CARRIED(document, LINE_1 LINE_2 LINE_3, BONDS, MARK, 0);
+    CARRIED(document, "   1   2   4   4   5   1   4\n" LINE_2 "   2\n", BONDS, 200, 0);
+    CARRIED(document, "   2   3   0   4   5   2   4\n" LINE_2 LINE_3, BONDS, 200, 0);
+    CARRIED(document, "   3   2   4   4   5   2   4\n" LINE_2 "   2   1\n", BONDS, 200, 0);
+    CARRIED("   3   0\n", "   0   0   0   3   0   0   1\n" NO_COUNTS, "", 91, 0);
+    CARRIED("00040005\n00010002\n00020003\n00030004\n00010004\n00010003\n", LINE_1 LINE_2 LINE_3,
+            BONDS, 144, 0);
+    CARRIED("   4   5", LINE_1 LINE_2, BONDS, 0, 1);
+    CARRIED("   4   2\n   1   2\n   2   1\n", LINE_1 LINE_2, BONDS, 0, 8);
+    CARRIED(document, "   4   0   0   5   5   2   0\n" LINE_2 "   1\n", BONDS, 0, 14);
+    CARRIED(document, "   4   0   0   5   5   2   0\n" LINE_2 "   10002\n", BONDS, 0, 14);
+    CARRIED(document, "   4   0   0   5   5   2   0\n" LINE_2 LINE_3, BONDS, 0, 15);
+    CARRIED(document, "   4   0   0   4   5   2   0\n" LINE_2 LINE_3, BONDS, 0, 16);
+    CARRIED(document, "   2   2   0   4   5   2   0\n" LINE_2 LINE_3, BONDS, 0, 16);
+    CARRIED(document, LINE_1 LINE_2 "   1   4\n", BONDS, 0, 17);
+    CARRIED(document, "   0   0   0   4   5   2   5\n" LINE_2 LINE_3, BONDS, 0, 17);
+    CARRIED(document, LINE_1 LINE_2 LINE_3, BONDS, 98, 13);
+    /* Other numbers of bonds: an old mark has no other word of them. */
+    carried(ringlist_carry_over, SHEET, "   0   0   0   4   4   2   3\n" LINE_2 LINE_3, 99, 0, 15, "",
+            __LINE__);
+    /* Each form is no mark of the other. */
+    carried(ringlist_carry_over, SHEET, full_mark, 144, MARK, 14, "", __LINE__);
+    carried(ringlist_carry_back, SHEET, full_mark, 99, MARK, 14, "", __LINE__);
+    /* No bytes are no mark. */
+    carried(ringlist_carry_over, SHEET, "", 0, MARK, 14, "", __LINE__);
+    carried(ringlist_carry_back, SHEET, "", 0, MARK, 14, "", __LINE__);
+    /* A mark of an isomer, open in both: an old one gets the bonds of the sheet. */
+    static const char other[] = "   4   5\n   1   2\n   2   3\n   3   4\n   1   4\n   2   4\n";
+    carried(ringlist_carry_over, other, sizeof other - 1, full_mark, 99, 144, 0,
+            LINE_1 LINE_2 LINE_3 OTHER_BONDS, __LINE__);
+    carried(ringlist_carry_back, other, sizeof other - 1, full_mark, 144, 144, 15, "", __LINE__);
+}
+
 /* Counts are taken as they are; at the limit a run stops before its first
    trial, but done comes before the limit, and the limit before spent. */
 static void limit(void) {
@@ -882,6 +1017,7 @@ static void *call_in_thread(void *calls) {
     /* Not on the stack that is measured. */
     static uint8_t rings[8], next[MARK], fresh[MARK];
     uint64_t number = 0;
+    size_t length = 0;
     return calls != NULL &&
                    ringlist_resume((const uint8_t *)SHEET, (const uint8_t *)full_mark, 144, 11,
                                    rings, 8, next, MARK) == 101 &&
@@ -889,7 +1025,11 @@ static void *call_in_thread(void *calls) {
                    ringlist_resume((const uint8_t *)SHEET, fresh, 136, 16, rings, 8, next, MARK) == 101 &&
                    ringlist_start((const uint8_t *)SHEET, 3, 2, 4, fresh, MARK) == 0 &&
                    ringlist_resume((const uint8_t *)SHEET, fresh, 136, 16, rings, 8, next, MARK) == 101 &&
-                   ringlist_count_shortest((const uint8_t *)SHEET, 2, 4, &number) == 0 && number == 2
+                   ringlist_count_shortest((const uint8_t *)SHEET, 2, 4, &number) == 0 && number == 2 &&
+                   ringlist_carry_over((const uint8_t *)SHEET, (const uint8_t *)full_mark, 99, next, MARK,
+                                       &length) == 0 && length == 144 &&
+                   ringlist_carry_back((const uint8_t *)SHEET, next, 144, fresh, MARK, &length) == 0 &&
+                   length == 99
                ? calls
                : NULL;
 }
@@ -946,6 +1086,8 @@ int main(int words, char **word) {
     starts();
     listings_of_each_kind();
     counts_of_shortest();
+    carrying_of_cubane();
+    carrying();
     limit();
     mark_readers();
     if (words == 1) {

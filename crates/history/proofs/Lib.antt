@@ -1,5 +1,6 @@
 pub mod Entered
 pub mod Joined
+pub mod Continued
 pub mod Reached
 pub mod Stands
 pub mod Demand3

@@ -263,6 +263,12 @@ module _
           done-whole = λ f. l .stands .records-kept ∙ d .done-whole (l .finished f) .whole-sheet;
         }
 
+    -- a call that returned 101 left a search that is done
+    mark-done :
+        (calls : List HostCall) → HostHistory sheet (keeping mark) calls → returnedDone calls ≡ true →
+        isDone (R .atoms) (stateOf (standing (restoredStart q) (allCallsIn calls) .search)) ≡ true
+    mark-done calls h = host-listed mark-agrees calls h .finished
+
 -- Demand 3 over every accepted sheet, every search that a host may start on it, and every list of calls from C
 pub host-demand3 :
     (sheet : List ℕ) → readSheet sheet .answer ≡ Accepted →
@@ -288,6 +294,14 @@ pub host-from-mark :
     HostFromMark sheet (readSheet sheet .molecule) mark q calls
     (keptBy (keeping mark) calls) (standing (restoredStart q) (allCallsIn calls))
 host-from-mark sheet read = mark-followed sheet read (readSheet sheet .molecule) refl
+
+-- After a call that returned 101 the search as it stands is done
+pub host-mark-done :
+    (sheet : List ℕ) → readSheet sheet .answer ≡ Accepted →
+    (mark : List ℕ) (q : Search) → restoreMark (readSheet sheet .molecule) mark ≡ acceptedSearch q →
+    (calls : List HostCall) → HostHistory sheet (keeping mark) calls → returnedDone calls ≡ true →
+    isDone (readSheet sheet .molecule .atoms) (stateOf (standing (restoredStart q) (allCallsIn calls) .search)) ≡ true
+host-mark-done sheet read = mark-done sheet read (readSheet sheet .molecule) refl
 
 -- The entry takes the fresh mark of every search that rule 16 allows on the sheet's record
 pub fresh-accepted :

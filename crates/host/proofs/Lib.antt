@@ -8,3 +8,4 @@ pub mod History
 pub mod Isomers
 pub mod StartLaws
 pub mod CountLaws
+pub mod CarryLaws

@@ -559,6 +559,28 @@ pub fn changed_sheet(rng: &mut Rng, kind: u64, mut sheet: Vec<u8>) -> Vec<u8> {
     sheet
 }
 
+/// For each rule of the sheet some that break it, and later rules that can be
+/// broken too.
+pub fn refused_sheets() -> Vec<(u32, Vec<u8>)> {
+    let line = |text: &str| text.as_bytes().to_vec();
+    let many = "   1   2\n".repeat(1025);
+    vec![
+        (1, line("   4   5\n   1   2\n  ")),
+        (1, line(" 129   5\nx  1   1\n  ")),
+        (2, line(" 1299999\n   1   x\n")),
+        (2, line("01299999\n00010 01\n")),
+        (3, line(" 1299999\n   1   1\n")),
+        (3, line("01299999\n00010001\n")),
+        (4, line("   41025\n   0   0\n")),
+        (4, line(&format!("   41025\n{many}"))),
+        (5, line("   4   2\n   0   0\n")),
+        (6, line("   4   3\n   1   1\n   1   1\n   0   2\n")),
+        (7, line("   4   3\n   1   2\n   1   2\n   2   2\n")),
+        (8, line("   4   3\n   1   2\n   3   4\n   2   1\n")),
+        (8, line("00040003\n   10002\n00030004\n0002   1\n")),
+    ]
+}
+
 /// A number that agrees with `value` but for one of its high bits.
 pub fn alias(rng: &mut Rng, value: u64) -> u64 {
     value ^ (1 << rng.pick(&[8, 16, 31, 32, 48, 62, 63]))
@@ -929,6 +951,16 @@ pub fn isomer(rng: &mut Rng, molecule: &Molecule) -> Option<Molecule> {
     let moved = 1 + rng.index(most);
     isomer.bonds[..moved].copy_from_slice(&free[..moved]);
     Some(isomer)
+}
+
+/// Another molecule with as many atoms and bonds: an isomer as above, or the same
+/// atoms numbered in another way. None where that is the molecule itself.
+pub fn any_isomer(rng: &mut Rng, molecule: &Molecule) -> Option<Molecule> {
+    let other = match rng.below(3) {
+        0 => Some(renamed(rng, molecule)),
+        _ => isomer(rng, molecule),
+    };
+    other.filter(|other| other.record() != molecule.record())
 }
 
 /// 128 atoms and 1,024 bonds: 1 to 120, each bonded to the next, the last also to

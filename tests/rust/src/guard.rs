@@ -33,19 +33,33 @@ impl Guarded<u8> {
     }
 }
 
-impl Guarded<u64> {
-    /// A buffer of 64-bit numbers.
-    pub fn numbers(len: usize, seed: u64) -> Guarded<u64> {
+impl<T: Copy> Guarded<T> {
+    /// A buffer of items, each made of a number at random.
+    fn of_numbers(len: usize, seed: u64, item: fn(u64) -> T) -> Guarded<T> {
         let start = MARGIN / 8;
         let end = start + len;
         let mut rng = Rng::new(seed);
-        let items: Vec<u64> = (0..end + MARGIN / 8).map(|_| rng.next()).collect();
+        let items: Vec<T> = (0..end + MARGIN / 8).map(|_| item(rng.next())).collect();
         Guarded {
             before: items.clone(),
             items,
             start,
             end,
         }
+    }
+}
+
+impl Guarded<u64> {
+    /// A buffer of 64-bit numbers.
+    pub fn numbers(len: usize, seed: u64) -> Guarded<u64> {
+        Guarded::of_numbers(len, seed, |number| number)
+    }
+}
+
+impl Guarded<usize> {
+    /// A buffer of lengths.
+    pub fn lengths(len: usize, seed: u64) -> Guarded<usize> {
+        Guarded::of_numbers(len, seed, |number| number as usize)
     }
 }
 

@@ -1,9 +1,10 @@
-//! The host entry: declarations as in `include/ringlist.h`, safe wrappers, and
+//! The host entries: declarations as in `include/ringlist.h`, safe wrappers, and
 //! calls compared with the model.
 
 use std::collections::BTreeMap;
 
 use crate::guard::Guarded;
+use crate::model::carry::{self, Form};
 use crate::model::host::{self, Resumed};
 use crate::model::list::{Lists, Task};
 use crate::model::mark::MARK_ROOM;
@@ -39,6 +40,24 @@ mod c {
             s: u64,
             t: u64,
             count: *mut u64,
+        ) -> u32;
+        pub fn ringlist_carry_over(
+            sheet: *const u8,
+            sheet_len: usize,
+            old_mark: *const u8,
+            old_mark_len: usize,
+            mark: *mut u8,
+            mark_len: usize,
+            length: *mut usize,
+        ) -> u32;
+        pub fn ringlist_carry_back(
+            sheet: *const u8,
+            sheet_len: usize,
+            mark: *const u8,
+            mark_len: usize,
+            old_mark: *mut u8,
+            old_mark_len: usize,
+            length: *mut usize,
         ) -> u32;
         pub fn ringlist_mark_length(mark: *const u8, mark_len: usize) -> usize;
         pub fn ringlist_listed(mark: *const u8, mark_len: usize) -> u64;
@@ -91,6 +110,37 @@ pub fn count_shortest(sheet: &[u8], (s, t): (u64, u64), count: &mut u64) -> u32 
     unsafe { c::ringlist_count_shortest(sheet.as_ptr(), sheet.len(), s, t, count) }
 }
 
+pub fn carry_over(sheet: &[u8], old_mark: &[u8], mark: &mut [u8], length: &mut usize) -> u32 {
+    // SAFETY: the pointers come with the lengths of live slices, and only the
+    // one borrowed mutably and the length are written.
+    unsafe {
+        c::ringlist_carry_over(
+            sheet.as_ptr(),
+            sheet.len(),
+            old_mark.as_ptr(),
+            old_mark.len(),
+            mark.as_mut_ptr(),
+            mark.len(),
+            length,
+        )
+    }
+}
+
+pub fn carry_back(sheet: &[u8], mark: &[u8], old_mark: &mut [u8], length: &mut usize) -> u32 {
+    // SAFETY: as for `carry_over`.
+    unsafe {
+        c::ringlist_carry_back(
+            sheet.as_ptr(),
+            sheet.len(),
+            mark.as_ptr(),
+            mark.len(),
+            old_mark.as_mut_ptr(),
+            old_mark.len(),
+            length,
+        )
+    }
+}
+
 /// The fresh mark of a task that the sheet allows.
 pub fn fresh_mark(sheet: &[u8], task: Task) -> Vec<u8> {
     let mut mark = [b'x'; MARK_ROOM];
@@ -107,6 +157,9 @@ pub fn listed(mark: &[u8]) -> u64 {
     // SAFETY: the pointer comes with the length of a live slice, only read.
     unsafe { c::ringlist_listed(mark.as_ptr(), mark.len()) }
 }
+
+/// A sheet, and what the model reads in it.
+pub type Sheet<'a> = (&'a [u8], Result<&'a dyn Lists, u32>);
 
 /// Compares calls of the entry, and counts its answers.
 pub struct Entry {
@@ -144,11 +197,10 @@ impl Entry {
     }
 
     /// One call: the answer, every byte of both outputs with the margins around
-    /// them, and the two inputs, which stay as they are. `read` is what the
-    /// model reads in the sheet.
+    /// them, and the two inputs, which stay as they are.
     pub fn resume(
         &mut self,
-        (sheet, read): (&[u8], Result<&dyn Lists, u32>),
+        (sheet, read): Sheet,
         mark: &[u8],
         budget: u64,
         (room, mark_room): (usize, usize),
@@ -198,7 +250,7 @@ impl Entry {
     /// written as the answer 0.
     pub fn start(
         &mut self,
-        (sheet, read): (&[u8], Result<&dyn Lists, u32>),
+        (sheet, read): Sheet,
         numbers: [u64; 3],
         mark_room: usize,
     ) -> Result<Vec<u8>, u32> {
@@ -257,6 +309,90 @@ impl Entry {
         *self.answers.entry(answer).or_default() += 1;
         expected
     }
+}
+
+/// A wrapper of an entry that carries marks: sheet, mark, output and length.
+type Carry = fn(&[u8], &[u8], &mut [u8], &mut usize) -> u32;
+
+/// Compares calls of the two entries that carry marks, and counts the answers of
+/// each.
+pub struct Carrier {
+    over: Entry,
+    back: Entry,
+}
+
+impl Carrier {
+    pub fn new(seed: u64) -> Carrier {
+        Carrier {
+            over: Entry::new(seed),
+            back: Entry::new(!seed),
+        }
+    }
+
+    pub fn calls(&self) -> u64 {
+        self.over.calls() + self.back.calls()
+    }
+
+    pub fn print(&self) {
+        let (over, back) = (&self.over.answers, &self.back.answers);
+        println!("{} calls; over {over:?}; back {back:?}", self.calls());
+    }
+
+    /// Each of the two gave each answer often enough.
+    pub fn at_least(&self, count: u64, answers: &[u32]) {
+        self.over.at_least(count, answers);
+        self.back.at_least(count, answers);
+    }
+
+    /// One call, of the entry that takes marks of this form, with an output of
+    /// `room` bytes: the answer, every byte of the output and the length, which
+    /// holds anything before the call, with the margins around them, and the two
+    /// inputs. A mark written counts as the answer 0.
+    pub fn carry(
+        &mut self,
+        from: Form,
+        (sheet, read): Sheet,
+        mark: &[u8],
+        room: usize,
+    ) -> Result<Vec<u8>, u32> {
+        let (entry, function): (_, Carry) = match from {
+            Form::Old => (&mut self.over, carry_over),
+            Form::New => (&mut self.back, carry_back),
+        };
+        let (given_sheet, given_mark): (Box<[u8]>, Box<[u8]>) = (sheet.into(), mark.into());
+        let seed = entry.seeds.next();
+        let mut out = Guarded::new(room, seed);
+        let mut length = Guarded::lengths(1, seed);
+        let place = &mut length.buffer()[0];
+        let answer = function(&given_sheet, &given_mark, out.buffer(), place);
+        let expected = carry::carry(from, read, mark, room);
+        let (code, parts) = match &expected {
+            Ok(carried) => (0, [out.begins(carried), length.holds(&[carried.len()])]),
+            Err(rule) => (*rule, [out.is_untouched(), length.is_untouched()]),
+        };
+        let call = || describe((sheet, mark), from, room, &expected);
+        assert_eq!(answer, code, "answer; {}", call());
+        assert!(parts[0], "output ({answer}); {}", call());
+        assert!(parts[1], "length ({answer}); {}", call());
+        assert!(*given_sheet == *sheet, "the sheet was written; {}", call());
+        assert!(*given_mark == *mark, "the mark was written; {}", call());
+        *entry.answers.entry(answer).or_default() += 1;
+        expected
+    }
+}
+
+/// A call that carries a mark, for messages.
+fn describe(
+    (sheet, mark): (&[u8], &[u8]),
+    from: Form,
+    room: usize,
+    expected: &Result<Vec<u8>, u32>,
+) -> String {
+    let [sheet, mark] = [sheet, mark].map(|bytes| bytes.escape_ascii().to_string());
+    let expected = expected
+        .as_ref()
+        .map(|carried| carried.escape_ascii().to_string());
+    format!("from {from:?}, {room} bytes\nsheet {sheet}\nmark {mark}\nexpected {expected:?}")
 }
 
 /// A whole listing through the entry.

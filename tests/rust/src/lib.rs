@@ -13,6 +13,7 @@ pub mod plot;
 pub mod rng;
 pub mod spoil;
 pub mod stepper;
+pub mod subject;
 
 /// A value of which the compiler knows nothing more, for benches; the standard
 /// library has one from Rust 1.66 on.

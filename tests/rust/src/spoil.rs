@@ -334,6 +334,15 @@ pub fn mark(rng: &mut Rng, n: u64, kind: u64, mark: &mut Vec<u8>) {
     }
 }
 
+/// One mark in three is changed in any way, where it has the length of one and
+/// ends as one.
+pub fn now_and_then(rng: &mut Rng, n: u64, bytes: &mut Vec<u8>) {
+    if bytes.len() > THIRD && rng.one_in(3) && bytes.last() == Some(&b'\n') {
+        let kind = rng.below(MARK_KINDS);
+        mark(rng, n, kind, bytes);
+    }
+}
+
 /// The kinds of changes that [`bond_lines`] makes.
 const BOND_KINDS: u64 = 10;
 

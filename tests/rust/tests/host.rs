@@ -3,91 +3,19 @@
 
 use flat_tests::compare::Case;
 use flat_tests::generate::{self, Molecule};
-use flat_tests::host::{self, Entry};
+use flat_tests::host::{self, Entry, Sheet};
+use flat_tests::model::carry::Form;
 use flat_tests::model::field::LIMIT;
-use flat_tests::model::list::{self, Listed, Lists, Reached, Task};
+use flat_tests::model::list::{Listed, Lists, Reached, Task};
 use flat_tests::model::machine::Search;
 use flat_tests::model::mark::{self, MARK_ROOM};
 use flat_tests::model::{self, lister, Record};
 use flat_tests::rng::Rng;
+use flat_tests::subject::{self, no_mark, on_sheet, on_subject, quicker, Subject};
 use flat_tests::{examples, sample, sampled, spoil, sum_of_parts};
-
-/// Up to this many atoms the model answers from the brute-force list.
-const BRUTE: u64 = 12;
 
 /// Calls on one molecule.
 const CALLS: u64 = 12;
-
-/// A molecule with its sheet, open beginnings to make marks of, and a molecule
-/// with as many atoms and bonds.
-struct Subject<'a> {
-    lists: &'a dyn Lists,
-    sheet: Vec<u8>,
-    places: Vec<(Task, Vec<u8>)>,
-    isomer: Option<Record>,
-}
-
-impl Subject<'_> {
-    fn atoms(&self) -> u64 {
-        self.lists.record().atoms
-    }
-
-    /// The mark of any open beginning and next atom, with any counts.
-    fn mark(&self, rng: &mut Rng) -> Vec<u8> {
-        mark::write(self.lists.record(), &self.place(rng))
-    }
-
-    /// The same place on a molecule with as many atoms and bonds.
-    fn mark_of_isomer(&self, rng: &mut Rng) -> Vec<u8> {
-        let record = self.isomer.as_ref().unwrap_or_else(|| self.lists.record());
-        mark::write(record, &self.place(rng))
-    }
-
-    fn place(&self, rng: &mut Rng) -> Search {
-        let n = self.atoms();
-        let (task, p) = &self.places[rng.index(self.places.len())];
-        let c = match p.len() {
-            0 => rng.between(1, n + 1),
-            _ => rng.between(1, n),
-        };
-        let mut search = Search::at(*task, p, c);
-        let mut any_count = || match rng.below(12) {
-            0 => LIMIT,
-            1 => LIMIT - 1,
-            2 => LIMIT - rng.below(4 * n + 4),
-            3..=5 => 0,
-            _ => (rng.next() >> rng.below(64)).min(LIMIT),
-        };
-        search.trials = any_count();
-        search.extensions = any_count();
-        search.listed = any_count();
-        search
-    }
-}
-
-/// The empty beginning and up to 40 others, of rings, of paths, of rings up to a
-/// size and of shortest paths.
-fn places(rng: &mut Rng, listed: &Listed) -> Vec<(Task, Vec<u8>)> {
-    let record = listed.record();
-    let n = record.atoms;
-    let mut places = Vec::new();
-    for task in generate::any_tasks(rng, n) {
-        // A large molecule may have too many members to list.
-        let members = if n <= BRUTE {
-            listed.members(task).to_vec()
-        } else if record.bonds <= n + 6 {
-            lister::list(record, task).members()
-        } else {
-            Vec::new()
-        };
-        let mut open = list::open_beginnings(&members);
-        rng.shuffle(&mut open);
-        open.truncate(40);
-        open.push(Vec::new());
-        places.extend(open.into_iter().map(|p| (task, p)));
-    }
-    places
-}
 
 fn any_budget(rng: &mut Rng, n: u64) -> u64 {
     match rng.below(10) {
@@ -125,26 +53,6 @@ fn any_mark_room(rng: &mut Rng) -> usize {
     }
 }
 
-/// Bytes that no save wrote: noise, a piece of a mark, or a sheet.
-fn no_mark(rng: &mut Rng, subject: &Subject) -> Vec<u8> {
-    let mut bytes = match rng.below(4) {
-        0 => {
-            let len = rng.index(700);
-            (0..len).map(|_| rng.byte()).collect()
-        }
-        1 => {
-            let len = rng.index(700);
-            (0..len).map(|_| rng.pick(b"    01234\n")).collect()
-        }
-        2 => subject.sheet.clone(),
-        _ => vec![rng.pick(b" 0\n\0"); rng.pick(&[1, 28, 29, 90, 91, 92, 95, 100, 599, 9_815])],
-    };
-    if rng.one_in(3) {
-        bytes.truncate(rng.index(bytes.len() + 1));
-    }
-    bytes
-}
-
 /// Kind, s and t of a start: right, near to right, or far from it.
 fn any_numbers(rng: &mut Rng, n: u64) -> [u64; 3] {
     let mut numbers = generate::any_task(rng, n).numbers();
@@ -169,15 +77,12 @@ fn start_on(entry: &mut Entry, subject: &Subject, rng: &mut Rng) {
     let n = subject.atoms();
     let (numbers, room) = (any_numbers(rng, n), any_mark_room(rng));
     if rng.one_in(3) {
-        let kind = rng.between(2, generate::SHEET_KINDS - 1);
-        let sheet = generate::changed_sheet(rng, kind, subject.sheet.clone());
-        let read = model::sheet::read(&sheet);
-        let reached = read.as_ref().map(Reached::new).map_err(|rule| *rule);
-        let lists = reached.as_ref().map(|reached| reached as &dyn Lists);
-        let _ = entry.start((&sheet, lists.map_err(|rule| *rule)), numbers, room);
+        on_sheet(&subject.changed_sheet(rng), |sheet| {
+            let _ = entry.start(sheet, numbers, room);
+        });
         return;
     }
-    let call = (subject.sheet.as_slice(), Ok(subject.lists));
+    let call = subject.own();
     if let Ok(mark) = entry.start(call, numbers, room) {
         let (budget, room) = (any_budget(rng, n), any_room(rng, n));
         let resumed = entry.resume(call, &mark, budget, (room, MARK_ROOM));
@@ -209,11 +114,7 @@ fn random_starts_of(name: &'static str, seed: u64) -> u64 {
         let record = molecule.record();
         let (listed, reached) = (Listed::new(&record), Reached::new(&record));
         let subject = Subject {
-            lists: if record.atoms <= BRUTE {
-                &listed
-            } else {
-                &reached
-            },
+            lists: quicker(&listed, &reached),
             sheet: generate::mixed(&mut rng, &molecule.sheet()),
             places: Vec::new(),
             isomer: None,
@@ -241,47 +142,28 @@ fn calls_on(entry: &mut Entry, subject: &Subject, other: &[u8], rng: &mut Rng) {
         let mut mark = match rng.below(17) {
             0..=1 => Vec::new(),
             2..=6 => last.clone(),
-            7..=13 => subject.mark(rng),
+            7..=13 => subject.mark(rng, Form::New),
             14 => other.to_vec(),
-            15 => subject.mark_of_isomer(rng),
-            _ => no_mark(rng, subject),
+            15 => subject.mark_of_isomer(rng, Form::New),
+            _ => no_mark(rng, &subject.sheet),
         };
-        if mark.len() >= 91 && rng.one_in(3) && mark.last() == Some(&b'\n') {
-            let kind = rng.below(spoil::MARK_KINDS);
-            spoil::mark(rng, n, kind, &mut mark);
-        }
+        spoil::now_and_then(rng, n, &mut mark);
         let (budget, room) = (any_budget(rng, n), any_room(rng, n));
         let rooms = (room, any_mark_room(rng));
         if rng.below(8) < 5 {
-            let call = (subject.sheet.as_slice(), Ok(subject.lists));
-            if let Ok(resumed) = entry.resume(call, &mark, budget, rooms) {
+            if let Ok(resumed) = entry.resume(subject.own(), &mark, budget, rooms) {
                 last = resumed.mark;
             }
             continue;
         }
-        let kind = rng.between(2, generate::SHEET_KINDS - 1);
-        let sheet = generate::changed_sheet(rng, kind, subject.sheet.clone());
-        let read = model::sheet::read(&sheet);
-        match &read {
-            // A changed sheet may read as another molecule, also a large one.
-            Ok(record) => {
-                let budget = budget.min(20);
-                let reached = Reached::new(record);
-                let _ = entry.resume((&sheet, Ok(&reached)), &mark, budget, rooms);
-            }
-            Err(rule) => {
-                let _ = entry.resume((&sheet, Err(*rule)), &mark, budget, rooms);
-            }
-        }
-    }
-}
-
-/// A molecule to call on: seldom one of any size, with few trials then.
-fn any_subject(rng: &mut Rng) -> Molecule {
-    match rng.below(40) {
-        0 => generate::any_judged(rng),
-        1 => generate::any_molecule(rng),
-        _ => generate::any_searched(rng),
+        on_sheet(&subject.changed_sheet(rng), |sheet| {
+            // It may read as another molecule, also a large one.
+            let budget = match sheet.1 {
+                Ok(_) => budget.min(20),
+                Err(_) => budget,
+            };
+            let _ = entry.resume(sheet, &mark, budget, rooms);
+        });
     }
 }
 
@@ -307,25 +189,11 @@ fn random_calls_of(name: &'static str, seed: u64) -> u64 {
     for case in 0..molecules {
         let _case = Case(name, case);
         let mut rng = Rng::of_case(seed, case);
-        let molecule = any_subject(&mut rng);
-        let record = molecule.record();
-        let (listed, reached) = (Listed::new(&record), Reached::new(&record));
-        let subject = Subject {
-            lists: if record.atoms <= BRUTE {
-                &listed
-            } else {
-                &reached
-            },
-            sheet: match rng.below(4) {
-                0 => generate::zero_filled(&molecule.sheet()),
-                1 => generate::mixed(&mut rng, &molecule.sheet()),
-                _ => molecule.sheet(),
-            },
-            places: places(&mut rng, &listed),
-            isomer: generate::isomer(&mut rng, &molecule).map(|isomer| isomer.record()),
-        };
-        calls_on(&mut entry, &subject, &other, &mut rng);
-        other = subject.mark(&mut rng);
+        let molecule = subject::any_molecule(&mut rng);
+        other = on_subject(&mut rng, &molecule, |subject, rng| {
+            calls_on(&mut entry, subject, &other, rng);
+            subject.mark(rng, Form::New)
+        });
     }
     entry.print();
     assert_eq!(entry.calls(), molecules * CALLS);
@@ -344,25 +212,8 @@ fn order_of_rules() {
     let record = generate::document().record();
     let lists = Listed::new(&record);
     let right = generate::document().sheet();
-    // For each rule a sheet that breaks it, and the rules above it that can be
-    // broken too.
+    let sheets = generate::refused_sheets();
     let line = |text: &str| text.as_bytes().to_vec();
-    let many = "   1   2\n".repeat(1025);
-    let sheets = [
-        (1, line("   4   5\n   1   2\n  ")),
-        (1, line(" 129   5\nx  1   1\n  ")),
-        (2, line(" 1299999\n   1   x\n")),
-        (2, line("01299999\n00010 01\n")),
-        (3, line(" 1299999\n   1   1\n")),
-        (3, line("01299999\n00010001\n")),
-        (4, line("   41025\n   0   0\n")),
-        (4, line(&format!("   41025\n{many}"))),
-        (5, line("   4   2\n   0   0\n")),
-        (6, line("   4   3\n   1   1\n   1   1\n   0   2\n")),
-        (7, line("   4   3\n   1   2\n   1   2\n   2   2\n")),
-        (8, line("   4   3\n   1   2\n   3   4\n   2   1\n")),
-        (8, line("00040003\n   10002\n00030004\n0002   1\n")),
-    ];
     let lines = |line1: &str, line3: &str, bonds: &str| {
         let counts = "                   5                   2                   0";
         line(&format!("{line1}\n{counts}\n{line3}\n{bonds}"))
@@ -583,13 +434,9 @@ fn isomers() {
         let _case = Case("isomers", case);
         let mut rng = Rng::of_case(0x49_534F_4D31, case);
         let molecule = generate::any_searched(&mut rng);
-        let other = match rng.below(3) {
-            0 => Some(generate::renamed(&mut rng, &molecule)),
-            _ => generate::isomer(&mut rng, &molecule),
-        };
-        let molecules = match other {
-            Some(other) if other.record() != molecule.record() => [molecule, other],
-            _ => continue,
+        let molecules = match generate::any_isomer(&mut rng, &molecule) {
+            Some(other) => [molecule, other],
+            None => continue,
         };
         pairs += 1;
         isomers_of(&mut entry, &mut rng, &molecules);
@@ -655,15 +502,11 @@ fn marks_without_lines() {
         let resumed = entry.resume(call, &fresh, budget, (300, MARK_ROOM));
         let resumed = resumed.expect("accepted");
         let search = &resumed.search;
-        let former = mark::write_lines(record.atoms, record.bonds, search);
+        let former = Form::Old.write(&record, search);
         assert_eq!(resumed.mark[..former.len()], former);
         let none = molecule.bonds.is_empty();
         assert_eq!(former == resumed.mark, none);
-        let right = if none {
-            search.length as usize * 4 + 91
-        } else {
-            0
-        };
+        let right = if none { former.len() } else { 0 };
         assert_eq!(host::mark_length(&former), right);
         assert_eq!(host::listed(&former), search.listed);
         for mark_room in [0, 599, MARK_ROOM] {
@@ -836,7 +679,7 @@ fn longest() {
 }
 
 /// The longest mark with outputs about the length of the longest record.
-fn longest_of(entry: &mut Entry, call: (&[u8], Result<&dyn Lists, u32>), mark: &[u8]) {
+fn longest_of(entry: &mut Entry, call: Sheet, mark: &[u8]) {
     let bonds = call.1.expect("a molecule").record().bonds;
     assert_eq!(mark.len(), mark::size(127, bonds as usize));
     for (room, stop) in [(0, 104), (128, 104), (129, 103), (130, 103), (300, 103)] {
@@ -875,11 +718,7 @@ fn both_fillings() {
         let mixed = generate::mixed(&mut rng, &blanks);
         with_both += u64::from(mixed != blanks && mixed != zeros);
         let (listed, reached) = (Listed::new(&record), Reached::new(&record));
-        let lists: &dyn Lists = if record.atoms <= BRUTE {
-            &listed
-        } else {
-            &reached
-        };
+        let lists = quicker(&listed, &reached);
         // No mark, or that of a start, which is the same on each sheet.
         let numbers = generate::any_task(&mut rng, record.atoms).numbers();
         let [mut mark, second, third] = [&blanks, &zeros, &mixed].map(|sheet| {
@@ -907,7 +746,7 @@ fn both_fillings() {
             }
         }
         // Whole listings of small molecules, by the library alone.
-        if record.atoms <= BRUTE {
+        if record.atoms <= 12 {
             let [first, second, third] = [&blanks, &zeros, &mixed].map(|sheet| {
                 let whole = host::list(sheet, &[], || (1_000, 129));
                 (whole.sheet, whole.calls, whole.stop, whole.mark)

@@ -2,6 +2,7 @@
 
 use flat_tests::compare::{Calls, Case, On};
 use flat_tests::generate::{self, Molecule};
+use flat_tests::model::carry::Form;
 use flat_tests::model::field::LIMIT;
 use flat_tests::model::list::{self, Listed, Lists, Reached, Task};
 use flat_tests::model::machine::{Search, Stop};
@@ -10,7 +11,7 @@ use flat_tests::model::{lister, Record};
 use flat_tests::rng::Rng;
 use flat_tests::spoil::{bond_places, bonds_from, lengthened, place, places, put, zero_fill};
 use flat_tests::spoil::{with_bonds, with_lines, COUNTS, EDGES};
-use flat_tests::{examples, sample, sampled, spoil};
+use flat_tests::{examples, sample, sampled, spoil, subject};
 
 /// Compares the answer to a mark. An accepted one, saved again, gives the same
 /// bytes; what it gives is a search that runs.
@@ -22,37 +23,17 @@ fn compare(calls: &mut Calls, lists: &dyn Lists, mark: &[u8]) -> Result<Search, 
     Ok(search)
 }
 
-/// Marks of a few molecules at many places, with counts of all lengths.
-fn marks_of(molecule: &Molecule, tasks: &[Task]) -> (Record, Vec<Vec<u8>>) {
-    let record = molecule.record();
-    let n = record.atoms;
-    let mut marks = Vec::new();
-    for &task in tasks {
-        let mut open = list::open_beginnings(&lister::list(&record, task).members());
-        open.push(Vec::new());
-        for (at, p) in open.iter().enumerate() {
-            let mut search = Search::at(task, p, at as u64 % n + 1);
-            search.trials = LIMIT >> (7 * at % 64);
-            search.extensions = at as u64 * 11;
-            search.listed = 10u64.pow(at as u32 % 19) - 1;
-            marks.push(mark::write(&record, &search));
-        }
-    }
-    (record, marks)
-}
-
-/// Marks of each kind; the size is the smallest that leaves all rings.
+/// Marks of each kind on a few molecules at many places.
 fn small_marks() -> Vec<(Record, Vec<Vec<u8>>)> {
-    let tasks = |k| {
-        let (s, t) = (2, 4);
-        let paths = [Task::Paths { s, t }, Task::Shortest { s, t }];
-        [Task::Rings, paths[0], Task::RingsUpTo { k }, paths[1]]
+    let marks_of = |(record, searches): (Record, Vec<Search>)| {
+        let marks = searches.iter().map(|search| mark::write(&record, search));
+        let marks = marks.collect();
+        (record, marks)
     };
-    vec![
-        marks_of(&generate::document(), &tasks(3)),
-        marks_of(&generate::two_to_three(), &tasks(4)),
-        marks_of(&generate::ring(12), &tasks(12)),
-    ]
+    subject::small_searches()
+        .into_iter()
+        .map(marks_of)
+        .collect()
 }
 
 /// Every byte of many marks, with several values, and of a few with all.
@@ -436,11 +417,7 @@ fn isomers() {
             0 => generate::any_molecule(&mut rng),
             _ => generate::any_searched(&mut rng),
         };
-        let other = match rng.below(3) {
-            0 => Some(generate::renamed(&mut rng, &molecule)),
-            _ => generate::isomer(&mut rng, &molecule),
-        };
-        let records = match other {
+        let records = match generate::any_isomer(&mut rng, &molecule) {
             Some(other) => [molecule.record(), other.record()],
             None => continue,
         };
@@ -459,8 +436,8 @@ fn isomers() {
             let (own_lists, other_lists) = (Reached::new(own), Reached::new(other));
             assert_eq!(compare(&mut calls, &own_lists, &mark), Ok(search.clone()));
             let answer = compare(&mut calls, &other_lists, &mark);
-            assert_eq!(answer == Err(15), own != other);
-            open += u64::from(own != other && search.is_restorable(&other_lists));
+            assert_eq!(answer, Err(15));
+            open += u64::from(search.is_restorable(&other_lists));
         }
     }
     calls.print();
@@ -666,8 +643,7 @@ fn marks_without_lines() {
         let task = generate::any_task(&mut rng, record.atoms);
         let members = lister::list(&record, task).members();
         let search = any_place(&mut rng, record.atoms, task, &members);
-        let mark = mark::write_lines(record.atoms, record.bonds, &search);
-        assert_eq!(mark.len(), mark::size(search.length as usize, 0));
+        let mark = Form::Old.write(&record, &search);
         let answer = compare(&mut calls, &Reached::new(&record), &mark);
         let none = molecule.bonds.is_empty();
         assert_eq!(answer, if none { Ok(search) } else { Err(14) });

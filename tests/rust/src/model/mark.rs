@@ -97,17 +97,18 @@ fn read_bond(line: &[u8]) -> Option<Bond> {
     }
 }
 
-/// The numbers of a mark that follows the layout.
-struct Lines {
-    first: [u64; 7],
+/// The numbers of the three lines that every mark begins with, and the lines
+/// after them.
+pub(super) struct Lines<'a> {
+    pub(super) first: [u64; 7],
     counts: [u64; 3],
     beginning: Vec<u64>,
-    bonds: Vec<Bond>,
+    pub(super) rest: Vec<&'a [u8]>,
 }
 
-/// The numbers of all lines, or none when the bytes do not follow the layout
-/// (rule 14), which is tried over the whole mark.
-fn read_lines(mark: &[u8]) -> Option<Lines> {
+/// The lines of a mark, or none when one of the first three does not follow the
+/// layout (rule 14, but for the lines after them).
+pub(super) fn read_lines(mark: &[u8]) -> Option<Lines<'_>> {
     let lines: Vec<&[u8]> = mark.split(|&byte| byte == b'\n').collect();
     // Nothing comes after the last line feed.
     let (first, second, third, rest) = match lines[..] {
@@ -117,33 +118,32 @@ fn read_lines(mark: &[u8]) -> Option<Lines> {
     let first: [u64; 7] = read_line(first, NARROW)?.try_into().ok()?;
     let counts: [u64; 3] = read_line(second, WIDE)?.try_into().ok()?;
     let beginning = read_line(third, NARROW)?;
-    let [_, _, _, _, m, length, _] = first;
-    if length > LONGEST || beginning.len() as u64 != length {
-        return None;
-    }
-    let bonds: Vec<Bond> = rest
-        .iter()
-        .map(|line| read_bond(line))
-        .collect::<Option<_>>()?;
-    // As many as the mark names, each later than the one above it.
-    let ascending = bonds.windows(2).all(|two| two[0] < two[1]);
-    (bonds.len() as u64 == m && ascending).then_some(Lines {
+    let [_, _, _, _, _, length, _] = first;
+    (length <= LONGEST && beginning.len() as u64 == length).then_some(Lines {
         first,
         counts,
         beginning,
-        bonds,
+        rest: rest.to_vec(),
     })
 }
 
-/// The search of a mark on a lawful record, or the number of the first rule
-/// it breaks.
-pub fn read(lists: &dyn Lists, mark: &[u8]) -> Result<Search, u32> {
-    let record = lists.record();
-    let lines = read_lines(mark).ok_or(14u32)?;
+/// The bonds of the lines after the third, or none when they do not follow the
+/// layout: as many as the mark names, each later than the one above it.
+fn read_bonds(lines: &Lines) -> Option<Vec<Bond>> {
+    let [_, _, _, _, m, _, _] = lines.first;
+    let bonds: Vec<Bond> = lines
+        .rest
+        .iter()
+        .map(|line| read_bond(line))
+        .collect::<Option<_>>()?;
+    let ascending = bonds.windows(2).all(|two| two[0] < two[1]);
+    (bonds.len() as u64 == m && ascending).then_some(bonds)
+}
+
+/// The search of the three lines of a mark that belongs to the molecule, or the
+/// first of rules 16 and 17 that it breaks.
+pub(super) fn search_of(lists: &dyn Lists, lines: &Lines) -> Result<Search, u32> {
     let [kind, s, t, n, _, length, c] = lines.first;
-    if n != record.atoms || lines.bonds != bonds(record) {
-        return Err(15);
-    }
     let task = Task::of(n, kind, s, t).ok_or(16u32)?;
     // An atom above 255 is none of the molecule's.
     let p: Option<Vec<u8>> = lines.beginning.iter().map(|&v| v.try_into().ok()).collect();
@@ -155,6 +155,19 @@ pub fn read(lists: &dyn Lists, mark: &[u8]) -> Result<Search, u32> {
     let mut search = Search::at(task, &p, c);
     [search.trials, search.extensions, search.listed] = lines.counts;
     Ok(search)
+}
+
+/// The search of a mark on a lawful record, or the number of the first rule
+/// it breaks. Rule 14 is tried over the whole mark before the others.
+pub fn read(lists: &dyn Lists, mark: &[u8]) -> Result<Search, u32> {
+    let record = lists.record();
+    let lines = read_lines(mark).ok_or(14u32)?;
+    let own = read_bonds(&lines).ok_or(14u32)?;
+    let [_, _, _, n, ..] = lines.first;
+    if n != record.atoms || own != bonds(record) {
+        return Err(15);
+    }
+    search_of(lists, &lines)
 }
 
 #[cfg(test)]

@@ -2,6 +2,7 @@
 //! have landed, in plain Rust. It shares nothing with the library.
 
 pub mod best;
+pub mod carry;
 pub mod field;
 pub mod host;
 pub mod judge;
