@@ -21,14 +21,14 @@ use Rattle.search.specs.Place.{familyOf, family, beginning, held, searchAt, kin
 use Rattle.search.specs.Entries.{acceptedSearch, refusedSearch}
 use Rattle.search.specs.Mark.{valueAt, valuesAt, markBonds, markLength, markBeginning, markSearch, bondsFrom, bondsNamed}
 use Rattle.search.specs.Mark.{threeLinesKept, bondLinesKept, layoutKept, belongs, placedSearch, restoreBy, restoreMark}
-use Rattle.search.specs.OldMark.{oldBelongs, restoreOldMark}
+use Rattle.search.specs.OldMark.{restoreOldMark}
 use Rattle.search.proofs.Lines.{ThreeLines, three-lines-of, three-lines-facts}
 use Rattle.search.proofs.BondLines.{bonds-at-length}
 use Rattle.search.proofs.Readings.{family-lawful, family-atoms, place-facts}
 use Rattle.search.proofs.Views.{held-take, held-length}
 use Rattle.mark_reader.specs.declared.BondsRead.{BondsRead}
 use Rattle.mark_reader.specs.Parts.{low, searchOf, Placeable}
-use Rattle.mark_reader.specs.Bonds.{linesAfter, ReadsBonds, namesOwn}
+use Rattle.mark_reader.specs.Bonds.{linesAfter, ReadsBonds, namesOwn, ownSearch}
 use Rattle.mark_reader.proofs.Layouts.{failed, passed}
 use Rattle.mark_reader.proofs.Stored.{values-size, low-length, stored-open, place-stored}
 
@@ -146,6 +146,16 @@ module _ (n m : ℕ) (bytes : List ℕ) (own : Bool) where
     unfolding namesOwn
     same-counts bonds = rw (eq-eqb (valueAt 4 bytes 12) n atoms, eq-eqb (markBonds bytes) m bonds)
 
+module _ (mol : Molecule) (bytes : List ℕ) (own : Bool) {test : Bool}
+    (is : test ≡ namesOwn (mol .atoms) (mol .bonds) bytes own) where
+  pub refuses-molecule : not test ≡ true → refusedSearch refusal.MarkMolecule ≡ ownSearch mol bytes own
+  unfolding ownSearch
+  refuses-molecule e = rw (failed is e)
+
+  pub places : not test ≡ false → placedSearch mol bytes ≡ ownSearch mol bytes own
+  unfolding ownSearch
+  places e = rw (passed is e)
+
 -- ---- rules 14 and 15
 
 module _ (mol : Molecule) (bytes : List ℕ) (formed : wellFormed mol ≡ true) where
@@ -196,14 +206,9 @@ module _ {mol : Molecule} {bytes : List ℕ} {r : BondsRead} (l : LinesRead mol 
         let count = bonds-at-length bytes (bondsFrom bytes) (markBonds bytes) in
         rw (← same, count, l .read .own right, and-assoc)
 
-    module _ {own : Bool} (is : own ≡ namesOwn (mol .atoms) (mol .bonds) bytes (r .own)) where
-      pub refuses-molecule : not own ≡ true → refusedSearch refusal.MarkMolecule ≡ restoreMark mol bytes
-      unfolding restoreMark restoreBy
-      refuses-molecule e = rw (l .formed, layout-is ∙ right, own-is ∙ failed is e)
-
-      pub goes-on : not own ≡ false → placedSearch mol bytes ≡ restoreMark mol bytes
-      unfolding restoreMark restoreBy
-      goes-on e = rw (l .formed, layout-is ∙ right, own-is ∙ passed is e)
+    pub goes-on : ownSearch mol bytes (r .own) ≡ restoreMark mol bytes
+    unfolding restoreMark restoreBy ownSearch
+    goes-on = rw (l .formed, layout-is ∙ right, own-is)
 
 -- ---- the same of an old mark
 
@@ -219,15 +224,6 @@ module _ (mol : Molecule) (bytes : List ℕ) (formed : wellFormed mol ≡ true) 
         record { formed = formed; most = lines .most; room = omega arith }
 
     -- rule 15 compares n and m
-    module _ {own : Bool} (is : own ≡ namesOwn (mol .atoms) (mol .bonds) bytes true) where
-      old-own : oldBelongs mol bytes ≡ own
-      unfolding namesOwn
-      old-own = rw (is, and-true)
-
-      pub refuses-old-molecule : not own ≡ true → refusedSearch refusal.MarkMolecule ≡ restoreOldMark mol bytes
-      unfolding restoreOldMark restoreBy
-      refuses-old-molecule e = rw (formed, kept, failed (sym old-own) e)
-
-      pub old-goes-on : not own ≡ false → placedSearch mol bytes ≡ restoreOldMark mol bytes
-      unfolding restoreOldMark restoreBy
-      old-goes-on e = rw (formed, kept, passed (sym old-own) e)
+    pub old-goes-on : ownSearch mol bytes true ≡ restoreOldMark mol bytes
+    unfolding restoreOldMark restoreBy ownSearch namesOwn
+    old-goes-on = rw (formed, kept, and-true)

@@ -13,7 +13,7 @@ ghost use Rattle.search.specs.Mark.{fieldsKept, threeLinesKept, valuesAt, place
 ghost use Rattle.search.specs.OldMark.{restoreOldMark};
 ghost use Rattle.search.specs.Forms.{restoreIn};
 ghost use Rattle.mark_reader.specs.Parts.{AtomsFit, low, searchOf, Placeable};
-ghost use Rattle.mark_reader.specs.Bonds.{lineAt, followed, BondsIn, ReadsBonds, namesOwn};
+ghost use Rattle.mark_reader.specs.Bonds.{lineAt, followed, BondsIn, ReadsBonds, namesOwn, ownSearch};
 use fields::Number;
 use molecule::Molecule;
 use refusal::Answer;
@@ -286,6 +286,17 @@ fn placed_search(m: Molecule, bytes: &[u8]) -> Made
     }
 }
 
+// Rules 15, 16 and 17: the same of three lines, where `own` says whether the bonds named are the molecule's.
+fn own_search(m: Molecule, bytes: &[u8], own: bool) -> Made
+    requires { ⌜ Placeable m (now bytes) ⌝ }
+    ensures { λ r. ⌜ r ≡ ownSearch m (now (bytes .entry)) own ⌝ }
+{
+    if !is_own(m.atoms, m.bonds, bytes, own) {
+        return search::refused_search(Refusal::MarkMolecule);
+    }
+    placed_search(m, bytes)
+}
+
 // Restores a search from a mark, on a molecule that rule 9 allows: rules 14, 15, 16, 17.
 pub fn restore_checked(m: Molecule, bytes: &[u8]) -> Made
     requires { ⌜ wellFormed m ≡ true ⌝ }
@@ -300,14 +311,11 @@ pub fn restore_checked(m: Molecule, bytes: &[u8]) -> Made
     if !bonds.kept {
         return search::refused_search(Refusal::MarkBytes);
     }
-    if !is_own(m.atoms, m.bonds, bytes, bonds.own) {
-        return search::refused_search(Refusal::MarkMolecule);
-    }
-    placed_search(m, bytes)
+    own_search(m, bytes, bonds.own)
 }
 
-// Restores a search from an old mark, on a molecule that rule 9 allows: rules 14, 15, 16, 17. It has no bond lines, and
-// rule 15 compares n and m.
+// Restores a search from an old mark, on a molecule that rule 9 allows: rules 14, 15, 16, 17. It names no bonds, so rule
+// 15 compares n and m.
 fn restore_old(m: Molecule, bytes: &[u8]) -> Made
     requires { ⌜ wellFormed m ≡ true ⌝ }
     ensures { λ r. ⌜ r ≡ restoreOldMark m (now (bytes .entry)) ⌝ }
@@ -315,10 +323,7 @@ fn restore_old(m: Molecule, bytes: &[u8]) -> Made
     if !three_lines_kept(bytes, 0) {
         return search::refused_search(Refusal::MarkBytes);
     }
-    if !is_own(m.atoms, m.bonds, bytes, true) {
-        return search::refused_search(Refusal::MarkMolecule);
-    }
-    placed_search(m, bytes)
+    own_search(m, bytes, true)
 }
 
 // Restores a search from a mark in either form, on a molecule that rule 9 allows: rules 14, 15, 16, 17.

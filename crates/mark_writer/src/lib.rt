@@ -218,12 +218,12 @@ fn save_old(m: Molecule, q: Search, out: &mut [u8]) -> Saved
         (now (out .exit) ≡ writtenBytes r (oldMarkText m q) (now (out .entry))) ⌝ }
 {
     let len = q.len;
-    let size = 91 + 4 * len;
-    if out.len() < size {
+    let end = 91 + 4 * len;
+    if out.len() < end {
         return Saved::Refused(Refusal::MarkRoom);
     }
     put_three_lines(m, q, out);
-    Saved::Written(size)
+    Saved::Written(end)
 }
 
 // Saves a search that rules 9 and 12 allow as a mark in either form: rule 13. Only the mark's bytes are written.

@@ -6,7 +6,7 @@ use Rattle.molecule.proofs.Bonds.{rule9}
 use Rattle.search.proofs.Lines.{ThreeLines, three-lines-facts}
 use Rattle.mark_reader.proofs.Layouts.{failed, passed}
 use Rattle.mark_reader.proofs.Answers.{LinesRead, lines-placeable, bonds-past-three}
-use Rattle.mark_reader.proofs.Answers.{refuses-lines, refuses-bonds, refuses-molecule, goes-on}
+use Rattle.mark_reader.proofs.Answers.{refuses-lines, refuses-bonds, goes-on}
 use Rattle.mark_reader.proofs.restore_checked.Statement.{statement}
 use Rattle.mark_reader.proofs.restore_checked.Tie as tie
 
@@ -68,30 +68,17 @@ read-bonds-requires c κs =
 returns-2 : tie.Need-returns-2
 returns-2 c = c .refused-search2 .ensures ∙ refuses-bonds (read (search)) (c .before .if2 .taken)
 
-is-own-requires : tie.Need-is-own-requires
-is-own-requires c κs = omega (arith, lines (search) .size)
+own-search-requires : tie.Need-own-search-requires
+own-search-requires c κs = lines-placeable (read (search))
 
 returns-3 : tie.Need-returns-3
 returns-3 c =
     let kept : tie.Else2 = search in
-    let own : tie.After-is-own = search in
-    c .refused-search3 .ensures ∙
-    refuses-molecule (read (search)) (kept .if2 .left) (own .is-own .ensures) (c .before .if3 .taken)
-
-placed-search-requires : tie.Need-placed-search-requires
-placed-search-requires c κs = lines-placeable (read (search))
-
-returns-4 : tie.Need-returns-4
-returns-4 c =
-    let kept : tie.Else2 = search in
-    let own : tie.Else3 = search in
-    c .placed-search .ensures ∙
-    goes-on (read (search)) (kept .if2 .left) (own .before .is-own .ensures) (own .if3 .left)
+    c .own-search .ensures ∙ goes-on (read (search)) (kept .if2 .left)
 
 pub restore-checked-spec : {M : Type 1} → statement M
 restore-checked-spec =
     tie.close
     (tie.spec
     (λ c κs. search needs) (λ c κs. search needs) returns small-at-requires mul-from add-from small-at-requires-2
-    read-bonds-requires (λ c κs. search needs) returns-2 is-own-requires (λ c κs. search needs) returns-3
-    placed-search-requires returns-4)
+    read-bonds-requires (λ c κs. search needs) returns-2 own-search-requires returns-3)

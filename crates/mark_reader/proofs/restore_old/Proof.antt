@@ -1,12 +1,10 @@
 -- `mark_reader::restore_old` meets its contract: each answer is the definition's by the rules that led to it.
-use native.Mathlib.Omega.{arith}
 use mathlib.Core.Path.{_≡_, _∙_}
 use mathlib.Core.Bool.{true}
 use borrow.Author.Needs.{needs}
 use Rattle.search.specs.Mark.{threeLinesKept}
-use Rattle.search.proofs.Lines.{three-lines-facts}
 use Rattle.mark_reader.proofs.Layouts.{failed, passed}
-use Rattle.mark_reader.proofs.Answers.{refuses-old-lines, old-placeable, refuses-old-molecule, old-goes-on}
+use Rattle.mark_reader.proofs.Answers.{refuses-old-lines, old-placeable, old-goes-on}
 use Rattle.mark_reader.proofs.restore_old.Statement.{statement}
 use Rattle.mark_reader.proofs.restore_old.Tie as tie
 
@@ -24,29 +22,15 @@ returns c =
     c .refused-search .ensures ∙
     refuses-old-lines _ _ (start .pre) (failed (told .three-lines-kept .ensures) (c .before .if1 .taken))
 
-is-own-requires : tie.Need-is-own-requires
-is-own-requires c κs = omega (arith, three-lines-facts 0 _ (kept (search)) .size)
+own-search-requires : tie.Need-own-search-requires
+own-search-requires c κs = let start : tie.Start = search in old-placeable _ _ (start .pre) (kept (search))
 
 returns-2 : tie.Need-returns-2
 returns-2 c =
     let start : tie.Start = search in
-    let own : tie.After-is-own = search in
-    c .refused-search2 .ensures ∙
-    refuses-old-molecule _ _ (start .pre) (kept (search)) (own .is-own .ensures) (c .before .if2 .taken)
-
-placed-search-requires : tie.Need-placed-search-requires
-placed-search-requires c κs = let start : tie.Start = search in old-placeable _ _ (start .pre) (kept (search))
-
-returns-3 : tie.Need-returns-3
-returns-3 c =
-    let start : tie.Start = search in
-    let own : tie.Else2 = search in
-    c .placed-search .ensures ∙
-    old-goes-on _ _ (start .pre) (kept (search)) (own .before .is-own .ensures) (own .if2 .left)
+    c .own-search .ensures ∙ old-goes-on _ _ (start .pre) (kept (search))
 
 pub restore-old-spec : {M : Type 1} → statement M
 restore-old-spec =
     tie.close
-    (tie.spec
-    (λ c κs. search needs) (λ c κs. search needs) returns is-own-requires (λ c κs. search needs) returns-2
-    placed-search-requires returns-3)
+    (tie.spec (λ c κs. search needs) (λ c κs. search needs) returns own-search-requires returns-2)
