@@ -27,7 +27,7 @@ use Rattle.search.specs.Entries.{acceptedSearch}
 use Rattle.search.specs.Mark.{writeAnswer}
 use Rattle.search.specs.Forms.{markIn, restoreIn}
 use Rattle.search.proofs.FormLaws.{made-accepted, form-restores, form-saves, form-restorable, form-rules}
-use Rattle.search.proofs.FormLaws.{write-fits, write-short, write-ways}
+use Rattle.search.proofs.FormLaws.{longest, form-most, write-fits, write-short, write-ways}
 use Rattle.carry.specs.Carry.{carryAnswer, carryOutput}
 use Rattle.carry.proofs.Answers.{sheet-refuses, mark-refuses, answers}
 
@@ -191,6 +191,12 @@ module _ (from to : Form) (sheet mark out : List ℕ) where
         let w = taken read q restored in
         let is = w .is ∙ write-fits (markIn to mol q) out room in
         (is, bytes-left w (length (markIn to mol q)) is)
+
+    -- as one of 599 bytes always has for an old mark, and one of 9,815 for a mark as it is now
+    pub carry-roomy : longest to ≤ length out → length (markIn to mol q) ≤ length out
+    carry-roomy room =
+        let (formed, kept, full) = form-restorable from mol mark q restored in
+        omega (arith, form-most to mol q formed kept)
 
     -- and else falls under rule 13
     pub carry-short : length out < length (markIn to mol q) → answered ≡ Refused refusal.MarkRoom

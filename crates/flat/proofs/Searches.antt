@@ -5,7 +5,7 @@ use native.Mathlib.Omega.{arith}
 use mathlib.Core.Path.{_≡_, ap, _∙_}
 use mathlib.Core.Bool.{Bool, true, false, _&&_, not}
 use mathlib.Core.List.{List}
-use lib.ListN.{length, length-take}
+use lib.ListN.{length}
 use lib.Dec.{eqb}
 use borrow.Author.Tests.{eqb-true}
 use Rattle.graph.proofs.Below.{and-parts}
@@ -23,11 +23,11 @@ use Rattle.search.specs.declared.Ended.the-variants.{Stopped}
 use Rattle.search.specs.declared.Ended.the-variants as ended
 use Rattle.search.specs.declared.Saved.{Saved}
 use Rattle.search.specs.declared.Saved.the-variants.{Written}
-use Rattle.search.specs.Place.{beginning}
+use Rattle.search.specs.declared.Form.the-variants.{New}
 use Rattle.search.specs.Entries.{runSearch, runOutput, endedNumber}
-use Rattle.molecule.proofs.Bonds.{rule9}
 use Rattle.search.specs.Mark.{saveAnswer, saveOutput}
-use Rattle.search.proofs.MarkLaws.{mark-length, save-written, restorable-facts}
+use Rattle.search.proofs.MarkLaws.{save-written}
+use Rattle.search.proofs.FormLaws.{form-most}
 use Rattle.flat.specs.Codes.{wrongLength, answerCode, molecule}
 use Rattle.flat.specs.Searches.{sizesKept, SizesTold, SearchSize, searchFrom, Packed, sized, savedCode}
 use Rattle.flat.specs.Searches.{madeNumbers, madePrefix, MadeStored, MadeLeft}
@@ -191,9 +191,6 @@ module _ {rows numbers prefix : List ℕ} {answer : Bool} (test : SizesTold rows
 
 -- a mark has at most 91 + 4 × 127 + 9 × 1,024 bytes
 pub mark-small : (mol : Molecule) (q : Search) (out : List ℕ) (k : ℕ) → saveAnswer mol q out ≡ Written k → k ≤ 9815
-unfolding beginning
 mark-small mol q out k e =
     let wrote = save-written mol q out k e in
-    let short = restorable-facts mol q (wrote .kept) .short in
-    let few = rule9 mol (wrote .formed) .bonds-high in
-    omega (arith, wrote .size, mark-length mol q (wrote .formed), length-take (q .len) (q .prefix))
+    omega (arith, wrote .size, form-most New mol q (wrote .formed) (wrote .kept))

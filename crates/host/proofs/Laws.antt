@@ -22,7 +22,6 @@ use Rattle.refusal.specs.Number.{numberOf}
 use Rattle.refusal.proofs.Ranges.{Within, by-test, within-refused}
 use Rattle.molecule.specs.declared.Molecule.{Molecule}
 use Rattle.molecule.specs.Record.{wellFormed}
-use Rattle.molecule.proofs.Bonds.{rule9}
 use Rattle.sheet.specs.declared.SheetAnswer.{SheetAnswer}
 use Rattle.sheet.specs.Read.{readSheet}
 use Rattle.sheet.proofs.Accepted.{accepted-well-formed, read-formed}
@@ -35,10 +34,9 @@ use Rattle.search.specs.Entries.{acceptedSearch, startRings, outcome, ran, runS
 use Rattle.search.specs.declared.Form.the-variants.{New}
 use Rattle.search.specs.Mark.{markText, restoreMark}
 use Rattle.search.proofs.Restores.{restored-facts}
-use Rattle.search.proofs.Views.{beginning-length}
-use Rattle.search.proofs.MarkLaws.{family-lawful, restorable-facts, restorable-valid, valid-full, fresh-restorable}
-use Rattle.search.proofs.MarkLaws.{run-restorable, mark-length, saved-restores, restored-restorable}
-use Rattle.search.proofs.FormLaws.{made-accepted, form-rules}
+use Rattle.search.proofs.MarkLaws.{family-lawful, restorable-valid, valid-full, fresh-restorable, run-restorable}
+use Rattle.search.proofs.MarkLaws.{saved-restores, restored-restorable}
+use Rattle.search.proofs.FormLaws.{made-accepted, form-most, form-rules}
 use Rattle.history.proofs.Entered.{save-wrote}
 use Rattle.mark_writer.specs.Parts.{OwnLines}
 use Rattle.mark_writer.proofs.MarkSplices.{own-lines-none, own-lines-restored}
@@ -166,14 +164,7 @@ module _ {mol : Molecule} {q : Search} (ok : Runnable mol q) (budget : ℕ) (rin
           budget (length rings) (stateOf q) (restorable-valid mol q (ok .kept))
 
   result-fits : length (markText mol result) ≤ markRoom
-  result-fits =
-      let short = restorable-facts mol result result-kept .short in
-      omega (
-        arith,
-        mark-length mol result (ok .formed),
-        beginning-length result result-full short,
-        rule9 mol (ok .formed) .bonds-high,
-      )
+  result-fits = form-most New mol result (ok .formed) result-kept
 
   result-listed : result .listed ≡ q .listed + length ws
   unfolding searchAt stateOf

@@ -1,5 +1,5 @@
--- The laws of marks in either form: a saved one restores its search, an accepted one is saved again as the same bytes
--- and restores a search that rule 12 allows. By the law of each form; and the numbers that a mark is refused by.
+-- The laws of marks in either form: a saved one restores its search, an accepted one is saved again as the same bytes;
+-- their lengths, rule 13, and the numbers that a mark is refused by. By the law of each form.
 use Prim.Native.Nat.{ℕ, _+_, _*_, _≤_, _<_}
 use native.Mathlib.Decide.{decLe}
 use native.Mathlib.Omega.{arith}
@@ -7,7 +7,7 @@ use mathlib.Core.Path.{_≡_, ap}
 use mathlib.Core.Bool.{Bool, true}
 use mathlib.Core.List.{List}
 use mathlib.Core.Logic.{_⊎_, inl, inr}
-use lib.ListN.{length}
+use lib.ListN.{length, length-take}
 use borrow.Author.Tests.{le-leb, lt-leb}
 use Rattle.refusal.specs.declared.Refusal.the-variants as refusal
 use Rattle.refusal.specs.declared.Answer.{Answer}
@@ -15,16 +15,18 @@ use Rattle.refusal.specs.declared.Answer.the-variants.{Accepted}
 use Rattle.refusal.proofs.Ranges.{Within, by-test}
 use Rattle.molecule.specs.declared.Molecule.{Molecule}
 use Rattle.molecule.specs.Record.{wellFormed}
+use Rattle.molecule.proofs.Bonds.{rule9}
 use Rattle.search.specs.declared.Search.{Search}
 use Rattle.search.specs.declared.Made.{Made}
 use Rattle.search.specs.declared.Saved.the-variants.{Written, Refused}
 use Rattle.search.specs.declared.Form.{Form}
 use Rattle.search.specs.declared.Form.the-variants.{Old, New}
-use Rattle.search.specs.Place.{familyOf, kindKept, placeKept, restorable}
+use Rattle.search.specs.Place.{familyOf, beginning, kindKept, placeKept, restorable}
 use Rattle.search.specs.Entries.{acceptedSearch}
 use Rattle.search.specs.Mark.{writeAnswer, valueAt, markBeginning, layoutKept, belongs, placedSearch, restoreBy, restoreMark}
 use Rattle.search.specs.OldMark.{oldLayoutKept, oldBelongs, restoreOldMark}
 use Rattle.search.specs.Forms.{markIn, restoreIn}
+use Rattle.search.proofs.Readings.{restorable-facts}
 use Rattle.search.proofs.MarkLaws.{mark-length, saved-restores, restored-saves, restored-restorable}
 use Rattle.search.proofs.OldMarkLaws.{old-mark-length, old-saved-restores, old-restored-saves}
 use Rattle.search.proofs.OldMarkLaws.{old-restored-restorable}
@@ -59,6 +61,24 @@ pub form-lengths :
     (mol : Molecule) (q : Search) → wellFormed mol ≡ true →
     length (markIn New mol q) ≡ length (markIn Old mol q) + 9 * mol .bonds
 form-lengths mol q formed = omega (arith, mark-length mol q formed, old-mark-length mol q)
+
+-- No mark is longer: 91 + 4 × 127 bytes, and 9 for each of 1,024 bonds
+abbrev pub longest : Form → ℕ
+longest Old = 599
+longest New = 9815
+
+old-most : (mol : Molecule) (q : Search) → restorable mol q ≡ true → length (markIn Old mol q) ≤ 599
+unfolding beginning
+old-most mol q kept =
+    let short = restorable-facts mol q kept .short in
+    omega (arith, old-mark-length mol q, length-take (q .len) (q .prefix))
+
+pub form-most :
+    (form : Form) (mol : Molecule) (q : Search) → wellFormed mol ≡ true → restorable mol q ≡ true →
+    length (markIn form mol q) ≤ longest form
+form-most Old mol q formed kept = old-most mol q kept
+form-most New mol q formed kept =
+    omega (arith, form-lengths mol q formed, old-most mol q kept, rule9 mol formed .bonds-high)
 
 -- ---- rule 13
 
