@@ -1,17 +1,14 @@
 -- What a carrying returns and leaves, by the ways through it: the sheet is refused, the mark is, or the mark is saved.
 -- From the definition, at the answers that were had on the way.
 use Prim.Native.Nat.{ℕ}
-use mathlib.Core.Path.{_≡_, ap, sym, _∙_}
+use mathlib.Core.Path.{_≡_, refl, sym, _∙_}
 use mathlib.Core.Bool.{true}
 use mathlib.Core.List.{List}
-use lib.ListN.{length}
 use Rattle.refusal.specs.declared.Refusal.{Refusal}
 use Rattle.refusal.specs.declared.Answer.the-variants as answer
 use Rattle.molecule.specs.declared.Molecule.{Molecule}
-use Rattle.molecule.specs.Record.{wellFormed}
 use Rattle.sheet.specs.declared.SheetAnswer.{SheetAnswer}
 use Rattle.sheet.specs.Read.{readSheet}
-use Rattle.sheet.proofs.Accepted.{SheetTaken}
 use Rattle.search.specs.declared.Form.{Form}
 use Rattle.search.specs.declared.Made.{Made}
 use Rattle.search.specs.declared.Saved.{Saved}
@@ -20,58 +17,57 @@ use Rattle.search.specs.Place.{restorable}
 use Rattle.search.specs.Mark.{writeAnswer, writtenBytes}
 use Rattle.search.specs.Forms.{markIn, restoreIn}
 use Rattle.search.proofs.FormLaws.{made-accepted, form-restorable}
-use Rattle.carry.specs.Carry.{carryAnswer, carryOutput}
+use Rattle.carry.specs.Carry.{carriedOn, carryOn, carryAnswer, carryOutput}
 
--- Where the sheet was accepted, and the mark
-pub record MarkTaken (from : Form) (sheet mark : List ℕ) (read : SheetAnswer) (made : Made) : Type 0 where
-  pub of-sheet : SheetTaken sheet read
-  pub is-made : made ≡ restoreIn from (read .molecule) mark
-  pub accepted : made .answer ≡ answer.Accepted
+-- ---- on a record
 
--- its search keeps rule 12
+-- the search of an accepted mark keeps rule 12
 pub taken-kept :
-    {from : Form} {sheet mark : List ℕ} {read : SheetAnswer} {made : Made} → MarkTaken from sheet mark read made →
-    restorable (read .molecule) (made .search) ≡ true
-taken-kept {from} {mark = mark} {read = read} {made = made} m =
-    form-restorable from (read .molecule) mark (made .search)
-    (sym (m .is-made) ∙ made-accepted made (m .accepted)) .1
+    (from : Form) (mol : Molecule) (mark : List ℕ) {made : Made} → made ≡ restoreIn from mol mark →
+    made .answer ≡ answer.Accepted → restorable mol (made .search) ≡ true
+taken-kept from mol mark {made} is-made accepted =
+    form-restorable from mol mark (made .search) (sym is-made ∙ made-accepted made accepted) .1
+
+module _ (from to : Form) (mol : Molecule) (mark out : List ℕ) where
+  -- what is returned, and the output then
+  abbrev Carries : Saved → List ℕ → Type 0
+  Carries r last = (r ≡ carryOn from to mol mark out) × (last ≡ writtenBytes r (carriedOn from to mol mark) out)
+
+  module _ {made : Made} (is-made : made ≡ restoreIn from mol mark) where
+    pub mark-refuses : {r : Refusal} → made .answer ≡ answer.Refused r → Carries (Refused r) out
+    unfolding carryOn
+    mark-refuses e = (rw (← is-made, e), refl)
+
+    module _ (accepted : made .answer ≡ answer.Accepted) where
+      pub answers : carryOn from to mol mark out ≡ writeAnswer (markIn to mol (made .search)) out
+      unfolding carryOn
+      answers = rw (← is-made, accepted)
+
+      pub saves :
+          {r : Saved} {last : List ℕ} →
+          let text = markIn to mol (made .search) in
+          (r ≡ writeAnswer text out) × (last ≡ writtenBytes r text out) → Carries r last
+      saves (is-answer, is-output) = (is-answer ∙ sym answers, is-output ∙ rw (← is-made))
+
+-- ---- with a sheet
 
 module _ (from to : Form) (sheet mark out : List ℕ) where
-  -- what is returned, and the output then
-  abbrev pub Leaves : Saved → List ℕ → Type 0
+  abbrev Leaves : Saved → List ℕ → Type 0
   Leaves r last = (r ≡ carryAnswer from to sheet mark out) × (last ≡ carryOutput from to sheet mark out)
 
-  refuses : {r : Refusal} → carryAnswer from to sheet mark out ≡ Refused r → Leaves (Refused r) out
+  leaves :
+      {r : Saved} {last : List ℕ} → r ≡ carryAnswer from to sheet mark out →
+      last ≡ writtenBytes r (carriedOn from to (readSheet sheet .molecule) mark) out → Leaves r last
   unfolding carryOutput
-  refuses e = (sym e, rw e)
+  leaves is-answer is-output = (is-answer, is-output ∙ rw is-answer)
 
-  module _ {read : SheetAnswer} where
-    pub sheet-refuses :
-        {r : Refusal} → read ≡ readSheet sheet → read .answer ≡ answer.Refused r → Leaves (Refused r) out
+  module _ {read : SheetAnswer} (is-read : read ≡ readSheet sheet) where
+    pub sheet-refuses : {r : Refusal} → read .answer ≡ answer.Refused r → Leaves (Refused r) out
     unfolding carryAnswer
-    sheet-refuses is-read e = refuses (rw (← is-read, e))
+    sheet-refuses e = leaves (rw (← is-read, e)) refl
 
-    module _ {made : Made} where
-      pub mark-refuses :
-          {r : Refusal} → SheetTaken sheet read → made ≡ restoreIn from (read .molecule) mark →
-          made .answer ≡ answer.Refused r → Leaves (Refused r) out
-      unfolding carryAnswer
-      mark-refuses s is-made e = refuses (rw (← s .is-read, s .accepted, ← is-made, e))
-
-      module _ (m : MarkTaken from sheet mark read made) where
-        -- the mark to be written
-        abbrev text : List ℕ
-        text = markIn to (read .molecule) (made .search)
-
-        pub answers : carryAnswer from to sheet mark out ≡ writeAnswer text out
-        unfolding carryAnswer
-        answers = let s = m .of-sheet in rw (← s .is-read, s .accepted, ← m .is-made, m .accepted)
-
-        pub carries :
-            {r : Saved} {last : List ℕ} → (r ≡ writeAnswer text out) × (last ≡ writtenBytes r text out) → Leaves r last
-        unfolding carryOutput
-        carries (is-answer, is-output) =
-            let s = m .of-sheet in (
-              is-answer ∙ sym answers,
-              is-output ∙ rw (answers, ← is-answer, ← s .is-read, ← m .is-made),
-            )
+    pub goes-on :
+        read .answer ≡ answer.Accepted →
+        {r : Saved} {last : List ℕ} → Carries from to (read .molecule) mark out r last → Leaves r last
+    unfolding carryAnswer
+    goes-on e (is-answer, is-output) = leaves (rw (← is-read, e) is-answer) (rw is-read at is-output)

@@ -15,7 +15,7 @@ use Rattle.refusal.specs.Number.{numberOf}
 use Rattle.refusal.proofs.Ranges.{within-refused}
 use Rattle.molecule.specs.declared.Molecule.{Molecule}
 use Rattle.sheet.specs.Read.{readSheet}
-use Rattle.sheet.proofs.Accepted.{accepted-well-formed, SheetTaken}
+use Rattle.sheet.proofs.Accepted.{accepted-well-formed}
 use Rattle.sheet.proofs.Numbers.{sheet-numbers}
 use Rattle.search.specs.declared.Search.{Search}
 use Rattle.search.specs.declared.Made.{Made}
@@ -28,7 +28,7 @@ use Rattle.search.specs.Mark.{writeAnswer}
 use Rattle.search.specs.Forms.{markIn, restoreIn}
 use Rattle.search.proofs.FormLaws.{made-accepted, form-restores, form-saves, form-restorable, form-rules}
 use Rattle.search.proofs.FormLaws.{longest, form-most, write-fits, write-short, write-ways}
-use Rattle.carry.specs.Carry.{carryAnswer, carryOutput}
+use Rattle.carry.specs.Carry.{carryOn, carryAnswer, carryOutput}
 use Rattle.carry.proofs.Answers.{sheet-refuses, mark-refuses, answers}
 
 -- ---- answers
@@ -67,29 +67,33 @@ module _ (from to : Form) (sheet mark out : List ℕ) where
     is : answered ≡ writeAnswer (markIn to mol search) out
 
   module _ (read : readSheet sheet .answer ≡ answer.Accepted) where
-    sheet-taken : SheetTaken sheet (readSheet sheet)
-    sheet-taken = record { is-read = refl; accepted = read }
+    on-record : answered ≡ carryOn from to mol mark out
+    unfolding carryAnswer
+    on-record = rw read
 
     taken : (q : Search) → restoreIn from mol mark ≡ acceptedSearch q → Taken
     taken q e =
-        let made = restoreIn from mol mark in
         let accepted = ap (λ (x : Made). x .answer) e in
-        let is = answers from to sheet mark out (record { of-sheet = sheet-taken; is-made = refl; accepted = accepted }) in
         record {
           search = q;
           read = read;
           restored = e;
-          is = is ∙ ap (λ (x : Made). writeAnswer (markIn to mol (x .search)) out) e;
+          is =
+              on-record
+              ∙ answers from to mol mark out refl accepted
+              ∙ ap (λ (x : Made). writeAnswer (markIn to mol (x .search)) out) e;
         }
 
     mark-way : (x : Answer) → restoreIn from mol mark .answer ≡ x → Turned ⊎ Taken
-    mark-way answer.Accepted e = inr (taken (restoreIn from mol mark .search) (made-accepted (restoreIn from mol mark) e))
+    mark-way answer.Accepted e =
+        let made = restoreIn from mol mark in
+        inr (taken (made .search) (made-accepted made e))
     mark-way (answer.Refused r) e =
         let formed = accepted-well-formed sheet read in
         let (low, high) = within-refused 14 17 _ r e (form-rules from mol mark formed) in
         inl (record {
           rule = r;
-          is = sym (mark-refuses from to sheet mark out sheet-taken refl e .0);
+          is = on-record ∙ sym (mark-refuses from to mol mark out refl e .0);
           ranged = inr (omega arith, high);
         })
 

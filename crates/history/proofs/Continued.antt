@@ -1,5 +1,5 @@
--- Calls from the search as it stands, whose mark was carried elsewhere, go on with the list: the past calls and they are
--- one history. What a call does to the search does not depend on the ring sheet and the trials that were there before.
+-- Calls that begin anew with the search as it stands go on with the list: the past calls and they are one history.
+-- What a call does to the search does not depend on the ring sheet and the trials that were there before.
 use Prim.Native.Nat.{ℕ, _+_}
 use native.Mathlib.Nat.{add-zero, add-assoc}
 use mathlib.Core.Path.{_≡_, refl, sym, ap, _∙_}
@@ -61,7 +61,8 @@ module _ {sheet : List ℕ} {made : ℕ} where
   behind-allowed R call b (inr h) = inr (rw (b .same-search) h)
 
   behind-history :
-      (R : Molecule) {x y : Standing} (calls : List Call) → Behind sheet made x y → History R y calls → History R x calls
+      (R : Molecule) {x y : Standing} (calls : List Call) → Behind sheet made x y → History R y calls →
+      History R x calls
   behind-history R [] b h = tt
   behind-history R (call ∷ calls) b (allowed, later) =
       (behind-allowed R call b allowed, behind-history R calls (behind-call call b) later)

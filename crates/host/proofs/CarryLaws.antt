@@ -1,5 +1,5 @@
--- The laws of carrying a mark from C: its numbers, what a refusal leaves, that the mark written restores the same search,
--- and that calls from it go on with the list. By the laws of `carry`; then by `host-from-mark` and demand 3.
+-- The laws of carrying a mark from C: its numbers, what a refusal leaves, that the mark written restores the same
+-- search, and that calls from it go on with the list. By the laws of `carry`; then by `host-from-mark` and demand 3.
 use Prim.Native.Nat.{ℕ, _≤_}
 use native.Mathlib.Omega.{arith}
 use mathlib.Core.Path.{_≡_, refl, sym, ap, _∙_}
@@ -143,9 +143,10 @@ module _ (sheet old out : List ℕ) (before : ℕ) (zero : carrySheet Old New sh
         let d = demand3 mol kind s t formed kept (past ++ more) one in
         let same = continued-search mol (start kind s t) past more in
         let listed = ap (λ (q : Search). q .listed) same ∙ sym (stands .listed-known) in
-        let joined =
-        continued-sheet mol (start kind s t) past more ∙ ap (λ l. stood .sheet ++ l) (sym (stands .records-kept)) in
-        let done = host-mark-done sheet (over .read) carriedOver (stood .search) (over-restores _ stood-restores) calls h in
+        let records = ap (λ l. stood .sheet ++ l) (sym (stands .records-kept)) in
+        let joined = continued-sheet mol (start kind s t) past more ∙ records in
+        let restores = over-restores (stood .search) stood-restores in
+        let done = host-mark-done sheet (over .read) carriedOver (stood .search) restores calls h in
         record {
           demand = d;
           sheet-joined = joined;

@@ -1,5 +1,5 @@
--- Carrying a mark from C (include/ringlist.h; document 02, F-6): what the two entries return and leave in their outputs,
--- and what is listed after an old mark is carried over.
+-- Carrying a mark from C (include/ringlist.h; document 02, F-6): what the two entries return and leave in their
+-- outputs, and what is listed after an old mark is carried over.
 use Prim.Native.Nat.{ℕ}
 use mathlib.Core.Path.{_≡_}
 use mathlib.Core.Bool.{true}
@@ -45,8 +45,8 @@ carrySheet from to sheet mark out before =
 
 -- ---- what is listed after an old mark is carried over
 
--- The calls `past` on the record R began with the fresh search of a kind, s and t; the old mark of the search as it then
--- stood was carried over. After calls from C that began with the mark written, the host keeps k:
+-- The calls `past` on the record R began with the fresh search of a kind, s and t; the old mark of the search as it
+-- then stood was carried over. After calls from C that began with the mark written, the host keeps k:
 pub record GoesOnWith
     (R : Molecule) (kind s t : ℕ) (past : List Call) (calls : List HostCall) (k : Kept) : Type 0 where
   -- the past and what the calls did are one history, of which demand 3 speaks

@@ -314,8 +314,8 @@ pub fn restore_checked(m: Molecule, bytes: &[u8]) -> Made
     own_search(m, bytes, bonds.own)
 }
 
-// Restores a search from an old mark, on a molecule that rule 9 allows: rules 14, 15, 16, 17. It names no bonds, so rule
-// 15 compares n and m.
+// Restores a search from an old mark, on a molecule that rule 9 allows: rules 14, 15, 16, 17. It names no bonds, so
+// rule 15 compares n and m.
 fn restore_old(m: Molecule, bytes: &[u8]) -> Made
     requires { ⌜ wellFormed m ≡ true ⌝ }
     ensures { λ r. ⌜ r ≡ restoreOldMark m (now (bytes .entry)) ⌝ }
