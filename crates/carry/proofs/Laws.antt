@@ -3,6 +3,7 @@
 use Prim.Native.Nat.{ℕ, _≤_, _<_}
 use native.Mathlib.Omega.{arith}
 use mathlib.Core.Path.{_≡_, refl, ap, sym, _∙_}
+use mathlib.Core.Bool.{true}
 use mathlib.Core.List.{List, _++_}
 use mathlib.Core.Logic.{_⊎_, inl, inr}
 use lib.ListN.{length, take, drop}
@@ -14,6 +15,7 @@ use Rattle.refusal.specs.declared.Answer.the-variants as answer
 use Rattle.refusal.specs.Number.{numberOf}
 use Rattle.refusal.proofs.Ranges.{within-refused}
 use Rattle.molecule.specs.declared.Molecule.{Molecule}
+use Rattle.molecule.specs.BondList.{bondList}
 use Rattle.sheet.specs.Read.{readSheet}
 use Rattle.sheet.proofs.Accepted.{accepted-well-formed}
 use Rattle.sheet.proofs.Numbers.{sheet-numbers}
@@ -24,10 +26,11 @@ use Rattle.search.specs.declared.Form.the-variants.{Old, New}
 use Rattle.search.specs.declared.Saved.{Saved}
 use Rattle.search.specs.declared.Saved.the-variants.{Written, Refused}
 use Rattle.search.specs.Entries.{acceptedSearch}
-use Rattle.search.specs.Mark.{writeAnswer}
+use Rattle.search.specs.Place.{restorable}
+use Rattle.search.specs.Mark.{bondLines, writeAnswer}
 use Rattle.search.specs.Forms.{markIn, restoreIn}
 use Rattle.search.proofs.FormLaws.{made-accepted, form-restores, form-saves, form-restorable, form-rules}
-use Rattle.search.proofs.FormLaws.{longest, form-most, write-fits, write-short, write-ways}
+use Rattle.search.proofs.FormLaws.{form-lines, longest, form-most, write-fits, write-short, write-ways}
 use Rattle.carry.specs.Carry.{carryOn, carryAnswer, carryOutput}
 use Rattle.carry.proofs.Answers.{sheet-refuses, mark-refuses, answers}
 
@@ -131,7 +134,7 @@ module _ (from to : Form) (sheet mark out : List ℕ) where
   -- ---- a mark that is carried
 
   -- k bytes are written: the mark, in the other form, of the search that the mark handed restores
-  pub record Carried (k : ℕ) : Type 0 where
+  pub record CarriedFacts (k : ℕ) : Type 0 where
     pub search : Search
     pub read : readSheet sheet .answer ≡ answer.Accepted
     pub restored : restoreIn from mol mark ≡ acceptedSearch search
@@ -148,7 +151,8 @@ module _ (from to : Form) (sheet mark out : List ℕ) where
   bytes-left w k e = rw e (ap (λ (x : Made). markIn to mol (x .search) ++ drop k out) (w .restored))
 
   carried :
-      (w : Taken) (k : ℕ) → answered ≡ Written k → k ≡ length (markIn to mol (w .search)) → k ≤ length out → Carried k
+      (w : Taken) (k : ℕ) → answered ≡ Written k → k ≡ length (markIn to mol (w .search)) → k ≤ length out →
+      CarriedFacts k
   carried w k e size room =
       let q = w .search in
       let text = markIn to mol q in
@@ -166,13 +170,13 @@ module _ (from to : Form) (sheet mark out : List ℕ) where
         restores = ap (restoreIn to mol) written ∙ form-restores to mol q formed kept full;
       }
 
-  pub carried-facts : (k : ℕ) → answered ≡ Written k → Carried k
+  pub carried-facts : (k : ℕ) → answered ≡ Written k → CarriedFacts k
   carried-facts k e = go either
     where
       same : {x : ℕ} → Written x ≡ Written k → k ≡ x
       same e = cc
 
-      go : Turned ⊎ Taken → Carried k
+      go : Turned ⊎ Taken → CarriedFacts k
       go (inl t) = absurd (written-refused (sym e ∙ t .is))
       go (inr w) = elim (write-ways (markIn to mol (w .search)) out) [
         | inl (room, is) ↦
@@ -181,11 +185,11 @@ module _ (from to : Form) (sheet mark out : List ℕ) where
         | inr (short, is) ↦ absurd (written-refused (sym e ∙ w .is ∙ is))
       ]
 
-  -- ---- every mark that is accepted
+  -- ---- which marks are carried
 
   module _ (read : readSheet sheet .answer ≡ answer.Accepted) (q : Search)
       (restored : restoreIn from mol mark ≡ acceptedSearch q) where
-    -- is carried where the output has the bytes of the mark to be written
+    -- A mark that is accepted is carried, where the output has the bytes of the mark to be written
     pub carry-accepts :
         length (markIn to mol q) ≤ length out →
         (answered ≡ Written (length (markIn to mol q))) ×
@@ -196,16 +200,53 @@ module _ (from to : Form) (sheet mark out : List ℕ) where
         let is = w .is ∙ write-fits (markIn to mol q) out room in
         (is, bytes-left w (length (markIn to mol q)) is)
 
-    -- as one of 599 bytes always has for an old mark, and one of 9,815 for a mark as it is now
+    -- In a shorter output it falls under rule 13
+    pub carry-short : length out < length (markIn to mol q) → answered ≡ Refused refusal.MarkRoom
+    unfolding taken
+    carry-short short = taken read q restored .is ∙ write-short (markIn to mol q) out short
+
+    -- An output of 599 bytes has room for every old mark, and one of 9,815 for every new one
     pub carry-roomy : longest to ≤ length out → length (markIn to mol q) ≤ length out
     carry-roomy room =
         let (formed, kept, full) = form-restorable from mol mark q restored in
         omega (arith, form-most to mol q formed kept)
 
-    -- and else falls under rule 13
-    pub carry-short : length out < length (markIn to mol q) → answered ≡ Refused refusal.MarkRoom
-    unfolding taken
-    carry-short short = taken read q restored .is ∙ write-short (markIn to mol q) out short
+-- The mark of a search, in one form, gives the mark of the same search in the other; of every kind that rule 12 allows
+pub carry-mark :
+    (from to : Form) (sheet out : List ℕ) (q : Search) → readSheet sheet .answer ≡ answer.Accepted →
+    let R = readSheet sheet .molecule in
+    restorable R q ≡ true → length (q .prefix) ≡ 128 → length (markIn to R q) ≤ length out →
+    (carryAnswer from to sheet (markIn from R q) out ≡ Written (length (markIn to R q))) ×
+    (carryOutput from to sheet (markIn from R q) out ≡ markIn to R q ++ drop (length (markIn to R q)) out)
+carry-mark from to sheet out q read kept full =
+    let R = readSheet sheet .molecule in
+    let restores = form-restores from R q (accepted-well-formed sheet read) kept full in
+    carry-accepts from to sheet (markIn from R q) out read q restores
+
+-- ---- what the marks have in common
+
+module _ (sheet mark out : List ℕ) (k : ℕ) where
+  -- the bond lines of the sheet's molecule
+  abbrev pub lines : List ℕ
+  lines = bondLines (bondList (readSheet sheet .molecule .rows))
+
+  -- Carried over: the old mark, and then the bond lines
+  pub over-lines :
+      carryAnswer Old New sheet mark out ≡ Written k → take k (carryOutput Old New sheet mark out) ≡ mark ++ lines
+  over-lines e =
+      let c = carried-facts Old New sheet mark out k e in
+      let R = readSheet sheet .molecule in
+      c .written ∙ form-lines R (c .search) ∙ ap (λ l. l ++ lines) (form-saves Old R mark (c .search) (c .restored))
+
+  -- Carried back: what stands before the bond lines
+  pub back-lines :
+      carryAnswer New Old sheet mark out ≡ Written k → mark ≡ take k (carryOutput New Old sheet mark out) ++ lines
+  back-lines e =
+      let c = carried-facts New Old sheet mark out k e in
+      let R = readSheet sheet .molecule in
+      sym (form-saves New R mark (c .search) (c .restored))
+      ∙ form-lines R (c .search)
+      ∙ ap (λ l. l ++ lines) (sym (c .written))
 
 -- ---- there and back with one sheet
 
@@ -220,7 +261,7 @@ ThereAndBack from to =
     (carryOutput to from sheet there second ≡ mark ++ drop (length mark) second)) ×
     (length second < length mark → carryAnswer to from sheet there second ≡ Refused refusal.MarkRoom)
 
-there-and-back : (from to : Form) → ThereAndBack from to
+pub there-and-back : (from to : Form) → ThereAndBack from to
 there-and-back from to sheet mark out second k e =
     let c = carried-facts from to sheet mark out k e in
     let there = take k (carryOutput from to sheet mark out) in

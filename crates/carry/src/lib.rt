@@ -1,5 +1,5 @@
-// Carrying a mark from one form to the other (document 02, F-6): a mark of old, from before request F-5, with its sheet
-// gives the mark of the same search as it is now, and the other way. Rules 1 to 8, 14 to 17, 13.
+// Carrying a mark from one form to the other (document 02, F-6): an old mark, of the form before request F-5, with its
+// sheet gives the new mark of the same search, and the other way. Rules 1 to 8, 14 to 17, 13.
 ghost use mathlib.Core.Path.{_≡_};
 ghost use mathlib.Core.Bool.{true};
 ghost use Rattle.molecule.specs.Record.{wellFormed};
@@ -43,7 +43,7 @@ fn carry(sheet: &[u8], mark: &[u8], from: Form, to: Form, out: &mut [u8]) -> Sav
     }
 }
 
-// An old mark and its sheet give the mark of the same search: rules 1 to 8, 14 to 17, 13.
+// An old mark and its sheet give the new mark of the same search: rules 1 to 8, 14 to 17, 13.
 pub fn carry_over(sheet: &[u8], old_mark: &[u8], mark: &mut [u8]) -> Saved
     ensures { λ r.
         let old = now («old_mark» .entry) in
@@ -54,7 +54,7 @@ pub fn carry_over(sheet: &[u8], old_mark: &[u8], mark: &mut [u8]) -> Saved
     carry(sheet, old_mark, Form::Old, Form::New, mark)
 }
 
-// A mark and its sheet give the old mark of the same search: rules 1 to 8, 14 to 17, 13.
+// A new mark and its sheet give the old mark of the same search: rules 1 to 8, 14 to 17, 13.
 pub fn carry_back(sheet: &[u8], mark: &[u8], old_mark: &mut [u8]) -> Saved
     ensures { λ r.
         let old = now («old_mark» .entry) in

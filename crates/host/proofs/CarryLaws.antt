@@ -7,30 +7,28 @@ use mathlib.Core.Logic.{_⊎_, inl, inr}
 use mathlib.Core.Bool.{true}
 use mathlib.Core.List.{List, _++_}
 use lib.ListN.{length, take, drop}
-use Rattle.enumeration.specs.Machine.{isDone}
 use Rattle.refusal.specs.declared.Refusal.{Refusal}
-use Rattle.refusal.specs.Number.{numberOf}
+use Rattle.refusal.specs.declared.Answer.the-variants.{Accepted}
 use Rattle.molecule.specs.declared.Molecule.{Molecule}
 use Rattle.molecule.specs.Record.{wellFormed}
 use Rattle.sheet.specs.Read.{readSheet}
 use Rattle.sheet.proofs.Accepted.{accepted-well-formed}
 use Rattle.search.specs.declared.Search.{Search}
-use Rattle.search.specs.declared.Made.{Made}
 use Rattle.search.specs.declared.Form.{Form}
 use Rattle.search.specs.declared.Form.the-variants.{Old, New}
 use Rattle.search.specs.declared.Saved.{Saved}
 use Rattle.search.specs.declared.Saved.the-variants.{Written, Refused}
-use Rattle.search.specs.Place.{stateOf, kindKept}
+use Rattle.search.specs.Place.{kindKept}
 use Rattle.search.specs.Entries.{acceptedSearch}
 use Rattle.search.specs.Mark.{markText}
 use Rattle.search.specs.Forms.{markIn, restoreIn}
-use Rattle.search.proofs.FormLaws.{form-restores, form-restorable}
+use Rattle.search.proofs.FormLaws.{form-restores, form-restorable, longest}
 use Rattle.history.specs.Calls.{Call, Standing, start, standing, History}
 use Rattle.history.specs.Demand.{Demand}
 use Rattle.history.specs.Resumed.{restoredStart}
 use Rattle.history.proofs.Demand3.{demand3}
 use Rattle.history.proofs.Continued.{continued-history, continued-search, continued-sheet}
-use Rattle.carry.specs.Carry.{carryAnswer, carryOutput}
+use Rattle.carry.specs.Carry.{carryAnswer}
 use Rattle.carry.proofs.Laws as carry
 use Rattle.carry.proofs.Laws.{CarryNumber}
 use Rattle.host.specs.Calls.{HostCall, keeping, keptBy, HostHistory, allCallsIn, HostFromMark}
@@ -58,8 +56,8 @@ module _ (from to : Form) (sheet mark out : List ℕ) (before : ℕ) where
   refused-number r e = rw e (carry.carry-numbers from to sheet mark out r e)
 
   -- It returns 0, or for a refusal 1 to 8 or 13 to 17
-  pub carry-numbers : (call .number ≡ 0) ⊎ CarryNumber (call .number)
-  carry-numbers = elim either [
+  pub carry-returns : (call .number ≡ 0) ⊎ CarryNumber (call .number)
+  carry-returns = elim either [
     | inl (k, e) ↦ inl (ap savedNumber e)
     | inr (r, e) ↦ inr (refused-number r e)
   ]
@@ -76,18 +74,41 @@ module _ (from to : Form) (sheet mark out : List ℕ) (before : ℕ) where
         (carry.carry-refused from to sheet mark out r e, ap (λ (x : Saved). savedLength x before) e)
   ]
 
-  -- 0 means that the mark is carried: as many bytes as the length says, of the search that the mark handed restores
-  pub carry-zero : call .number ≡ 0 → carry.Carried from to sheet mark out (call .length)
-  carry-zero zero = elim either [
-    | inl (k, e) ↦
-        rw (ap (λ (x : Saved). savedLength x before) e) (carry.carried-facts from to sheet mark out k e)
+  -- 0 means that as many bytes are written as the length says
+  carry-written : call .number ≡ 0 → carryAnswer from to sheet mark out ≡ Written (call .length)
+  carry-written zero = elim either [
+    | inl (k, e) ↦ e ∙ ap Written (sym (ap (λ (x : Saved). savedLength x before) e))
     | inr (r, e) ↦ absurd (not-zero (call .number) (refused-number r e) zero)
   ]
+
+  -- and that the mark is carried: they are a mark of the search that the mark handed restores
+  pub carry-zero : call .number ≡ 0 → carry.CarriedFacts from to sheet mark out (call .length)
+  carry-zero zero = carry.carried-facts from to sheet mark out (call .length) (carry-written zero)
+
+  -- A mark that is accepted is carried, where the output has 599 bytes for an old mark, or 9,815 for a new one
+  pub carry-accepted :
+      readSheet sheet .answer ≡ Accepted → (q : Search) →
+      restoreIn from (readSheet sheet .molecule) mark ≡ acceptedSearch q → longest to ≤ length out → call .number ≡ 0
+  carry-accepted read q restored room =
+      let fits = carry.carry-roomy from to sheet mark out read q restored room in
+      ap savedNumber (carry.carry-accepts from to sheet mark out read q restored fits .0)
+
+-- There and back: the first bytes, where the second output is long enough
+pub carry-there-and-back :
+    (from to : Form) (sheet mark out : List ℕ) (before : ℕ) → carrySheet from to sheet mark out before .number ≡ 0 →
+    let there = carrySheet from to sheet mark out before in
+    (second : List ℕ) (other : ℕ) → length mark ≤ length second →
+    let back = carrySheet to from sheet (take (there .length) (there .mark)) second other in
+    (back .number ≡ 0) × (back .length ≡ length mark) × (back .mark ≡ mark ++ drop (length mark) second)
+carry-there-and-back from to sheet mark out before zero second other room =
+    let written = carry-written from to sheet mark out before zero in
+    let (answer, output) = carry.there-and-back from to sheet mark out second _ written .0 room in
+    (ap savedNumber answer, ap (λ (x : Saved). savedLength x other) answer, output)
 
 -- ---- an old mark, carried over
 
 module _ (sheet old out : List ℕ) (before : ℕ) (zero : carrySheet Old New sheet old out before .number ≡ 0) where
-  over : carry.Carried Old New sheet old out (carrySheet Old New sheet old out before .length)
+  over : carry.CarriedFacts Old New sheet old out (carrySheet Old New sheet old out before .length)
   over = carry-zero Old New sheet old out before zero
 
   abbrev pub mol : Molecule

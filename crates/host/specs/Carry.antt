@@ -46,7 +46,8 @@ carrySheet from to sheet mark out before =
 -- ---- what is listed after an old mark is carried over
 
 -- The calls `past` on the record R began with the fresh search of a kind, s and t; the old mark of the search as it
--- then stood was carried over. After calls from C that began with the mark written, the host keeps k:
+-- then stood was carried over. After calls from C that began with the mark written, the host keeps k. (A save, or a
+-- restore of the old mark of the search as it stood, leaves what stands: such calls need not be among `past`.)
 pub record GoesOnWith
     (R : Molecule) (kind s t : ℕ) (past : List Call) (calls : List HostCall) (k : Kept) : Type 0 where
   -- the past and what the calls did are one history, of which demand 3 speaks

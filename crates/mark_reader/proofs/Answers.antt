@@ -27,8 +27,8 @@ use Rattle.search.proofs.BondLines.{bonds-at-length}
 use Rattle.search.proofs.Readings.{family-lawful, family-atoms, place-facts}
 use Rattle.search.proofs.Views.{held-take, held-length}
 use Rattle.mark_reader.specs.declared.BondsRead.{BondsRead}
-use Rattle.mark_reader.specs.Parts.{low, searchOf, Placeable}
-use Rattle.mark_reader.specs.Bonds.{linesAfter, ReadsBonds, namesOwn, ownSearch}
+use Rattle.mark_reader.specs.Parts.{low, searchOf, Placeable, namesOwn, ownSearch}
+use Rattle.mark_reader.specs.Bonds.{linesAfter, ReadsBonds}
 use Rattle.mark_reader.proofs.Layouts.{failed, passed}
 use Rattle.mark_reader.proofs.Stored.{values-size, low-length, stored-open, place-stored}
 

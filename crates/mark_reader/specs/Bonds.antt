@@ -1,17 +1,13 @@
 -- What the parts of reading bond lines hold. Nothing to believe: the contract of a restore is the definition of marks.
 use Prim.Native.Nat.{ℕ, _+_, _*_, _≤_}
 use mathlib.Core.Path.{_≡_}
-use mathlib.Core.Bool.{Bool, true, _&&_, cond}
+use mathlib.Core.Bool.{Bool, true, _&&_}
 use mathlib.Core.List.{List}
 use lib.ListN.{length}
-use lib.Dec.{ltb, eqb}
-use Rattle.refusal.specs.declared.Refusal.the-variants as refusal
-use Rattle.molecule.specs.declared.Molecule.{Molecule}
+use lib.Dec.{ltb}
 use Rattle.molecule.specs.BondList.{Bond, ascending, comesBefore}
 use Rattle.molecule.specs.Parts.{eachBonded}
-use Rattle.search.specs.declared.Made.{Made}
-use Rattle.search.specs.Entries.{refusedSearch}
-use Rattle.search.specs.Mark.{valueAt, fieldsKept, isFeed, markBonds, bondLinesKept, bondsAt, placedSearch}
+use Rattle.search.specs.Mark.{valueAt, fieldsKept, isFeed, bondLinesKept, bondsAt}
 use Rattle.mark_reader.specs.declared.BondLine.{BondLine}
 use Rattle.mark_reader.specs.declared.BondsRead.{BondsRead}
 
@@ -41,12 +37,3 @@ pub record BondsIn (n : ℕ) (bytes : List ℕ) (at k : ℕ) : Type 0 where
 pub record ReadsBonds (n : ℕ) (rows bytes : List ℕ) (at k : ℕ) (r : BondsRead) : Type 0 where
   pub kept : r .kept ≡ linesAfter (0, 0) bytes at k
   pub own : r .kept ≡ true → r .own ≡ eachBonded n rows (bondsAt bytes at k)
-
--- a mark names n atoms and m bonds, and `own`, whether its bonds are the record's, is true
-unfoldable pub namesOwn : ℕ → ℕ → List ℕ → Bool → Bool
-namesOwn n m bytes own = eqb (valueAt 4 bytes 12) n && eqb (markBonds bytes) m && own
-
--- rules 15, 16 and 17 on three lines, where `own` tells whether the bonds named are the record's
-unfoldable pub ownSearch : Molecule → List ℕ → Bool → Made
-ownSearch mol bytes own =
-    cond (namesOwn (mol .atoms) (mol .bonds) bytes own) (placedSearch mol bytes) (refusedSearch refusal.MarkMolecule)

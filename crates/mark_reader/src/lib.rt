@@ -1,5 +1,5 @@
 // Reading a mark (document 01, "Marks", and requests F-5 and F-6): what bytes restore to on a molecule that rule 9
-// allows, rules 14 to 17, in the form of now or in that from before F-5.
+// allows, rules 14 to 17, in the new form or in the old one from before F-5.
 ghost use mathlib.Core.Path.{_≡_};
 ghost use mathlib.Core.Bool.{true, _&&_};
 ghost use mathlib.Core.List.{map};
@@ -12,8 +12,8 @@ ghost use Rattle.search.specs.Place.{held};
 ghost use Rattle.search.specs.Mark.{fieldsKept, threeLinesKept, valuesAt, placedSearch, restoreMark};
 ghost use Rattle.search.specs.OldMark.{restoreOldMark};
 ghost use Rattle.search.specs.Forms.{restoreIn};
-ghost use Rattle.mark_reader.specs.Parts.{AtomsFit, low, searchOf, Placeable};
-ghost use Rattle.mark_reader.specs.Bonds.{lineAt, followed, BondsIn, ReadsBonds, namesOwn, ownSearch};
+ghost use Rattle.mark_reader.specs.Parts.{AtomsFit, low, searchOf, Placeable, namesOwn, ownSearch};
+ghost use Rattle.mark_reader.specs.Bonds.{lineAt, followed, BondsIn, ReadsBonds};
 use fields::Number;
 use molecule::Molecule;
 use refusal::Answer;
@@ -286,7 +286,7 @@ fn placed_search(m: Molecule, bytes: &[u8]) -> Made
     }
 }
 
-// Rules 15, 16 and 17: the same of three lines, where `own` says whether the bonds named are the molecule's.
+// Rules 15, 16 and 17 on three lines that keep rule 14; `own` says whether the bonds named are the molecule's.
 fn own_search(m: Molecule, bytes: &[u8], own: bool) -> Made
     requires { ⌜ Placeable m (now bytes) ⌝ }
     ensures { λ r. ⌜ r ≡ ownSearch m (now (bytes .entry)) own ⌝ }

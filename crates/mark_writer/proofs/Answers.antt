@@ -89,7 +89,7 @@ module _ {mol : Molecule} {q : Search} (s : Saving mol q) where
           let fits = le-leb (length (oldMarkText mol q)) (length out) (omega arith) in
           (rw (fits, size), rw (← size) (put ∙ splice-start out (oldMarkText mol q)))
 
-    -- the mark of now, whose save tries rules 9 and 12 too
+    -- the new mark, whose save tries rules 9 and 12 too
     pub new-saved :
         {r : Saved} {last : List ℕ} → (r ≡ saveAnswer mol q out) × (last ≡ saveOutput mol q out) →
         (r ≡ writeAnswer (markText mol q) out) × (last ≡ writtenBytes r (markText mol q) out)

@@ -1,5 +1,5 @@
 // The text of a mark (document 01, "Marks", and requests F-5 and F-6), and saving a search that rules 9 and 12 allow:
-// rule 13, in the form of now or in that from before F-5.
+// rule 13, in the new form or in the old one from before F-5.
 ghost use mathlib.Core.Path.{_≡_};
 ghost use mathlib.Core.Bool.{true};
 ghost use mathlib.Core.List.{[], _∷_};

@@ -28,7 +28,7 @@ numberOf PathEnd = 10
 numberOf SameEnds = 11
 -- a search handed to a run or a save could not be restored from any mark on this molecule
 numberOf Search = 12
--- the mark output is shorter than the mark (entries for the C host: than 9,815; document 02, F-5)
+-- the mark output is shorter than the mark (`ringlist_resume` and `ringlist_start`: than 9,815; document 02, F-5)
 numberOf MarkRoom = 13
 -- the mark's bytes do not follow the layout
 numberOf MarkBytes = 14

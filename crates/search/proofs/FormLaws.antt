@@ -3,9 +3,9 @@
 use Prim.Native.Nat.{ℕ, _+_, _*_, _≤_, _<_}
 use native.Mathlib.Decide.{decLe}
 use native.Mathlib.Omega.{arith}
-use mathlib.Core.Path.{_≡_, ap}
+use mathlib.Core.Path.{_≡_, refl, ap}
 use mathlib.Core.Bool.{Bool, true}
-use mathlib.Core.List.{List}
+use mathlib.Core.List.{List, _++_}
 use mathlib.Core.Logic.{_⊎_, inl, inr}
 use lib.ListN.{length, length-take}
 use borrow.Author.Tests.{le-leb, lt-leb}
@@ -15,6 +15,7 @@ use Rattle.refusal.specs.declared.Answer.the-variants.{Accepted}
 use Rattle.refusal.proofs.Ranges.{Within, by-test}
 use Rattle.molecule.specs.declared.Molecule.{Molecule}
 use Rattle.molecule.specs.Record.{wellFormed}
+use Rattle.molecule.specs.BondList.{bondList}
 use Rattle.molecule.proofs.Bonds.{rule9}
 use Rattle.search.specs.declared.Search.{Search}
 use Rattle.search.specs.declared.Made.{Made}
@@ -23,7 +24,8 @@ use Rattle.search.specs.declared.Form.{Form}
 use Rattle.search.specs.declared.Form.the-variants.{Old, New}
 use Rattle.search.specs.Place.{familyOf, beginning, kindKept, placeKept, restorable}
 use Rattle.search.specs.Entries.{acceptedSearch}
-use Rattle.search.specs.Mark.{writeAnswer, valueAt, markBeginning, layoutKept, belongs, placedSearch, restoreBy, restoreMark}
+use Rattle.search.specs.Mark.{bondLines, markText, writeAnswer}
+use Rattle.search.specs.Mark.{valueAt, markBeginning, layoutKept, belongs, placedSearch, restoreBy, restoreMark}
 use Rattle.search.specs.OldMark.{oldLayoutKept, oldBelongs, restoreOldMark}
 use Rattle.search.specs.Forms.{markIn, restoreIn}
 use Rattle.search.proofs.Readings.{restorable-facts}
@@ -56,7 +58,13 @@ pub form-restorable :
 form-restorable Old = old-restored-restorable
 form-restorable New = restored-restorable
 
--- The mark of now has 9 bytes more for each bond than the old one
+-- The new mark is the old one and then the bond lines of the molecule
+pub form-lines :
+    (mol : Molecule) (q : Search) → markIn New mol q ≡ markIn Old mol q ++ bondLines (bondList (mol .rows))
+unfolding markText
+form-lines mol q = refl
+
+-- It has 9 bytes more for each bond
 pub form-lengths :
     (mol : Molecule) (q : Search) → wellFormed mol ≡ true →
     length (markIn New mol q) ≡ length (markIn Old mol q) + 9 * mol .bonds

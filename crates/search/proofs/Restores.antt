@@ -39,7 +39,7 @@ pub record RestoredBy (laid owned : Bool) (mol : Molecule) (bytes : List ℕ) (q
       (markBeginning bytes) (valueAt 4 bytes 24) ≡ true
   pub search : markSearch bytes ≡ q
 
--- and of a mark as it now is
+-- and of a new mark
 abbrev pub Restored : Molecule → List ℕ → Search → Type 0
 Restored mol bytes q = RestoredBy (layoutKept bytes) (belongs mol bytes) mol bytes q
 

@@ -1,4 +1,4 @@
--- The two forms of a mark (document 02, F-6): as it was before request F-5, and as it is now.
+-- The two forms of a mark (document 02, F-6): the old one, from before request F-5, and the new one.
 use mathlib.Core.List.{List}
 use Prim.Native.Nat.{ℕ}
 use Rattle.molecule.specs.declared.Molecule.{Molecule}

@@ -45,7 +45,7 @@ pub enum Saved {
     Refused(Refusal),
 }
 
-// The form of a mark: as it was before request F-5, without bond lines, or as it is now.
+// The form of a mark: old, without bond lines, as it was before request F-5, or new.
 pub enum Form {
     Old,
     New,
