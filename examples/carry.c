@@ -11,7 +11,8 @@
 
    OUT is locked as the host locks it, so that no host is at work meanwhile; it is not changed, and not created. Nothing
    is written before all is checked: a STATE that is missing, is not whole or was made with another sheet, an OUT that
-   is missing, shorter than STATE says or locked, and any refusal are errors that leave STATE alone. */
+   is missing, shorter than STATE says or locked, and any refusal are errors that leave STATE alone. A first STATE, which
+   has no mark, is the only one without an OUT. */
 #define PROGRAM "carry"
 #include "state.h"
 
@@ -20,7 +21,8 @@ static uint32_t carry(int over, const struct state *state, uint8_t to[MARK], siz
                                                               to, MARK, len);
 }
 
-/* Writes the mark of STATE in the other layout; returns its bytes, or 0 where it is in the wanted layout already. */
+/* Writes the mark of STATE in the other layout; returns its bytes, or 0 where it is in the wanted layout already (then
+   what is in `to` is of no use). */
 static size_t carried(int over, const char *name, const struct state *state, uint8_t to[MARK]) {
     uint8_t next[MARK];
     size_t len = 0;

@@ -14,7 +14,7 @@
 
    Nothing is written before all is checked: a STATE that is not whole, was made with another sheet or has a mark of the
    former layout (without bond lines; examples/carry.c carries it over), an OUT with bytes in it and no STATE, an OUT
-   that another host has locked, and any refusal are errors that leave both files alone. examples/state.h has the layout
+   that another program has locked, and any refusal are errors that leave both files alone. examples/state.h has the layout
    of STATE. */
 #define PROGRAM "host"
 #include "state.h"

@@ -20,7 +20,7 @@
 
 #define MARK 9815    /* no mark is longer */
 #define HEAD 42      /* the first line of STATE, see write_head */
-#define WRONG "not what this host wrote for this sheet"
+#define WRONG "not what the host wrote for this sheet"
 
 static uint8_t sheet[65530]; /* a longer file reads as 65,530 bytes, no multiple of 9: refusal 1 */
 static size_t sheet_len;
@@ -141,17 +141,17 @@ static void check_stop(const char *name, const struct state *state, uint32_t ans
 }
 
 /* Opens OUT and locks it until this process ends (or closes OUT, by whichever descriptor). STATE must still be as read,
-   and OUT have the bytes that it counts. */
-static int lock_out(const char *out, int create, const char *name, const struct state *state) {
+   and OUT have the bytes that it counts. `flags` is O_CREAT where OUT may be made, or 0. */
+static int lock_out(const char *out, int flags, const char *name, const struct state *state) {
     char again[sizeof state->whole] = {0};
     struct flock lock = {.l_type = F_WRLCK, .l_whence = SEEK_SET};
     struct stat about;
-    int file = open(out, O_WRONLY | O_APPEND | create, 0666);
+    int file = open(out, O_WRONLY | O_APPEND | flags, 0666);
     if (file < 0) fail(out, strerror(errno));
     if (fcntl(file, F_SETLK, &lock) != 0)
-        fail(out, errno == EACCES || errno == EAGAIN ? "another host is at work on it" : strerror(errno));
+        fail(out, errno == EACCES || errno == EAGAIN ? "another program is at work on it" : strerror(errno));
     if (read_file(name, again, sizeof again - 1) != state->len || memcmp(again, state->whole, sizeof again) != 0)
-        fail(name, "another host has just changed it");
+        fail(name, "another program has just changed it");
     if (fstat(file, &about) != 0) fail(out, strerror(errno));
     if (state->len < 0 && about.st_size > 0) fail(out, "OUT is not empty and there is no STATE");
     if ((uint64_t)about.st_size < state->bytes) fail(out, "OUT is shorter than STATE says");

@@ -7,9 +7,9 @@
    the search where a mark left it, makes at most `budget` trials, and writes
    the rings that it found and the mark to go on from. A search for all rings
    may also start without a mark. ringlist_count_shortest works out the number
-   of shortest paths without listing them. ringlist_carry_over takes over a mark
-   from before request F-5, and ringlist_carry_back gives one for the library
-   from before it. examples/minimal.c is a whole host in twenty lines;
+   of shortest paths without listing them. ringlist_carry_over makes a mark of
+   one from before request F-5, and ringlist_carry_back one for the library from
+   before it. examples/minimal.c is a whole host in twenty lines;
    examples/host.c keeps its mark in a file and goes on after being killed.
 
    For hosts written before marks had bond lines (request F-5). To change: give
@@ -24,8 +24,8 @@
    examples/host.c. The marks of a molecule without bonds have not changed.
    ringlist_listed reads old and new marks alike. A mark of another molecule,
    also of an isomer, is now always refused (15), so a host need not check that
-   itself; of an old mark it has to. Functions, parameters and records are as
-   they were. */
+   itself; of an old mark it has to. The other functions, their parameters and
+   the records are as they were. */
 #ifndef RINGLIST_H
 #define RINGLIST_H
 
@@ -138,10 +138,10 @@ extern "C" {
    They take no memory from the heap and use less than 32 kilobytes of stack.
    This paragraph is not proved: no Rattle function has a heap, or variables
    that outlive a call; the stack is measured on starts, resumes, a count and
-   carried marks (tests/c/host_test.c). That the prototypes in this header are those of the
-   code is tested (tests/prototypes.py). The proofs of these functions assume
-   nothing of the C library; only those of the program ringlist do, of its read
-   and write. */
+   carried marks (tests/c/host_test.c). That the prototypes in this header are
+   those of the code is tested (tests/prototypes.py). The proofs of these
+   functions assume nothing of the C library; only those of the program ringlist
+   do, of its read and write. */
 uint32_t ringlist_resume(const uint8_t *sheet, size_t sheet_len,
                          const uint8_t *mark, size_t mark_len,
                          uint64_t budget,
@@ -211,14 +211,17 @@ uint32_t ringlist_start(const uint8_t *sheet, size_t sheet_len,
 uint32_t ringlist_count_shortest(const uint8_t *sheet, size_t sheet_len,
                                  uint64_t s, uint64_t t, uint64_t *count);
 
-/* Carries an old mark over: writes the mark, as it is now, of the same search.
+/* Carries an old mark over: writes the new mark of the same search.
 
    sheet      the bond sheet, as for ringlist_resume: that of the molecule which
               the old mark was written for.
    old_mark   an old mark, old_mark_len bytes exactly: the three lines of a mark
-              (see ringlist_resume) and no bond line, 91 + 4 * (atoms in the
-              beginning) bytes, as all marks were before request F-5.
-   mark       the mark output, mark_len bytes. The mark has 9 * m bytes more
+              (see ringlist_resume) and no bond line, as all marks were before
+              request F-5. It has 91 + 4 * (atoms in the beginning, the number
+              in columns 21 to 24 of its first line) bytes;
+              ringlist_mark_length does not give them. No bytes are no mark
+              (14): a host that has no mark yet has nothing to carry.
+   mark       the mark output, mark_len bytes. The new mark has 9 * m bytes more
               than the old one; 9,815 bytes always will do.
    length     where the number of its bytes is put.
 
@@ -257,7 +260,8 @@ uint32_t ringlist_carry_over(const uint8_t *sheet, size_t sheet_len,
    as it was before request F-5. Parameters, trust and answers are as for
    ringlist_carry_over, with these differences.
 
-   mark       a mark as it is now, mark_len bytes exactly.
+   mark       a new mark, as ringlist_resume and ringlist_start write it,
+              mark_len bytes exactly; no bytes are no mark here too.
    old_mark   the output for the old mark, old_mark_len bytes. The old mark is
               the three lines of the mark, 9 * m bytes fewer; 599 bytes always
               will do.
@@ -272,7 +276,8 @@ uint32_t ringlist_carry_over(const uint8_t *sheet, size_t sheet_len,
    second output is long enough. */
 uint32_t ringlist_carry_back(const uint8_t *sheet, size_t sheet_len,
                              const uint8_t *mark, size_t mark_len,
-                             uint8_t *old_mark, size_t old_mark_len, size_t *length);
+                             uint8_t *old_mark, size_t old_mark_len,
+                             size_t *length);
 
 /* The bytes of the mark at the start of a buffer: 91 + 4 * the number in
    columns 21 to 24 of its first line, its atoms in the beginning, + 9 * that in

@@ -13,9 +13,11 @@ sheet.
 
     [KILLS=N] kill_test.py HOST HOST_STEPS CARRY CARRY_STEPS RINGLIST EXAMPLES FOLDER
 
-FOLDER takes the files of the test. KILLS is the number of kills at random
-moments, 240 unless it is set; only those that hit a running host count. After
-some kills the files are left as another crash would leave them (`disturb`).
+FOLDER takes the files of the test. KILLS is the number of kills of the host at
+random moments, 240 unless it is set; only those that hit a running host count.
+The program that carries is started a quarter as often, and killed where it has
+not ended before. After some kills of the host the files are left as another
+crash would leave them (`disturb`).
 What must have been seen is seen in the steps, which are the same in every run;
 nothing that the script asks depends on how fast the machine is.
 """
@@ -42,10 +44,10 @@ PLAN = [
 HANG = 3600  # seconds: only a host that hangs needs so long
 HEAD = 42  # bytes of the first line of a state
 LAST = (101, 102)  # the stops of a listing that is done
-WRONG = b"not what this host wrote for this sheet"
+WRONG = b"not what the host wrote for this sheet"
 FORMER = b"a state of the former layout: its mark has no bond lines; `carry over` carries it over"
-LOCKED = b"another host is at work on it"
-CHANGED = b"another host has just changed it"
+LOCKED = b"another program is at work on it"
+CHANGED = b"another program has just changed it"
 
 # A rule, and a sheet that it refuses.
 REFUSED = [(1, b""), (1, b"   1   2\n" * 7282), (2, b"x" * 9), (3, b" 129   0\n"), (4, b"   41025\n"),
@@ -773,10 +775,13 @@ def meetings(host, host_steps, carry, carry_steps, ringlist, examples, folder):
         sys.exit("kill_test: %s expected: %s" % (MEETINGS, seen))
     put(listing.state, state)
     process = stop_at_step(host_steps, listing.command[1:], 3)  # before it opens OUT
-    carries(carry, "back", listing, layouts(listing)[0])
-    before = listing.files()
-    process.send_signal(signal.SIGCONT)
-    errors = process.communicate(timeout=HANG)[1]
+    try:
+        carries(carry, "back", listing, layouts(listing)[0])
+        before = listing.files()
+        process.send_signal(signal.SIGCONT)
+        errors = process.communicate(timeout=HANG)[1]
+    finally:
+        process.kill()
     if process.returncode != 1 or CHANGED not in errors or listing.files() != before:
         sys.exit("kill_test: a state that is carried, then a host: %r" % errors)
 
@@ -857,8 +862,8 @@ def main():
     unit = short_listing(host, examples, folder)
     tries = max(1, all_kills // 4)
     hits = carry_at_random(host, host_steps, carry, ringlist, examples, folder, tries, unit)
-    print("kill_test: %d kills at random moments, %d of them of a program that carries: the old or the new "
-          "state" % (tries, hits), flush=True)
+    print("kill_test: %d runs of the program that carries, %d of them killed at random moments: the old or the "
+          "new state" % (tries, hits), flush=True)
     total = [0, 0, 0, 0]
     for name, budget, kills, longest in PLAN:
         sheet = os.path.join(examples, name + ".sheet")

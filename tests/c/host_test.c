@@ -880,7 +880,7 @@ static void carrying_of_cubane(void) {
                 sizeof(lines bonds) - 1, room, rule, rule == 0 ? lines : "", __LINE__);            \
     } while (0)
 
-/* On the document's sheet: each kind, every rule, and each rule before the next. */
+/* On the document's sheet: the search of 16 trials at each of them, and each kind. */
 static void carrying(void) {
     char mark[160], old[160];
     for (int trials = 0; trials <= 16; trials++) {
@@ -897,6 +897,10 @@ static void carrying(void) {
     CARRIED("   3   0\n", "   0   0   0   3   0   0   1\n" NO_COUNTS, "", 91, 0);
     CARRIED("00040005\n00010002\n00020003\n00030004\n00010004\n00010003\n", LINE_1 LINE_2 LINE_3,
             BONDS, 144, 0);
+}
+
+/* Every rule, and each before the next; and marks that are no marks of the form, or of an isomer. */
+static void refused_carrying(void) {
     CARRIED("   4   5", LINE_1 LINE_2, BONDS, 0, 1);
     CARRIED("   4   2\n   1   2\n   2   1\n", LINE_1 LINE_2, BONDS, 0, 8);
     CARRIED(document, "   4   0   0   5   5   2   0\n" LINE_2 "   1\n", BONDS, 0, 14);
@@ -907,7 +911,7 @@ static void carrying(void) {
     CARRIED(document, LINE_1 LINE_2 "   1   4\n", BONDS, 0, 17);
     CARRIED(document, "   0   0   0   4   5   2   5\n" LINE_2 LINE_3, BONDS, 0, 17);
     CARRIED(document, LINE_1 LINE_2 LINE_3, BONDS, 98, 13);
-    /* Other numbers of bonds: an old mark has no other word of them. */
+    /* Another number of bonds: an old mark names no bonds besides it. */
     carried(ringlist_carry_over, SHEET, "   0   0   0   4   4   2   3\n" LINE_2 LINE_3, 99, 0, 15, "",
             __LINE__);
     /* Each form is no mark of the other. */
@@ -1088,6 +1092,7 @@ int main(int words, char **word) {
     counts_of_shortest();
     carrying_of_cubane();
     carrying();
+    refused_carrying();
     limit();
     mark_readers();
     if (words == 1) {

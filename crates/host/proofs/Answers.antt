@@ -1,7 +1,6 @@
 -- What the entries return and leave, and what a host reads off a mark.
 -- From the definitions, at the tests that were made on the way.
 use Prim.Native.Nat.{ℕ, _≤_, _<_}
-use native.Mathlib.Omega.{arith}
 use mathlib.Core.Path.{_≡_, refl, ap, ap₂, sym, _∙_}
 use mathlib.Core.Bool.{Bool, true, false, _&&_, cond}
 use mathlib.Core.List.{List}

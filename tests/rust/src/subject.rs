@@ -11,7 +11,7 @@ use crate::model::{lister, sheet, Record};
 use crate::rng::Rng;
 
 /// Up to this many atoms the model answers from the brute-force list.
-const BRUTE: u64 = 12;
+pub const BRUTE: u64 = 12;
 
 /// A molecule with its sheet, open beginnings to make marks of, and a molecule
 /// with as many atoms and bonds.
@@ -167,7 +167,7 @@ pub fn no_mark(rng: &mut Rng, sheet: &[u8]) -> Vec<u8> {
     bytes
 }
 
-/// Searches on a few molecules at many places, with counts of all lengths.
+/// Searches on a molecule at many places, with counts of all lengths.
 fn searches_of(molecule: &Molecule, tasks: &[Task]) -> (Record, Vec<Search>) {
     let record = molecule.record();
     let n = record.atoms;
@@ -193,7 +193,8 @@ pub fn each_kind(k: u8) -> [Task; 4] {
     [Task::Rings, paths, Task::RingsUpTo { k }, shortest]
 }
 
-/// Searches of each kind; the size is the smallest that leaves all rings.
+/// Searches of each kind on a few molecules; the size is the smallest that
+/// leaves all rings.
 pub fn small_searches() -> Vec<(Record, Vec<Search>)> {
     vec![
         searches_of(&generate::document(), &each_kind(3)),

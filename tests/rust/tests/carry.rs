@@ -56,7 +56,7 @@ fn any_mark(
 ) -> Vec<u8> {
     let record = subject.record();
     let mut mark = match rng.below(18) {
-        0 => others[from as usize].clone(),
+        0 => others[usize::from(from == Form::New)].clone(),
         1..=2 => subject.mark_of_isomer(rng, from),
         3 => from.other().write(record, search),
         4 => no_mark(rng, &subject.sheet),
@@ -416,8 +416,8 @@ fn isomers_of(carrier: &mut Carrier, subject: &Subject, other: &Molecule, rng: &
     open
 }
 
-/// Marks of molecules with an atom or a bond more or fewer: rule 15 in both forms,
-/// also where the place is open.
+/// Marks of molecules with an atom more, a bond fewer, or both more: rule 15 in
+/// both forms, also where the place is open.
 #[test]
 fn other_molecules() {
     let mut carrier = Carrier::new(107);

@@ -746,7 +746,7 @@ fn both_fillings() {
             }
         }
         // Whole listings of small molecules, by the library alone.
-        if record.atoms <= 12 {
+        if record.atoms <= subject::BRUTE {
             let [first, second, third] = [&blanks, &zeros, &mixed].map(|sheet| {
                 let whole = host::list(sheet, &[], || (1_000, 129));
                 (whole.sheet, whole.calls, whole.stop, whole.mark)

@@ -1,4 +1,5 @@
--- `carry::carry` meets its contract: the sheet is refused, or its molecule keeps rule 9 and the mark is carried on it.
+-- `carry::carry` meets its contract: the sheet is refused, or the mark is carried on its molecule.
+-- An accepted sheet keeps rule 9.
 use borrow.Author.Needs.{needs}
 use Rattle.sheet.proofs.Accepted.{read-formed}
 use Rattle.carry.proofs.Answers.{sheet-refuses, goes-on}

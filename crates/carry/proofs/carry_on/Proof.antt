@@ -1,4 +1,5 @@
--- `carry::carry_on` meets its contract: a refusal by the rules of the mark, or the save of a search that they allow.
+-- `carry::carry_on` meets its contract: a refusal by the rules of the mark, or the save of its search.
+-- The search of an accepted mark keeps rule 12.
 use borrow.Author.Needs.{needs}
 use Rattle.carry.proofs.Answers.{mark-refuses, taken-kept, saves}
 use Rattle.carry.proofs.carry_on.Statement.{statement}

@@ -1,4 +1,5 @@
--- `host::put_length` meets its contract: a refusal has a number, and else the length is put down.
+-- `host::put_length` meets its contract.
+-- By the two cases of the answer: a refusal has a number, and else the length is put down.
 use mathlib.Core.Path.{refl}
 use borrow.Author.Needs.{needs}
 use Rattle.host.proofs.put_length.Statement.{statement}

@@ -1,4 +1,5 @@
--- `mark_reader::own_search` meets its contract: rule 15 refuses, or rules 16 and 17 decide.
+-- `mark_reader::own_search` meets its contract.
+-- By its test: rule 15 refuses, or rules 16 and 17 decide.
 use native.Mathlib.Omega.{arith}
 use mathlib.Core.Path.{_∙_}
 use borrow.Author.Needs.{needs}

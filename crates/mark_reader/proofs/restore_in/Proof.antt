@@ -1,4 +1,5 @@
--- `mark_reader::restore_in` meets its contract: in each form it is the restore of that form.
+-- `mark_reader::restore_in` meets its contract.
+-- By the form: in each it is the restore of that form.
 use borrow.Author.Needs.{needs}
 use Rattle.mark_reader.proofs.restore_in.Statement.{statement}
 use Rattle.mark_reader.proofs.restore_in.Tie as tie

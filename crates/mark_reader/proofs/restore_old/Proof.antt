@@ -1,4 +1,5 @@
 -- `mark_reader::restore_old` meets its contract: each answer is the definition's by the rules that led to it.
+-- The three lines that are kept have room for the atoms that they name.
 use mathlib.Core.Path.{_≡_, _∙_}
 use mathlib.Core.Bool.{true}
 use borrow.Author.Needs.{needs}

@@ -1,4 +1,5 @@
--- `mark_writer::save_in` meets its contract: in each form it is the save of that form.
+-- `mark_writer::save_in` meets its contract.
+-- By the form: in each it is the save of that form.
 use borrow.Author.Needs.{needs}
 use Rattle.mark_writer.proofs.Answers.{Saving, new-saved}
 use Rattle.mark_writer.proofs.MarkSplices.{own-lines-none}

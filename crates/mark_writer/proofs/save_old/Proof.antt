@@ -1,4 +1,5 @@
--- `mark_writer::save_old` meets its contract, by rule 13: the size of an old mark is that of its text.
+-- `mark_writer::save_old` meets its contract, by rule 13.
+-- The size of an old mark is that of its text.
 use native.Mathlib.Omega.{arith}
 use mathlib.Core.Path.{refl}
 use borrow.Author.Needs.{needs}
