@@ -20,8 +20,12 @@ use Rattle.molecule.specs.Record.{wellFormed}
 use Rattle.search.specs.declared.Search.{Search}
 use Rattle.search.specs.Place.{family, beginning, stateOf, searchAt, kindKept, restorable}
 use Rattle.search.specs.Entries.{acceptedSearch}
+use Rattle.search.specs.declared.Form.{Form}
+use Rattle.search.specs.declared.Form.the-variants.{New}
 use Rattle.search.specs.Mark.{restoreMark}
-use Rattle.search.proofs.MarkLaws.{family-lawful, restorable-facts, restorable-valid, restorable-bounded, search-state, restored-restorable}
+use Rattle.search.specs.Forms.{restoreIn}
+use Rattle.search.proofs.MarkLaws.{family-lawful, restorable-facts, restorable-valid, restorable-bounded, search-state}
+use Rattle.search.proofs.FormLaws.{form-restorable}
 use Rattle.history.specs.Calls.{Call, Standing, standing, History, saidDone}
 use Rattle.history.specs.Resumed.{restoredStart, Follows, followers, FollowingList, WholeRest, FromMark}
 use Rattle.history.proofs.Reached.{Reached, stateAt, reached-start, list-reached}
@@ -187,11 +191,18 @@ module _ (R : Molecule) (q : Search) (good : wellFormed R ≡ true) (passes : re
             goes-on = standing-now .goes-on;
           }
 
--- Over every mark that a restore accepts, and every list of calls from it
+-- Over every mark in either form that a restore accepts, and every list of calls from it
+pub form-from-mark :
+    (form : Form) (R : Molecule) (mark : List ℕ) (q : Search) → restoreIn form R mark ≡ acceptedSearch q →
+    (calls : List Call) → History R (restoredStart q) calls →
+    FromMark R q calls (standing (restoredStart q) calls)
+form-from-mark form R mark q e =
+    let (good, passes, full) = form-restorable form R mark q e in
+    from-search R q good passes full
+
+-- and of a new mark
 pub from-mark :
     (R : Molecule) (mark : List ℕ) (q : Search) → restoreMark R mark ≡ acceptedSearch q →
     (calls : List Call) → History R (restoredStart q) calls →
     FromMark R q calls (standing (restoredStart q) calls)
-from-mark R mark q e =
-    let (good, passes, full) = restored-restorable R mark q e in
-    from-search R q good passes full
+from-mark = form-from-mark New
