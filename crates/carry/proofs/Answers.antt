@@ -7,7 +7,7 @@ use mathlib.Core.List.{List}
 use Rattle.refusal.specs.declared.Refusal.{Refusal}
 use Rattle.refusal.specs.declared.Answer.the-variants as answer
 use Rattle.molecule.specs.declared.Molecule.{Molecule}
-use Rattle.sheet.specs.declared.SheetAnswer.{SheetAnswer}
+use Rattle.bonds.specs.declared.Reading.{Reading}
 use Rattle.sheet.specs.Read.{readSheet}
 use Rattle.search.specs.declared.Form.{Form}
 use Rattle.search.specs.declared.Made.{Made}
@@ -61,7 +61,7 @@ module _ (from to : Form) (sheet mark out : List ℕ) where
   unfolding carryOutput
   leaves is-answer is-output = (is-answer, is-output ∙ rw is-answer)
 
-  module _ {read : SheetAnswer} (is-read : read ≡ readSheet sheet) where
+  module _ {read : Reading} (is-read : read ≡ readSheet sheet) where
     pub sheet-refuses : {r : Refusal} → read .answer ≡ answer.Refused r → Leaves (Refused r) out
     unfolding carryAnswer
     sheet-refuses e = leaves (rw (← is-read, e)) refl

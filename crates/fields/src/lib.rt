@@ -2,8 +2,8 @@
 ghost use mathlib.Core.Path.{_≡_};
 ghost use Prim.Native.Nat.{_+_, _≤_};
 ghost use lib.ListN.{length, drop};
-ghost use Rattle.fields.specs.Field.{mayFollow, digits, zeroFirst, readField, column, fieldText};
-ghost use Rattle.fields.specs.Field.{fieldAt, blanksOnly, valueAt};
+ghost use Rattle.fields.specs.Field.{mayFollow, digits, afterBlanks, zeroFirst, readField};
+ghost use Rattle.fields.specs.Field.{column, fieldText, fieldAt, blanksOnly, valueAt};
 use widen::u8_u64;
 
 // What a field holds: a value, and whether zeros fill the field.
@@ -58,11 +58,10 @@ fn zero_first(s: &[u8]) -> bool
     s[0] == 48
 }
 
-// Reads a whole slice as one number field.
-pub fn read_number(s: &[u8]) -> Number
-    ensures { λ r. ⌜ r ≡ readField (now (s .entry)) ⌝ }
+// Reads a whole slice as blanks and then one digit or more; `zeros` says whether leading zeros are allowed.
+pub fn after_blanks(s: &[u8], zeros: bool) -> Number
+    ensures { λ r. ⌜ r ≡ afterBlanks zeros (now (s .entry)) ⌝ }
 {
-    let zeros = zero_first(s);
     let mut i: usize = 0;
     while i < s.len() {
         let b = s[i];
@@ -78,6 +77,13 @@ pub fn read_number(s: &[u8]) -> Number
         i += 1;
     }
     Number::Bad
+}
+
+// Reads a whole slice as one number field.
+pub fn read_number(s: &[u8]) -> Number
+    ensures { λ r. ⌜ r ≡ readField (now (s .entry)) ⌝ }
+{
+    after_blanks(s, zero_first(s))
 }
 
 // The byte of a column where v is what is left of the number: its last digit, or a blank where nothing is left.

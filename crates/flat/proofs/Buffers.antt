@@ -12,9 +12,9 @@ use borrow.Rule.Slice.PartMut.{putMid, postOf}
 use Rattle.refusal.specs.declared.Refusal.{Refusal}
 use Rattle.refusal.specs.declared.Answer.the-variants.{Accepted, Refused}
 use Rattle.refusal.specs.Number.{numberOf}
-use Rattle.sheet.specs.declared.SheetAnswer.{SheetAnswer}
+use Rattle.bonds.specs.declared.Reading.{Reading}
 use Rattle.sheet.specs.Read.{readSheet}
-use Rattle.mark_writer.proofs.Splices.{filled}
+use Rattle.bond_writer.proofs.Splices.{filled}
 use Rattle.flat.specs.Codes.{wrongLength, flatBytes, readCode, readOutput}
 
 pub four-set :
@@ -89,7 +89,7 @@ module _ (sheet out : List ℕ) where
   read-wrong-length wrong = (rw (ne-eqb (length out) 2052 wrong), rw (ne-eqb (length out) 2052 wrong))
 
   -- the code read the sheet
-  module _ (size : length out ≡ 2052) {read : SheetAnswer} (same : read ≡ readSheet sheet) where
+  module _ (size : length out ≡ 2052) {read : Reading} (same : read ≡ readSheet sheet) where
     pub read-accepted : read .answer ≡ Accepted → {out′ : List ℕ} → out′ ≡ flatBytes (read .molecule) → Left 0 out′
     unfolding readCode readOutput
     read-accepted accepted written =

@@ -12,7 +12,7 @@ use Rattle.refusal.specs.declared.Refusal.{Refusal}
 use Rattle.refusal.specs.declared.Answer.the-variants.{Refused}
 use Rattle.molecule.specs.declared.Molecule.{Molecule}
 use Rattle.molecule.specs.Record.{wellFormed}
-use Rattle.sheet.specs.declared.SheetAnswer.{SheetAnswer}
+use Rattle.bonds.specs.declared.Reading.{Reading}
 use Rattle.sheet.specs.Read.{readSheet}
 use Rattle.sheet.proofs.Accepted.{SheetTaken}
 use Rattle.search.specs.declared.Search.{Search}
@@ -23,8 +23,8 @@ use Rattle.search.specs.Place.{freshSearch}
 use Rattle.search.specs.Entries.{acceptedSearch, runSearch, runOutput, endedNumber}
 use Rattle.search.specs.Mark.{fieldKept, valueAt, markBonds, markLength, markText, saveOutput, restoreMark}
 use Rattle.search.proofs.Starts.{rings-started}
-use Rattle.mark_writer.specs.Parts.{spliced}
-use Rattle.mark_writer.proofs.Splices.{splice-start}
+use Rattle.bond_writer.specs.Parts.{spliced}
+use Rattle.bond_writer.proofs.Splices.{splice-start}
 use Rattle.counter.specs.declared.Counted.{Counted}
 use Rattle.counter.specs.Count.{countShortest}
 use Rattle.carry.specs.Carry.{carryAnswer, carryOutput}
@@ -85,7 +85,7 @@ pub leaves-count :
 leaves-count e number count h = rw (← e) h
 
 -- its two ways: the sheet is refused, or what the count on its record answers is written
-module _ (sheet : List ℕ) {read : SheetAnswer} (s t count : ℕ) where
+module _ (sheet : List ℕ) {read : Reading} (s t count : ℕ) where
   pub count-unread :
       {r : Refusal} → read ≡ readSheet sheet → read .answer ≡ Refused r →
       refusedCount r count ≡ countSheet sheet s t count

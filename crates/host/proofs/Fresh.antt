@@ -13,7 +13,7 @@ use Rattle.molecule.specs.declared.Molecule.{Molecule}
 use Rattle.molecule.specs.Record.{wellFormed}
 use Rattle.molecule.specs.BondList.{bondList}
 use Rattle.molecule.proofs.Bonds.{rule9}
-use Rattle.sheet.specs.declared.SheetAnswer.{SheetAnswer}
+use Rattle.bonds.specs.declared.Reading.{Reading}
 use Rattle.sheet.proofs.Accepted.{read-formed}
 use Rattle.search.specs.declared.Made.{Made}
 use Rattle.search.specs.Place.{beginning, searchAt, freshSearch, kindKept}
@@ -73,7 +73,7 @@ fresh-fits mol kind s t next formed room =
 
 -- the search of an accepted start is the fresh one
 pub start-fits :
-    {sheet : List ℕ} (kind s t : ℕ) {read : SheetAnswer} {made : Made} (next : List ℕ) →
+    {sheet : List ℕ} (kind s t : ℕ) {read : Reading} {made : Made} (next : List ℕ) →
     SearchTaken sheet (λ mol. startSearch mol kind s t) read made → leb markRoom (length next) ≡ true →
     MarkFits (read .molecule) (made .search) next
 start-fits kind s t {read} {made} next m room =

@@ -19,7 +19,7 @@ use Rattle.refusal.proofs.Ranges.{by-test}
 use Rattle.molecule.specs.declared.Molecule.{Molecule}
 use Rattle.molecule.specs.Record.{isAtom, wellFormed}
 use Rattle.molecule.specs.Ends.{withEnds}
-use Rattle.sheet.specs.declared.SheetAnswer.{SheetAnswer}
+use Rattle.bonds.specs.declared.Reading.{Reading}
 use Rattle.sheet.specs.Read.{readSheet}
 use Rattle.sheet.proofs.Accepted.{accepted-well-formed, SheetTaken}
 use Rattle.sheet.proofs.Numbers.{sheet-numbers}
@@ -44,7 +44,7 @@ GateNumber Rule k = ((1 ≤ k) × (k ≤ 8)) ⊎ ((k ≡ 13) ⊎ Rule k)
 -- ---- what is known on the way
 
 -- Where the sheet was accepted, and the search made
-pub record SearchTaken (sheet : List ℕ) (make : Molecule → Made) (read : SheetAnswer) (made : Made) : Type 0 where
+pub record SearchTaken (sheet : List ℕ) (make : Molecule → Made) (read : Reading) (made : Made) : Type 0 where
   pub of-sheet : SheetTaken sheet read
   pub is-made : made ≡ make (read .molecule)
   pub accepted : made .answer ≡ Accepted
@@ -66,7 +66,7 @@ module _
   abbrev result : A
   result = gated refuse sheet make next goes
 
-  module _ {read : SheetAnswer} where
+  module _ {read : Reading} where
     pub sheet-refused : {r : Refusal} → read ≡ readSheet sheet → read .answer ≡ Refused r → refuse r ≡ result
     unfolding gated
     sheet-refused is-read e = rw (← is-read, e)

@@ -22,7 +22,7 @@ use Rattle.refusal.specs.Number.{numberOf}
 use Rattle.refusal.proofs.Ranges.{Within, by-test, within-refused}
 use Rattle.molecule.specs.declared.Molecule.{Molecule}
 use Rattle.molecule.specs.Record.{wellFormed}
-use Rattle.sheet.specs.declared.SheetAnswer.{SheetAnswer}
+use Rattle.bonds.specs.declared.Reading.{Reading}
 use Rattle.sheet.specs.Read.{readSheet}
 use Rattle.sheet.proofs.Accepted.{accepted-well-formed, read-formed}
 use Rattle.search.specs.declared.Search.{Search}
@@ -103,7 +103,7 @@ begun mol mark formed e = go (ℕ-discrete (length mark) 0)
     go (no some) = begun-restored mol mark some e
 
 -- the search made on an accepted sheet keeps rule 12, and the mark handed has its molecule's bond lines or no bytes
-module _ {sheet : List ℕ} (mark : List ℕ) {read : SheetAnswer} {made : Made}
+module _ {sheet : List ℕ} (mark : List ℕ) {read : Reading} {made : Made}
     (m : SearchTaken sheet (λ mol. searchFor mol mark) read made) where
   made-begun : Begun (read .molecule) mark (searchFor (read .molecule) mark .search)
   made-begun = begun (read .molecule) mark (read-formed (m .of-sheet)) (rw (m .is-made) at (m .accepted))

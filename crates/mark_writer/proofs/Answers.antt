@@ -21,8 +21,9 @@ use Rattle.search.proofs.Readings.{restorable-facts}
 use Rattle.search.proofs.Views.{beginning-length}
 use Rattle.search.proofs.MarkLaws.{mark-length, save-allowed, save-room, save-writes, save-refused}
 use Rattle.search.proofs.OldMarkLaws.{old-mark-length}
-use Rattle.mark_writer.specs.Parts.{LinesFit, MarkFits, spliced}
-use Rattle.mark_writer.proofs.Splices.{splice-start}
+use Rattle.bond_writer.specs.Parts.{spliced}
+use Rattle.mark_writer.specs.Parts.{LinesFit, MarkFits}
+use Rattle.bond_writer.proofs.Splices.{splice-start}
 
 -- what a save past rules 9 and 12 knows
 pub record Saving (mol : Molecule) (q : Search) : Type 0 where

@@ -1,5 +1,2 @@
-pub mod Splices
-pub mod MarkSplices
-pub mod CellBonds
-pub mod BondSplices
 pub mod Answers
+pub mod MarkSplices

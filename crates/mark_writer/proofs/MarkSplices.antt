@@ -17,8 +17,9 @@ use Rattle.search.proofs.Text.{fields-length}
 use Rattle.search.proofs.Views.{beginning-length}
 use Rattle.search.proofs.Restores.{headOf, countsOf, three-length}
 use Rattle.search.proofs.MarkLaws.{bonds-size, restored-bonds}
-use Rattle.mark_writer.specs.Parts.{spliced, BondsFit, CopyFits, OwnLines, LinesFit, MarkFits}
-use Rattle.mark_writer.proofs.Splices.{splice-next}
+use Rattle.bond_writer.specs.Parts.{spliced, BondsFit}
+use Rattle.mark_writer.specs.Parts.{CopyFits, OwnLines, LinesFit, MarkFits}
+use Rattle.bond_writer.proofs.Splices.{splice-next}
 
 -- ---- the lines of a mark
 

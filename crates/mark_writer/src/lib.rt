@@ -2,34 +2,21 @@
 // rule 13, in the new form or in the old one from before F-5.
 ghost use mathlib.Core.Path.{_≡_};
 ghost use mathlib.Core.Bool.{true};
-ghost use mathlib.Core.List.{[], _∷_};
-ghost use Prim.Native.Nat.{_+_, _*_, _≤_, _<_};
+ghost use Prim.Native.Nat.{_+_, _*_, _≤_};
 ghost use lib.ListN.{length, drop};
-ghost use Rattle.fields.specs.Field.{fieldText};
 ghost use Rattle.molecule.specs.Record.{wellFormed};
 ghost use Rattle.search.specs.Place.{restorable};
-ghost use Rattle.search.specs.Mark.{fieldsText, threeLines, bondLines, bondsFrom, markText};
+ghost use Rattle.search.specs.Mark.{fieldsText, threeLines, bondsFrom, markText};
 ghost use Rattle.search.specs.Mark.{writeAnswer, writtenBytes, saveAnswer, saveOutput};
 ghost use Rattle.search.specs.OldMark.{oldMarkText};
 ghost use Rattle.search.specs.Forms.{markIn};
-ghost use Rattle.molecule.specs.BondList.{bondList};
-ghost use Rattle.mark_writer.specs.Parts.{spliced, cellBonds, byteBonds, rowBonds, LinesPut};
-ghost use Rattle.mark_writer.specs.Parts.{CellFits, ByteFits, RowFits, BondsFit, CopyFits, LinesFit, MarkFits};
-ghost use Rattle.mark_writer.specs.Parts.{OwnLines};
+ghost use Rattle.bond_writer.specs.Parts.{spliced};
+ghost use Rattle.mark_writer.specs.Parts.{CopyFits, LinesFit, MarkFits, OwnLines};
 use molecule::Molecule;
 use refusal::Refusal;
 use search::Form;
 use search::Saved;
 use search::Search;
-
-// A number in a field of so many columns.
-fn put_field(out: &mut [u8], at: usize, columns: usize, v: u64)
-    requires { ⌜ at + columns ≤ length (now out) ⌝ }
-    ensures { λ _. ⌜ now (out .exit) ≡ spliced at (fieldText columns v) (now (out .entry)) ⌝ }
-{
-    let end = at + columns;
-    fields::write_number(&mut out[at..end], v);
-}
 
 // Numbers, each in a field of so many columns.
 fn put_fields(out: &mut [u8], at: usize, columns: usize, values: &[u64])
@@ -39,7 +26,7 @@ fn put_fields(out: &mut [u8], at: usize, columns: usize, values: &[u64])
     let mut i: usize = 0;
     let mut place = at;
     while i < values.len() {
-        put_field(out, place, columns, values[i]);
+        bond_writer::put_field(out, place, columns, values[i]);
         place += columns;
         i += 1;
     }
@@ -53,89 +40,9 @@ fn put_atoms(out: &mut [u8], at: usize, atoms: &[u8])
     let mut i: usize = 0;
     let mut place = at;
     while i < atoms.len() {
-        put_field(out, place, 4, widen::u8_u64(atoms[i]));
+        bond_writer::put_field(out, place, 4, widen::u8_u64(atoms[i]));
         place += 4;
         i += 1;
-    }
-}
-
-// A line feed.
-fn put_feed(out: &mut [u8], at: usize)
-    requires { ⌜ at < length (now out) ⌝ }
-    ensures { λ _. ⌜ now (out .exit) ≡ spliced at (10 ∷ []) (now (out .entry)) ⌝ }
-{
-    out[at] = 10;
-}
-
-// The line of one bond.
-fn put_bond(out: &mut [u8], at: usize, a: usize, b: usize)
-    requires { ⌜ at + 9 ≤ length (now out) ⌝ }
-    ensures { λ _. ⌜ now (out .exit) ≡ spliced at (bondLines ((a, b) ∷ [])) (now (out .entry)) ⌝ }
-{
-    put_field(out, at, 4, a as u64);
-    put_field(out, at + 4, 4, b as u64);
-    put_feed(out, at + 8);
-}
-
-// The line of the bond in cell k of a byte of the rows, where it has one above the diagonal, and the place past it.
-fn put_cell(out: &mut [u8], place: usize, rows: &[u8; 2048], at: usize, k: usize) -> usize
-    requires { ⌜ CellFits (now rows) at k (now out) place ⌝ }
-    ensures { λ r. ⌜ LinesPut (cellBonds (now (rows .entry)) at k) place (now (out .entry)) (now (out .exit)) r ⌝ }
-{
-    if (rows[at] >> k) % 2 != 1 {
-        return place;
-    }
-    let row = at / 16;
-    let column = at % 16 * 8 + k;
-    if column <= row {
-        return place;
-    }
-    put_bond(out, place, row + 1, column + 1);
-    place + 9
-}
-
-// The lines of the bonds in the 8 cells of a byte, and the place past them.
-fn put_byte(out: &mut [u8], place: usize, rows: &[u8; 2048], at: usize) -> usize
-    requires { ⌜ ByteFits (now rows) at (now out) place ⌝ }
-    ensures { λ r. ⌜ LinesPut (byteBonds (now (rows .entry)) at) place (now (out .entry)) (now (out .exit)) r ⌝ }
-{
-    if rows[at] == 0 {
-        return place;
-    }
-    let mut end = place;
-    let mut k: usize = 0;
-    while k < 8 {
-        end = put_cell(out, end, rows, at, k);
-        k += 1;
-    }
-    end
-}
-
-// The lines of the bonds in one row of n atoms, and the place past them. Bytes before the diagonal or past n have none.
-fn put_row(out: &mut [u8], place: usize, rows: &[u8; 2048], n: usize, row: usize) -> usize
-    requires { ⌜ RowFits (now rows) n row (now out) place ⌝ }
-    ensures { λ r. ⌜ LinesPut (rowBonds (now (rows .entry)) row) place (now (out .entry)) (now (out .exit)) r ⌝ }
-{
-    let last = (n + 7) / 8;
-    let mut end = place;
-    let mut i = row / 8;
-    while i < last {
-        end = put_byte(out, end, rows, 16 * row + i);
-        i += 1;
-    }
-    end
-}
-
-// The lines of the bonds of n atoms.
-fn put_bonds(out: &mut [u8], at: usize, rows: &[u8; 2048], n: usize)
-    requires { ⌜ BondsFit (now rows) n (now out) at ⌝ }
-    ensures { λ _. ⌜ now (out .exit) ≡ spliced at (bondLines (bondList (now (rows .entry)))) (now (out .entry)) ⌝ }
-{
-    let mut row: usize = 0;
-    let mut place = at;
-    while row < n {
-        place = put_row(out, place, rows, n, row);
-        row += 1;
     }
 }
 
@@ -169,11 +76,11 @@ fn put_three_lines(m: Molecule, q: Search, out: &mut [u8])
     ];
     let counts = [q.trials, q.extensions, q.listed];
     put_fields(out, 0, 4, &head);
-    put_feed(out, 28);
+    bond_writer::put_feed(out, 28);
     put_fields(out, 29, 20, &counts);
-    put_feed(out, 89);
+    bond_writer::put_feed(out, 89);
     put_atoms(out, 90, &prefix[..len]);
-    put_feed(out, 90 + 4 * len);
+    bond_writer::put_feed(out, 90 + 4 * len);
 }
 
 // The mark of a search: its three lines, and then a line for each bond. The search need not keep rule 12.
@@ -190,7 +97,7 @@ pub fn put_mark(m: Molecule, q: Search, mark: &[u8], out: &mut [u8])
         return;
     }
     let rows = m.rows;
-    put_bonds(out, 91 + 4 * len, &rows, m.atoms);
+    bond_writer::put_bonds(out, 91 + 4 * len, &rows, m.atoms);
 }
 
 // Saves a search that rules 9 and 12 allow as a mark: rule 13. Only the mark's bytes are written. The bond lines are

@@ -2,7 +2,7 @@
 use Prim.Native.Nat.{ℕ, _+_, _-_, _*_, _/_, _%_, _^_}
 use mathlib.Core.Bool.{Bool, _&&_, _||_, not, Bool·beq}
 use mathlib.Core.List.{List, [], _∷_}
-use lib.ListN.{length, getD, replicate}
+use lib.ListN.{length, getD, take, drop, replicate}
 use lib.Dec.{leb, ltb, eqb}
 use lib.Count.{ones}
 use Rattle.graph.specs.Every.{allBelow}
@@ -29,6 +29,10 @@ bonded n rows a b = isAtom n a && isAtom n b && cell rows (a - 1) (b - 1)
 unfoldable pub onesOf : List ℕ → ℕ
 onesOf [] = 0
 onesOf (x ∷ xs) = ones x + onesOf xs
+
+-- The neighbours of the atom of row i, counted from 0: the one bits of its row (law `neighbours-counted`)
+unfoldable pub neighbours : List ℕ → ℕ → ℕ
+neighbours rows i = onesOf (take 16 (drop (16 * i) rows))
 
 -- every row and every column of the 128 passes
 abbrev pub everyCell : (ℕ → ℕ → Bool) → Bool

@@ -1,11 +1,10 @@
 // The molecule record of document 01 and its check, rule 9; rules 10 and 11 on the ends of a path.
 ghost use mathlib.Core.Path.{_≡_};
-ghost use mathlib.Core.Bool.{true};
-ghost use Prim.Native.Nat.{_+_, _*_, _/_, _%_, _<_};
+ghost use Prim.Native.Nat.{_+_, _*_, _/_, _%_, _≤_, _<_};
 ghost use lib.ListN.{length};
-ghost use Rattle.molecule.specs.Record.{isAtom, cell, freshMolecule, onesOf, rowsOfBytes, wellFormed};
+ghost use Rattle.molecule.specs.Record.{isAtom, cell, freshMolecule, neighbours, wellFormed};
 ghost use Rattle.molecule.specs.Ends.{endsAnswer};
-ghost use Rattle.molecule.specs.Parts.{mirrored, bitSound, byteSound, rowsSound};
+ghost use Rattle.molecule.specs.Parts.{mirrored, bitSound, byteSound, rowsSound, CountedOnes};
 use refusal::Answer;
 use refusal::Refusal;
 
@@ -121,10 +120,10 @@ fn rows_sound(rows: &[u8; 2048], n: usize) -> bool
     true
 }
 
-// How many bits of the rows are one.
+// How many bits of rows are one.
 fn ones_of(rows: &[u8]) -> usize
-    requires { ⌜ length (now rows) ≡ 2048 ⌝ }
-    ensures { λ r. ⌜ (r ≡ onesOf (now (rows .entry))) × (rowsOfBytes (now (rows .entry)) ≡ true) ⌝ }
+    requires { ⌜ length (now rows) ≤ 2048 ⌝ }
+    ensures { λ r. ⌜ CountedOnes (now (rows .entry)) r ⌝ }
 {
     let mut sum: usize = 0;
     let mut i: usize = 0;
@@ -133,6 +132,16 @@ fn ones_of(rows: &[u8]) -> usize
         i += 1;
     }
     sum
+}
+
+// How many neighbours the atom of row i has, counted from 0.
+pub fn neighbours(rows: &[u8], i: usize) -> usize
+    requires { ⌜ 16 * i + 16 ≤ length (now rows) ⌝ }
+    ensures { λ r. ⌜ r ≡ neighbours (now (rows .entry)) i ⌝ }
+{
+    let at = 16 * i;
+    let end = at + 16;
+    ones_of(&rows[at..end])
 }
 
 // Rule 9: whether a molecule record follows every rule of its section.

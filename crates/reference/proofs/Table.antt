@@ -11,8 +11,9 @@ use Rattle.fields.specs.Field.{digits, afterBlanks, readField, column, columns,
 use Rattle.molecule.specs.Record.{cell, bonded}
 use Rattle.molecule.specs.BondList.{bondHere, bondsTo}
 use Rattle.molecule.specs.Ends.{withEnds}
-use Rattle.sheet.specs.Bonds.{atomsKept, noneToItself, samePair, noneTwice, withBit, withCell, withBond, rowsOf}
-use Rattle.sheet.specs.Read.{lengthKept, lineKept, linesKept, lineOf, readBonds, readSheet}
+use Rattle.bonds.specs.Bonds.{atomsKept, noneToItself, samePair, noneTwice, withBit, withCell, withBond, rowsOf}
+use Rattle.bonds.specs.Reading.{readBonds}
+use Rattle.sheet.specs.Read.{lengthKept, lineKept, linesKept, lineOf, readSheet}
 use Rattle.search.specs.Place.{familyIn, familyOf, beginning, stateOf, held, searchAt, freshSearch, endsKept, kindKept}
 use Rattle.search.specs.Mark.{fieldsText, threeLines, bondLines}
 use Rattle.reference.specs.Text.{bytesOf, text}

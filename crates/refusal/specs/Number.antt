@@ -1,7 +1,7 @@
 -- The number of each refusal in document 01, "Turned back by number", and in the requests of document 02.
 use Prim.Native.Nat.{ℕ}
 use Rattle.refusal.specs.declared.Refusal.{Refusal}
-use Rattle.refusal.specs.declared.Refusal.the-variants.{SheetLength, SheetBytes, TooManyAtoms, TooManyBonds, SheetSize, BondAtom, SelfBond, RepeatedBond, Record, PathEnd, SameEnds, Search, MarkRoom, MarkBytes, MarkMolecule, MarkKind, MarkPlace, RingSize, TooManyPaths}
+use Rattle.refusal.specs.declared.Refusal.the-variants.{SheetLength, SheetBytes, TooManyAtoms, TooManyBonds, SheetSize, BondAtom, SelfBond, RepeatedBond, Record, PathEnd, SameEnds, Search, MarkRoom, MarkBytes, MarkMolecule, MarkKind, MarkPlace, MolfileLines, UnknownSymbol, TooManyNeighbours, RingSize, TooManyPaths}
 
 abbrev pub numberOf : Refusal → ℕ
 -- the sheet is shorter than 9 bytes or not a multiple of 9
@@ -28,7 +28,8 @@ numberOf PathEnd = 10
 numberOf SameEnds = 11
 -- a search handed to a run or a save could not be restored from any mark on this molecule
 numberOf Search = 12
--- the mark output is shorter than the mark (`ringlist_resume` and `ringlist_start`: than 9,815; document 02, F-5)
+-- the mark output is shorter than the mark (`ringlist_resume` and `ringlist_start`: than 9,815; document 02, F-5), or the
+-- sheet output than the sheet (`ringlist_molfile`)
 numberOf MarkRoom = 13
 -- the mark's bytes do not follow the layout
 numberOf MarkBytes = 14
@@ -39,6 +40,13 @@ numberOf MarkMolecule = 15
 numberOf MarkKind = 16
 -- p is not open, or c is 0 or above n; p empty with c = n + 1 is allowed
 numberOf MarkPlace = 17
+-- a line of a molfile (M  END too) or its line feed is missing, a line does not reach the last column named for it, V2000
+-- is not in its columns, or a number is bad (document 02, F-1)
+numberOf MolfileLines = 18
+-- a symbol is not in the table of elements (document 02, F-1)
+numberOf UnknownSymbol = 19
+-- an atom has more neighbours than the table allows its element (document 02, F-1)
+numberOf TooManyNeighbours = 20
 -- the largest size k of a ring is outside 3 to 128 (document 02, F-4)
 numberOf RingSize = 21
 -- the number of shortest paths from s to t is above the limit of the counts (document 02, F-14)

@@ -20,6 +20,9 @@ pub enum Refusal {
     MarkMolecule,
     MarkKind,
     MarkPlace,
+    MolfileLines,
+    UnknownSymbol,
+    TooManyNeighbours,
     RingSize,
     TooManyPaths,
 }
@@ -52,6 +55,9 @@ pub fn number(r: Refusal) -> u32
         Refusal::MarkMolecule => 15,
         Refusal::MarkKind => 16,
         Refusal::MarkPlace => 17,
+        Refusal::MolfileLines => 18,
+        Refusal::UnknownSymbol => 19,
+        Refusal::TooManyNeighbours => 20,
         Refusal::RingSize => 21,
         Refusal::TooManyPaths => 26,
     }

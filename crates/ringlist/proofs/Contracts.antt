@@ -14,7 +14,7 @@ use Rattle.report.specs.Lines.{refusalLine, ringLines, printed, printedOn}
 use Rattle.refusal.specs.declared.Answer.{Answer}
 use Rattle.molecule.specs.declared.Molecule.{Molecule}
 use Rattle.molecule.specs.Record.{wellFormed, freshMolecule}
-use Rattle.sheet.specs.declared.SheetAnswer.{SheetAnswer}
+use Rattle.bonds.specs.declared.Reading.{Reading}
 use Rattle.sheet.specs.Read.{readSheet}
 use Rattle.enumeration.specs.Run.{Outcome}
 use Rattle.search.specs.declared.Search.{Search}
@@ -54,7 +54,7 @@ opened-long input h e = rw (e, lt-ltb 65529 (length input) h)
 
 -- the listing of a sheet, by its answer
 pub opened-sheet :
-    (input : List ℕ) {sheet : SheetAnswer} {answer : Answer} → length input ≤ 65529 → sheet ≡ readSheet input →
+    (input : List ℕ) {sheet : Reading} {answer : Answer} → length input ≤ 65529 → sheet ≡ readSheet input →
     sheet .answer ≡ answer → begun (firstPart answer) (sheet .molecule) ≡ opened input
 unfolding opened
 opened-sheet input h e a = rw (le-ltb 65529 (length input) h, ← e, a)

@@ -14,7 +14,7 @@ use Rattle.refusal.specs.declared.Answer.the-variants as answer
 use Rattle.refusal.specs.Number.{numberOf}
 use Rattle.molecule.specs.declared.Molecule.{Molecule}
 use Rattle.molecule.specs.Record.{freshMolecule}
-use Rattle.sheet.specs.declared.SheetAnswer.{SheetAnswer}
+use Rattle.bonds.specs.declared.Reading.{Reading}
 use Rattle.sheet.specs.Read.{readSheet}
 use Rattle.search.specs.declared.Search.{Search}
 use Rattle.search.specs.declared.Ran.{Ran}
@@ -38,7 +38,7 @@ abbrev pub firstPart : Answer → Part
 firstPart answer.Accepted = Rings
 firstPart (answer.Refused r) = Refused r
 
-abbrev pub begunSheet : SheetAnswer → Listing
+abbrev pub begunSheet : Reading → Listing
 begunSheet sheet = begun (firstPart (sheet .answer)) (sheet .molecule)
 
 unfoldable pub opened : List ℕ → Listing

@@ -8,38 +8,18 @@ use lib.ListN.{length}
 use borrow.Author.Tests.{le-leb, lt-leb, eq-eqb, ne-eqb}
 use Rattle.graph.specs.Every.{allBelow}
 use Rattle.refusal.specs.declared.Refusal.the-variants as refusal
-use Rattle.sheet.specs.Bonds.{Bond, atomsKept, noneToItself, noneTwice}
+use Rattle.bonds.specs.Reading.{refusedReading, readBonds}
 use Rattle.sheet.specs.Read.{lengthKept, linesKept, lineKept, atomsOf, bondsOf, bondOf}
-use Rattle.sheet.specs.Read.{refusedSheet, acceptedSheet, readBonds, fewAtoms, fewBonds, readSheet}
-
--- rules 6 to 8
-module _ (n : ℕ) (bond : ℕ → Bond) (m : ℕ) where
-  pub bonds-out : atomsKept n bond m ≡ false → readBonds n bond m ≡ refusedSheet refusal.BondAtom
-  unfolding readBonds
-  bonds-out e = rw e
-
-  module _ (range : atomsKept n bond m ≡ true) where
-    pub bonds-self : noneToItself bond m ≡ false → readBonds n bond m ≡ refusedSheet refusal.SelfBond
-    unfolding readBonds
-    bonds-self e = rw (range, e)
-
-    module _ (apart : noneToItself bond m ≡ true) where
-      pub bonds-twice : noneTwice bond m ≡ false → readBonds n bond m ≡ refusedSheet refusal.RepeatedBond
-      unfolding readBonds
-      bonds-twice e = rw (range, apart, e)
-
-      pub bonds-read : noneTwice bond m ≡ true → readBonds n bond m ≡ acceptedSheet n bond m
-      unfolding readBonds
-      bonds-read e = rw (range, apart, e)
+use Rattle.sheet.specs.Read.{fewAtoms, fewBonds, readSheet}
 
 -- rules 1 and 2
 module _ (s : List ℕ) where
-  pub sheet-short : length s < 9 → readSheet s ≡ refusedSheet refusal.SheetLength
+  pub sheet-short : length s < 9 → readSheet s ≡ refusedReading refusal.SheetLength
   unfolding readSheet lengthKept
   sheet-short short = rw (lt-leb 9 (length s) short)
 
   module _ (long : 9 ≤ length s) where
-    pub sheet-ragged : (length s % 9 ≡ 0 → ⊥) → readSheet s ≡ refusedSheet refusal.SheetLength
+    pub sheet-ragged : (length s % 9 ≡ 0 → ⊥) → readSheet s ≡ refusedReading refusal.SheetLength
     unfolding readSheet lengthKept
     sheet-ragged ragged = rw (le-leb 9 (length s) long, ne-eqb (length s % 9) 0 ragged)
 
@@ -48,7 +28,7 @@ module _ (s : List ℕ) where
       unfolding lengthKept
       length-told = rw (le-leb 9 (length s) long, eq-eqb (length s % 9) 0 whole)
 
-      pub sheet-bytes : allBelow (length s / 9) (lineKept s) ≡ false → readSheet s ≡ refusedSheet refusal.SheetBytes
+      pub sheet-bytes : allBelow (length s / 9) (lineKept s) ≡ false → readSheet s ≡ refusedReading refusal.SheetBytes
       unfolding readSheet linesKept
       sheet-bytes broken = rw (length-told, broken)
 
@@ -67,7 +47,7 @@ module _ {s : List ℕ} (lined : Lined s) where
   unfolding linesKept
   lines-kept = lined .lines
 
-  pub sheet-atoms : 128 < atomsOf s → readSheet s ≡ refusedSheet refusal.TooManyAtoms
+  pub sheet-atoms : 128 < atomsOf s → readSheet s ≡ refusedReading refusal.TooManyAtoms
   unfolding readSheet
   sheet-atoms many = rw (length-kept, lines-kept, lt-leb (atomsOf s) 128 many)
 
@@ -75,7 +55,7 @@ module _ {s : List ℕ} (lined : Lined s) where
     atoms-kept : fewAtoms (atomsOf s) ≡ true
     atoms-kept = le-leb (atomsOf s) 128 few
 
-    pub sheet-bonds : 1024 < bondsOf s → readSheet s ≡ refusedSheet refusal.TooManyBonds
+    pub sheet-bonds : 1024 < bondsOf s → readSheet s ≡ refusedReading refusal.TooManyBonds
     unfolding readSheet
     sheet-bonds many = rw (length-kept, lines-kept, atoms-kept, lt-leb (bondsOf s) 1024 many)
 
@@ -83,7 +63,7 @@ module _ {s : List ℕ} (lined : Lined s) where
       bonds-kept : fewBonds (bondsOf s) ≡ true
       bonds-kept = le-leb (bondsOf s) 1024 light
 
-      pub sheet-size : (length s ≡ 9 * suc (bondsOf s) → ⊥) → readSheet s ≡ refusedSheet refusal.SheetSize
+      pub sheet-size : (length s ≡ 9 * suc (bondsOf s) → ⊥) → readSheet s ≡ refusedReading refusal.SheetSize
       unfolding readSheet
       sheet-size other =
           rw (length-kept, lines-kept, atoms-kept, bonds-kept, ne-eqb (length s) (9 * suc (bondsOf s)) other)

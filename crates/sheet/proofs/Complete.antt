@@ -17,14 +17,16 @@ use Rattle.fields.specs.Field.{zeroFirst, readField, filledText, fieldAt}
 use Rattle.fields.proofs.Laws.{written-reads-back, filled-length}
 use Rattle.molecule.specs.Record.{isAtom}
 use Rattle.molecule.proofs.Bonds.{atom-bounds}
-use Rattle.sheet.specs.Bonds.{Bond, atomsKept, noneToItself, noneTwice}
-use Rattle.sheet.specs.Read.{lineKept, lineOf, atomsOf, bondsOf, bondOf, acceptedSheet, readBonds, readSheet}
+use Rattle.bonds.specs.Bonds.{Bond, atomsKept, noneToItself, noneTwice}
+use Rattle.bonds.specs.Reading.{acceptedReading, readBonds}
+use Rattle.sheet.specs.Read.{lineKept, lineOf, atomsOf, bondsOf, bondOf, readSheet}
 use Rattle.sheet.specs.Text.{Fillings, later, linesText, sheetText, bondAt}
 use Rattle.sheet.specs.Parts.{ReadsLine}
 use Rattle.sheet.proofs.Lines.{entry, line-good}
-use Rattle.sheet.proofs.Answers.{Lined, bonds-read, sheet-read}
-use Rattle.sheet.proofs.Same.{bonds-same}
-use Rattle.sheet.proofs.Stored.{within, atoms-kept-is}
+use Rattle.bonds.proofs.Answers.{bonds-read}
+use Rattle.sheet.proofs.Answers.{Lined, sheet-read}
+use Rattle.bonds.proofs.Same.{bonds-same}
+use Rattle.bonds.proofs.Stored.{within, atoms-kept-is}
 
 lines-length : (zeros : Fillings) (xs : List Bond) → length (linesText zeros xs) ≡ 9 * length xs
 unfolding linesText
@@ -181,7 +183,7 @@ pub every-molecule-has-a-sheet :
     (zeros : Fillings) (n : ℕ) (bonds : List Bond) → n ≤ 128 → length bonds ≤ 1024 →
     atomsKept n (bondAt bonds) (length bonds) ≡ true → noneToItself (bondAt bonds) (length bonds) ≡ true →
     noneTwice (bondAt bonds) (length bonds) ≡ true →
-    readSheet (sheetText zeros n bonds) ≡ acceptedSheet n (bondAt bonds) (length bonds)
+    readSheet (sheetText zeros n bonds) ≡ acceptedReading n (bondAt bonds) (length bonds)
 unfolding sheetText
 every-molecule-has-a-sheet zeros n bonds few light atoms apart twice =
     sheet-read lined (rw (← atoms-here) at few) (rw (← bonds-here) at light) size-here

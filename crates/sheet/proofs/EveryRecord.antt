@@ -20,12 +20,12 @@ use Rattle.molecule.proofs.BondOrder.{Before, same-pair, bonds-ascend}
 use Rattle.molecule.proofs.BondWithin.{before-differs, mem-at, ascend-at, ascend-order}
 use Rattle.molecule.proofs.BondCount.{bonds-count}
 use Rattle.molecule.proofs.BondLaws.{all-bonded-of, listed-is-bonded, same-there, listed-record}
-use Rattle.sheet.specs.Bonds.{Bond, atomsKept, noneToItself, samePair, noneTwice, rowsOf}
+use Rattle.bonds.specs.Bonds.{Bond, atomsKept, noneToItself, samePair, noneTwice, rowsOf}
 use Rattle.sheet.specs.Read.{readSheet}
 use Rattle.sheet.specs.Text.{Fillings, sheetText, bondAt}
-use Rattle.sheet.proofs.Stored.{within, differs, atoms-kept-is, none-to-itself-is}
-use Rattle.sheet.proofs.Tables.{Joins, Kept, kept-of, isNew}
-use Rattle.sheet.proofs.Accepted.{same-pair-cases, record-bonds, record-well-formed}
+use Rattle.bonds.proofs.Stored.{within, differs, atoms-kept-is, none-to-itself-is}
+use Rattle.bonds.proofs.Tables.{Joins, Kept, kept-of, isNew}
+use Rattle.bonds.proofs.Record.{same-pair-cases, record-bonds, record-well-formed}
 use Rattle.sheet.proofs.Complete.{every-molecule-has-a-sheet}
 
 -- blanks fill every field

@@ -1,14 +1,8 @@
 pub mod Accepted
 pub mod Answers
-pub mod Bits
-pub mod Cells
 pub mod Complete
 pub mod EveryRecord
-pub mod Filling
 pub mod Lines
 pub mod Numbers
 pub mod Reading
 pub mod Refills
-pub mod Same
-pub mod Stored
-pub mod Tables

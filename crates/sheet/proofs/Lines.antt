@@ -16,9 +16,10 @@ use Rattle.fields.specs.declared.Number.the-variants.{Value, Bad}
 use Rattle.fields.specs.Field.{fieldAt}
 use Rattle.fields.proofs.Laws.{value-fits}
 use Rattle.sheet.specs.declared.Entry.{Entry}
-use Rattle.sheet.specs.Bonds.{Bond}
+use Rattle.bonds.specs.Bonds.{Bond}
 use Rattle.sheet.specs.Read.{lineKept, lineOf}
-use Rattle.sheet.specs.Parts.{stored, RoomFor, Decodes, ReadsLine, Decodable, ReadsLines}
+use Rattle.bonds.specs.Parts.{stored, RoomFor}
+use Rattle.sheet.specs.Parts.{Decodes, ReadsLine, Decodable, ReadsLines}
 
 -- ---- one line
 

@@ -10,11 +10,12 @@ use Rattle.refusal.specs.declared.Refusal.{Refusal}
 use Rattle.refusal.specs.declared.Answer.the-variants.{Refused}
 use Rattle.refusal.specs.Number.{numberOf}
 use Rattle.refusal.proofs.Ranges.{Within, by-test, within-refused}
-use Rattle.sheet.specs.declared.SheetAnswer.{SheetAnswer}
-use Rattle.sheet.specs.Bonds.{atomsKept, noneToItself, noneTwice}
-use Rattle.sheet.specs.Read.{lengthKept, linesKept, atomsOf, bondsOf, bondOf, readBonds, readSheet}
+use Rattle.bonds.specs.declared.Reading.{Reading}
+use Rattle.bonds.specs.Bonds.{atomsKept, noneToItself, noneTwice}
+use Rattle.bonds.specs.Reading.{readBonds}
+use Rattle.sheet.specs.Read.{lengthKept, linesKept, atomsOf, bondsOf, bondOf, readSheet}
 
-abbrev SheetRule : SheetAnswer → Type 0
+abbrev SheetRule : Reading → Type 0
 SheetRule x = Within 1 8 (x .answer)
 
 pub sheet-numbers : (s : List ℕ) (r : Refusal) → readSheet s .answer ≡ Refused r → (1 ≤ numberOf r) × (numberOf r ≤ 8)

@@ -8,9 +8,11 @@ use mathlib.Core.List.{List}
 use lib.ListN.{length, getD}
 use Rattle.graph.specs.Every.{allBelow}
 use Rattle.refusal.specs.declared.Refusal.the-variants as refusal
-use Rattle.sheet.specs.Read.{lineKept, lineOf, atomsOf, bondsOf, bondOf, refusedSheet, readBonds, readSheet}
-use Rattle.sheet.specs.Parts.{stored, storedBond, Decodes}
-use Rattle.sheet.proofs.Same.{bonds-same}
+use Rattle.bonds.specs.Reading.{refusedReading, readBonds}
+use Rattle.sheet.specs.Read.{lineKept, lineOf, atomsOf, bondsOf, bondOf, readSheet}
+use Rattle.bonds.specs.Parts.{stored, storedBond}
+use Rattle.sheet.specs.Parts.{Decodes}
+use Rattle.bonds.proofs.Same.{bonds-same}
 use Rattle.sheet.proofs.Answers.{Lined, sheet-atoms, sheet-bonds, sheet-size, sheet-read}
 
 -- What is known once n and m are read: rules 1 and 2 are kept, and the values are the sheet's
@@ -38,15 +40,15 @@ module _ {s values : List ℕ} {n m : ℕ} (known : StoredSheet s values n m) wh
       let long = known .long in
       known .second ∙ ap (λ x. x .1) (known .decodes .at 0 (omega arith) (omega arith))
 
-  pub stored-atoms : 128 < n → readSheet s ≡ refusedSheet refusal.TooManyAtoms
+  pub stored-atoms : 128 < n → readSheet s ≡ refusedReading refusal.TooManyAtoms
   stored-atoms many = sheet-atoms lined (rw atoms-are at many)
 
   module _ (few : n ≤ 128) where
-    pub stored-bonds : 1024 < m → readSheet s ≡ refusedSheet refusal.TooManyBonds
+    pub stored-bonds : 1024 < m → readSheet s ≡ refusedReading refusal.TooManyBonds
     stored-bonds many = sheet-bonds lined (rw atoms-are at few) (rw bonds-are at many)
 
     module _ (light : m ≤ 1024) where
-      pub stored-size : (length s ≡ 9 * (m + 1) → ⊥) → readSheet s ≡ refusedSheet refusal.SheetSize
+      pub stored-size : (length s ≡ 9 * (m + 1) → ⊥) → readSheet s ≡ refusedReading refusal.SheetSize
       stored-size other = sheet-size lined (rw atoms-are at few) (rw bonds-are at light) (λ e. other (size-of e))
         where
           size-of : length s ≡ 9 * suc (bondsOf s) → length s ≡ 9 * (m + 1)

@@ -17,13 +17,14 @@ use Rattle.fields.specs.Field.{fieldAt, isValue, valueOf, valueAt, Refilled}
 use Rattle.fields.proofs.Laws.{refilled-same, as-before}
 use Rattle.refusal.specs.declared.Refusal.the-variants as refusal
 use Rattle.refusal.specs.declared.Answer.the-variants.{Accepted}
-use Rattle.sheet.specs.declared.SheetAnswer.{SheetAnswer}
-use Rattle.sheet.specs.Bonds.{Bond}
-use Rattle.sheet.specs.Read.{lengthKept, lineKept, linesKept, lineOf, refusedSheet, readBonds}
+use Rattle.bonds.specs.declared.Reading.{Reading}
+use Rattle.bonds.specs.Bonds.{Bond}
+use Rattle.bonds.specs.Reading.{refusedReading, readBonds}
+use Rattle.sheet.specs.Read.{lengthKept, lineKept, linesKept, lineOf}
 use Rattle.sheet.specs.Read.{fewAtoms, fewBonds, sizeKept, readNumbers, readSheet}
 use Rattle.sheet.specs.OtherFillings.{fourAt, OtherFillings, fieldBefore, lineKeptBefore, lineBefore, readBefore}
-use Rattle.sheet.proofs.Same.{bonds-same}
-use Rattle.sheet.proofs.Accepted.{kept-on}
+use Rattle.bonds.proofs.Same.{bonds-same}
+use Rattle.bonds.proofs.Record.{kept-on}
 
 -- the same numbers in as many bytes
 numbers-same :
@@ -31,8 +32,8 @@ numbers-same :
     readNumbers size line ≡ readNumbers size line′
 numbers-same size line line′ first same =
     rw first
-    (ap (λ (x : SheetAnswer).
-    cond (fewAtoms n) (cond (fewBonds m) x (refusedSheet refusal.TooManyBonds)) (refusedSheet refusal.TooManyAtoms))
+    (ap (λ (x : Reading).
+    cond (fewAtoms n) (cond (fewBonds m) x (refusedReading refusal.TooManyBonds)) (refusedReading refusal.TooManyAtoms))
     (go (sizeKept size m) refl))
   where
     n : ℕ
@@ -44,8 +45,8 @@ numbers-same size line line′ first same =
     -- by whether the size is that of m bonds
     go :
         (t : Bool) → sizeKept size m ≡ t →
-        cond t (readBonds n (λ k. line (suc k)) m) (refusedSheet refusal.SheetSize)
-        ≡ cond t (readBonds n (λ k. line′ (suc k)) m) (refusedSheet refusal.SheetSize)
+        cond t (readBonds n (λ k. line (suc k)) m) (refusedReading refusal.SheetSize)
+        ≡ cond t (readBonds n (λ k. line′ (suc k)) m) (refusedReading refusal.SheetSize)
     go true e =
         let is = eqb-true size (9 * suc m) e in
         bonds-same n (λ k. line (suc k)) (λ k. line′ (suc k)) m (λ k h. same (suc k) (omega arith))

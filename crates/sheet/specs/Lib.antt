@@ -1,4 +1,3 @@
-pub mod Bonds
 pub mod OtherFillings
 pub mod Parts
 pub mod Read

@@ -10,9 +10,10 @@ use Rattle.graph.specs.Every.{allBelow}
 use Rattle.fields.specs.declared.Number.{Number}
 use Rattle.fields.specs.Field.{afterBlanks, isValue, valueOf, Refilled}
 use Rattle.refusal.specs.declared.Refusal.the-variants as refusal
-use Rattle.sheet.specs.declared.SheetAnswer.{SheetAnswer}
-use Rattle.sheet.specs.Bonds.{Bond}
-use Rattle.sheet.specs.Read.{lengthKept, refusedSheet, readNumbers}
+use Rattle.bonds.specs.declared.Reading.{Reading}
+use Rattle.bonds.specs.Bonds.{Bond}
+use Rattle.bonds.specs.Reading.{refusedReading}
+use Rattle.sheet.specs.Read.{lengthKept, readNumbers}
 
 -- the bytes of the field of 4 columns at a place
 abbrev pub fourAt : List ℕ → ℕ → List ℕ
@@ -36,9 +37,9 @@ lineKeptBefore s i =
 unfoldable pub lineBefore : List ℕ → ℕ → Bond
 lineBefore s i = (valueOf (fieldBefore s (9 * i)), valueOf (fieldBefore s (9 * i + 4)))
 
-unfoldable pub readBefore : List ℕ → SheetAnswer
+unfoldable pub readBefore : List ℕ → Reading
 readBefore s =
     cond (lengthKept s)
     (cond (allBelow (length s / 9) (lineKeptBefore s)) (readNumbers (length s) (lineBefore s))
-    (refusedSheet refusal.SheetBytes))
-    (refusedSheet refusal.SheetLength)
+    (refusedReading refusal.SheetBytes))
+    (refusedReading refusal.SheetLength)

@@ -7,12 +7,10 @@ use lib.ListN.{length, getD}
 use lib.Dec.{leb, eqb}
 use Rattle.graph.specs.Every.{allBelow}
 use Rattle.fields.specs.Field.{fieldAt, isValue, valueAt}
-use Rattle.refusal.specs.declared.Refusal.{Refusal}
 use Rattle.refusal.specs.declared.Refusal.the-variants as refusal
-use Rattle.refusal.specs.declared.Answer.the-variants.{Accepted, Refused}
-use Rattle.molecule.specs.Record.{freshMolecule}
-use Rattle.sheet.specs.declared.SheetAnswer.{SheetAnswer}
-use Rattle.sheet.specs.Bonds.{Bond, atomsKept, noneToItself, noneTwice, rowsOf}
+use Rattle.bonds.specs.declared.Reading.{Reading}
+use Rattle.bonds.specs.Bonds.{Bond}
+use Rattle.bonds.specs.Reading.{refusedReading, readBonds}
 
 -- Rule 1 kept: at least 9 bytes, and a multiple of 9
 unfoldable pub lengthKept : List ℕ → Bool
@@ -40,23 +38,6 @@ bondsOf s = lineOf s 0 .1
 abbrev pub bondOf : List ℕ → ℕ → Bond
 bondOf s k = lineOf s (suc k)
 
--- A refused sheet reads as the fresh molecule
-abbrev pub refusedSheet : Refusal → SheetAnswer
-refusedSheet r = record { answer = Refused r; molecule = freshMolecule }
-
--- n atoms with the first m bonds
-abbrev pub acceptedSheet : ℕ → (ℕ → Bond) → ℕ → SheetAnswer
-acceptedSheet n bond m = record { answer = Accepted; molecule = record { atoms = n; bonds = m; rows = rowsOf bond m } }
-
--- rules 6, 7, 8 on the bonds
-unfoldable pub readBonds : ℕ → (ℕ → Bond) → ℕ → SheetAnswer
-readBonds n bond m =
-    cond (atomsKept n bond m)
-    (cond (noneToItself bond m)
-    (cond (noneTwice bond m) (acceptedSheet n bond m) (refusedSheet refusal.RepeatedBond))
-    (refusedSheet refusal.SelfBond))
-    (refusedSheet refusal.BondAtom)
-
 -- Rule 3 kept: n is at most 128
 abbrev pub fewAtoms : ℕ → Bool
 fewAtoms n = leb n 128
@@ -70,19 +51,19 @@ abbrev pub sizeKept : ℕ → ℕ → Bool
 sizeKept size m = eqb size (9 * suc m)
 
 -- What the numbers of the lines of so many bytes are read as: rules 3, 4, 5, then rules 6, 7, 8
-abbrev pub readNumbers : ℕ → (ℕ → Bond) → SheetAnswer
+abbrev pub readNumbers : ℕ → (ℕ → Bond) → Reading
 readNumbers size line =
     cond (fewAtoms (line 0 .0))
     (cond (fewBonds (line 0 .1))
     (cond (sizeKept size (line 0 .1))
     (readBonds (line 0 .0) (λ k. line (suc k)) (line 0 .1))
-    (refusedSheet refusal.SheetSize))
-    (refusedSheet refusal.TooManyBonds))
-    (refusedSheet refusal.TooManyAtoms)
+    (refusedReading refusal.SheetSize))
+    (refusedReading refusal.TooManyBonds))
+    (refusedReading refusal.TooManyAtoms)
 
 -- What a sheet is read as: rules 1 and 2, then the rules on its numbers
-unfoldable pub readSheet : List ℕ → SheetAnswer
+unfoldable pub readSheet : List ℕ → Reading
 readSheet s =
     cond (lengthKept s)
-    (cond (linesKept s) (readNumbers (length s) (lineOf s)) (refusedSheet refusal.SheetBytes))
-    (refusedSheet refusal.SheetLength)
+    (cond (linesKept s) (readNumbers (length s) (lineOf s)) (refusedReading refusal.SheetBytes))
+    (refusedReading refusal.SheetLength)

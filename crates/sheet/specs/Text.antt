@@ -5,7 +5,7 @@ use mathlib.Core.Bool.{Bool}
 use mathlib.Core.List.{List, [], _∷_, _++_}
 use lib.ListN.{length, getD}
 use Rattle.fields.specs.Field.{filledText}
-use Rattle.sheet.specs.Bonds.{Bond}
+use Rattle.bonds.specs.Bonds.{Bond}
 
 -- for each line, whether zeros fill its two fields
 abbrev pub Fillings : Type 0

@@ -3,7 +3,7 @@
 use native.Mathlib.Omega.{arith}
 use mathlib.Core.Path.{ap}
 use Rattle.flat.specs.Codes.{molecule}
-use Rattle.mark_writer.proofs.Splices.{filled}
+use Rattle.bond_writer.proofs.Splices.{filled}
 use borrow.Author.Needs.{needs}
 use Rattle.flat.proofs.assemble.Statement.{statement}
 use Rattle.flat.proofs.assemble.Tie as tie

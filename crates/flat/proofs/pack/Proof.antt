@@ -5,7 +5,7 @@ use mathlib.Core.Path.{_≡_}
 use lib.ListN.{length}
 use borrow.Author.Needs.{needs}
 use Rattle.flat.specs.Searches.{numbersOf}
-use Rattle.mark_writer.proofs.Splices.{filled}
+use Rattle.bond_writer.proofs.Splices.{filled}
 use Rattle.flat.proofs.pack.Statement.{statement}
 use Rattle.flat.proofs.pack.Tie as tie
 

@@ -4,7 +4,7 @@ use native.Mathlib.Omega.{arith}
 use mathlib.Core.Path.{_≡_}
 use borrow.Author.Needs.{needs}
 use Rattle.flat.specs.Searches.{searchFrom}
-use Rattle.mark_writer.proofs.Splices.{filled}
+use Rattle.bond_writer.proofs.Splices.{filled}
 use Rattle.flat.proofs.unpack.Statement.{statement}
 use Rattle.flat.proofs.unpack.Tie as tie
 

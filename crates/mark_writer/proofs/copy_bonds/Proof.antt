@@ -1,7 +1,7 @@
 -- `mark_writer::copy_bonds` meets its contract: what is past the three lines is put at the place.
 use native.Mathlib.Omega.{arith}
 use borrow.Author.Needs.{needs}
-use Rattle.mark_writer.proofs.Splices.{splice-copy}
+use Rattle.bond_writer.proofs.Splices.{splice-copy}
 use Rattle.mark_writer.proofs.copy_bonds.Statement.{statement}
 use Rattle.mark_writer.proofs.copy_bonds.Tie as tie
 

@@ -3,7 +3,7 @@
 use Prim.Native.Nat.{_+_, _-_, _≤_}
 use native.Mathlib.Omega.{arith}
 use lib.ListN.{length}
-use Rattle.mark_writer.proofs.Splices.{Put, put-none, put-fits, put-more, put-all}
+use Rattle.bond_writer.proofs.Splices.{Put, put-none, put-fits, put-more, put-all}
 use Rattle.mark_writer.proofs.put_atoms.Statement.{statement}
 use Rattle.mark_writer.proofs.put_atoms.Tie as tie
 

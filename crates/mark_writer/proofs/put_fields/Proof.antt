@@ -4,7 +4,7 @@ use Prim.Native.Nat.{_+_, _-_, _≤_}
 use native.Mathlib.Omega.{arith}
 use mathlib.Core.Path.{refl}
 use lib.ListN.{length}
-use Rattle.mark_writer.proofs.Splices.{Put, put-none, put-fits, put-more, put-all}
+use Rattle.bond_writer.proofs.Splices.{Put, put-none, put-fits, put-more, put-all}
 use Rattle.mark_writer.proofs.put_fields.Statement.{statement}
 use Rattle.mark_writer.proofs.put_fields.Tie as tie
 

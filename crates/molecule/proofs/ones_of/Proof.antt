@@ -48,7 +48,10 @@ loop-again c = counted-more (turn c .loop .inv) (c .before .loop-test .taken) (f
 returns : tie.Need-returns Inv-loop μ-loop
 returns c =
     let counted = c .before .loop .inv in
-    (counted-all counted (c .loop-test .left), counted-bytes counted (c .before .before .pre) (c .loop-test .left))
+    record {
+      ones-are = counted-all counted (c .loop-test .left);
+      bytes = λ size. counted-bytes counted size (c .loop-test .left);
+    }
 
 pub ones-of-spec : {M : Type 1} → statement M
 ones-of-spec =

@@ -1,5 +1,6 @@
 -- Rule 9.
 -- The tests in their order are the definition's; the rows' rules are one law.
+use native.Mathlib.Nat.{le-of-eq}
 use mathlib.Core.Path.{sym}
 use borrow.Author.Tests.{le-leb, lt-leb}
 use borrow.Author.Needs.{needs}
@@ -32,12 +33,17 @@ returns-4 c =
     let few-bonds : tie.Else2 = search in
     let rows : tie.Else3 = search in
     let sound = confirmed (rows .before .rows-sound .ensures) (rows .if3 .left) in
-    rw (c .ones-of .ensures .0)
-    (sym (rule-in-range (start .args .m) (few-atoms .if1 .left) (few-bonds .if2 .left) (c .ones-of .ensures .1) sound))
+    let ones = c .ones-of .ensures in
+    let bytes = ones .bytes (search needs) in
+    rw (ones .ones-are)
+    (sym (rule-in-range (start .args .m) (few-atoms .if1 .left) (few-bonds .if2 .left) bytes sound))
+
+ones-of-requires : tie.Need-ones-of-requires
+ones-of-requires c κs = le-of-eq (search needs)
 
 pub well-formed-spec : {M : Type 1} → statement M
 well-formed-spec =
     tie.close
     (tie.spec
-    returns returns-2 (λ c κs. search needs) returns-3 (λ c. search needs) (λ c κs. search needs) (λ c. search needs)
+    returns returns-2 (λ c κs. search needs) returns-3 (λ c. search needs) ones-of-requires (λ c. search needs)
     returns-4)

@@ -1,0 +1,3 @@
+pub mod BondSplices
+pub mod CellBonds
+pub mod Splices

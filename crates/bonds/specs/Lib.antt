@@ -1,0 +1,3 @@
+pub mod Bonds
+pub mod Parts
+pub mod Reading

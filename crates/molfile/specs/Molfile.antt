@@ -1,0 +1,135 @@
+-- Molfiles (document 02, F-1): what any bytes are read as, rules 18, 3, 4, 19, 6, 7, 8 and 20, each tried over the
+-- whole input before the next. Columns are counted from 0 here, lines too.
+use Prim.Native.Nat.{ℕ, _+_}
+use mathlib.Core.Bool.{Bool, false, _&&_, _||_, cond}
+use mathlib.Core.List.{List, [], _∷_}
+use lib.ListN.{length, take, drop}
+use lib.Dec.{leb, eqb}
+use Rattle.graph.specs.Every.{allBelow}
+use Rattle.fields.specs.declared.Number.{Number}
+use Rattle.fields.specs.Field.{afterBlanks, isValue, valueOf}
+use Rattle.refusal.specs.declared.Refusal.the-variants as refusal
+use Rattle.refusal.specs.Answers.{unlessRefused}
+use Rattle.molecule.specs.declared.Molecule.{Molecule}
+use Rattle.molecule.specs.Record.{neighbours}
+use Rattle.bonds.specs.declared.Reading.{Reading}
+use Rattle.bonds.specs.Bonds.{Bond}
+use Rattle.bonds.specs.Reading.{refusedReading, readBonds}
+use Rattle.sheet.specs.Read.{fewAtoms, fewBonds}
+use Rattle.molfile.specs.Lines.{linesIn, lineAt, reaches, stands}
+use Rattle.molfile.specs.Elements.{Table, limitOf}
+
+-- A number of three columns: blanks, then one or more digits, leading zeros allowed, right-justified
+abbrev pub numberAt : List ℕ → ℕ → Number
+numberAt line at = afterBlanks true (take 3 (drop at line))
+
+-- the two numbers in columns 1 to 3 and 4 to 6 of a line, and whether they are numbers
+abbrev pub pairKept : List ℕ → Bool
+pairKept line = isValue (numberAt line 0) && isValue (numberAt line 3)
+
+abbrev pub pairOf : List ℕ → Bond
+pairOf line = (valueOf (numberAt line 0), valueOf (numberAt line 3))
+
+-- "V2000" and "M  END"
+abbrev pub version : List ℕ
+version = 86 ∷ 50 ∷ 48 ∷ 48 ∷ 48 ∷ []
+
+abbrev pub endWord : List ℕ
+endWord = 77 ∷ 32 ∷ 32 ∷ 69 ∷ 78 ∷ 68 ∷ []
+
+-- ---- the lines
+
+-- The fourth has atoms in columns 1 to 3, bonds in 4 to 6 and V2000 in 35 to 39
+unfoldable pub countsKept : List ℕ → Bool
+countsKept line = reaches 39 line && pairKept line && stands version 34 line
+
+-- Atom lines have the symbol in columns 32 to 34
+abbrev pub atomKept : List ℕ → Bool
+atomKept line = reaches 34 line
+
+abbrev pub symbolIn : List ℕ → List ℕ
+symbolIn line = take 3 (drop 31 line)
+
+-- Bond lines have the two atoms in columns 1 to 3 and 4 to 6
+unfoldable pub bondKept : List ℕ → Bool
+bondKept line = reaches 6 line && pairKept line
+
+-- A line that is exactly M  END
+unfoldable pub isEnd : List ℕ → Bool
+isEnd line = eqb (length line) 6 && stands endWord 0 line
+
+-- there is one
+unfoldable pub hasEnd : List (List ℕ) → Bool
+hasEnd [] = false
+hasEnd (line ∷ lines) = isEnd line || hasEnd lines
+
+-- ---- what they name
+
+-- Three header lines are skipped; the fourth names n and m
+abbrev pub atomsOf : List (List ℕ) → ℕ
+atomsOf lines = pairOf (lineAt lines 3) .0
+
+abbrev pub bondsOf : List (List ℕ) → ℕ
+bondsOf lines = pairOf (lineAt lines 3) .1
+
+-- then n atom lines, m bond lines, and what follows them
+abbrev pub atomLine : List (List ℕ) → ℕ → List ℕ
+atomLine lines i = lineAt lines (4 + i)
+
+abbrev pub bondLine : List (List ℕ) → ℕ → List ℕ
+bondLine lines k = lineAt lines (4 + atomsOf lines + k)
+
+abbrev pub pastBonds : List (List ℕ) → List (List ℕ)
+pastBonds lines = drop (4 + atomsOf lines + bondsOf lines) lines
+
+abbrev pub bondOf : List (List ℕ) → ℕ → Bond
+bondOf lines k = pairOf (bondLine lines k)
+
+-- Rule 18 kept: no line (M  END too) or line feed is missing, each line reaches the last column named for it, V2000 is
+-- in its columns, and every number is one
+unfoldable pub formKept : List (List ℕ) → Bool
+formKept lines =
+    countsKept (lineAt lines 3)
+    && allBelow (atomsOf lines) (λ i. atomKept (atomLine lines i))
+    && allBelow (bondsOf lines) (λ k. bondKept (bondLine lines k))
+    && hasEnd (pastBonds lines)
+
+-- ---- the rules on n, m, the most neighbours of each atom (0: its symbol is not in the table), and the bonds
+
+-- Rule 19 kept: every symbol is in the table
+unfoldable pub symbolsKept : (ℕ → ℕ) → ℕ → Bool
+symbolsKept limit n = allBelow n (λ i. leb 1 (limit i))
+
+-- Rule 20 kept: no atom has too many neighbours
+unfoldable pub neighboursKept : (ℕ → ℕ) → ℕ → List ℕ → Bool
+neighboursKept limit n rows = allBelow n (λ i. leb (neighbours rows i) (limit i))
+
+-- rule 20 on what the bonds are read as
+abbrev pub withinLimits : (ℕ → ℕ) → Reading → Reading
+withinLimits limit read =
+    unlessRefused (read .answer) refusedReading
+    (cond (neighboursKept limit (read .molecule .atoms) (read .molecule .rows)) read
+    (refusedReading refusal.TooManyNeighbours))
+
+-- Rules 3, 4, 19, then 6, 7 and 8, then 20
+unfoldable pub readAtoms : ℕ → ℕ → (ℕ → ℕ) → (ℕ → Bond) → Reading
+readAtoms n m limit bond =
+    cond (fewAtoms n)
+    (cond (fewBonds m)
+    (cond (symbolsKept limit n) (withinLimits limit (readBonds n bond m)) (refusedReading refusal.UnknownSymbol))
+    (refusedReading refusal.TooManyBonds))
+    (refusedReading refusal.TooManyAtoms)
+
+-- the most neighbours of each atom, by its symbol
+abbrev pub limitsOf : Table → List (List ℕ) → ℕ → ℕ
+limitsOf table lines i = limitOf table (symbolIn (atomLine lines i))
+
+-- What lines are read as: rule 18 first
+unfoldable pub readLines : Table → List (List ℕ) → Reading
+readLines table lines =
+    cond (formKept lines) (readAtoms (atomsOf lines) (bondsOf lines) (limitsOf table lines) (bondOf lines))
+    (refusedReading refusal.MolfileLines)
+
+-- What a molfile is read as with a table
+abbrev pub readMolfile : Table → List ℕ → Reading
+readMolfile table bytes = readLines table (linesIn bytes)
