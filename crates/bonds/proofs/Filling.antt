@@ -17,8 +17,8 @@ use Rattle.bonds.proofs.Tables.{Kept, kept-fewer, tables, isNew, new-bo
 use Rattle.bonds.proofs.Answers.{bonds-read}
 
 -- a record with given rows
-abbrev pub filledSheet : ℕ → ℕ → List ℕ → Reading
-filledSheet n m rows = record { answer = Accepted; molecule = record { atoms = n; bonds = m; rows = rows } }
+abbrev pub filledReading : ℕ → ℕ → List ℕ → Reading
+filledReading n m rows = record { answer = Accepted; molecule = record { atoms = n; bonds = m; rows = rows } }
 
 -- the rows are those of the first k bonds, no two of which are the same
 pub record Filled (bond : ℕ → Bond) (m k : ℕ) (rows : List ℕ) : Type 0 where
@@ -36,11 +36,11 @@ module _ {n : ℕ} {bond : ℕ → Bond} {m k : ℕ} {rows : List ℕ} (filled :
 
   -- after the last bond
   pub filled-all :
-      atomsKept n bond m ≡ true → noneToItself bond m ≡ true → m ≤ k → filledSheet n m rows ≡ readBonds n bond m
+      atomsKept n bond m ≡ true → noneToItself bond m ≡ true → m ≤ k → filledReading n m rows ≡ readBonds n bond m
   filled-all range apart last =
       let same : k ≡ m = omega (arith, filled .most) in
       let rows-all : rows ≡ rowsOf bond m = rw same at (filled .rows-are) in
-      ap (filledSheet n m) rows-all ∙ sym (bonds-read n bond m range apart (rw same at (filled .none-twice)))
+      ap (filledReading n m) rows-all ∙ sym (bonds-read n bond m range apart (rw same at (filled .none-twice)))
 
 -- the loop is at bond k, whose atoms are a and b
 pub record AtBond (n : ℕ) (bond : ℕ → Bond) (m k : ℕ) (rows : List ℕ) (a b : ℕ) : Type 0 where

@@ -5,6 +5,7 @@ use native.Mathlib.Omega.{arith}
 use mathlib.Core.Path.{_≡_, refl, ap, sym, _∙_}
 use mathlib.Core.Bool.{Bool, true, false, _&&_, cond}
 use mathlib.Core.Logic.{_⊎_, inl, inr, _↔_}
+use lib.ListN.{length}
 use lib.Dec.{eqb}
 use borrow.Author.Tests.{eqb-true, eq-eqb}
 use Rattle.graph.proofs.Below.{either, and-parts}
@@ -14,9 +15,9 @@ use Rattle.molecule.specs.Record.{bonded, onesOf, wellFormed}
 use Rattle.molecule.proofs.Rules.{rows-of-bytes, Sound, bytes-of-sound, rule-in-range}
 use Rattle.molecule.proofs.Bonds.{bonded-cell, bonded-facts}
 use Rattle.bonds.specs.declared.Reading.{Reading}
-use Rattle.bonds.specs.Bonds.{Bond, samePair, noneTwice, rowsOf}
-use Rattle.bonds.specs.Reading.{refusedReading}
-use Rattle.bonds.proofs.Tables.{Kept, Joins, joins-swaps, Table, tables}
+use Rattle.bonds.specs.Bonds.{Bond, atomsKept, noneToItself, samePair, noneTwice, rowsOf}
+use Rattle.bonds.specs.Reading.{refusedReading, acceptedReading, readBonds}
+use Rattle.bonds.proofs.Tables.{Kept, kept-of, Joins, joins-swaps, Table, tables}
 
 -- a rule that was kept on the way to an accepted text
 pub kept-on :
@@ -119,3 +120,36 @@ module _ (n : ℕ) (bond : ℕ → Bond) (m : ℕ) (kept : Kept n bond m) where
       rule-in-range (record { atoms = n; bonds = m; rows = rowsOf bond m }) (kept .few) light
       (rows-of-bytes (table .bytes)) kept-rows
       ∙ eq-eqb (onesOf (rowsOf bond m)) (2 * m) (table .ones-count twice)
+
+-- ---- bonds that are accepted
+
+-- the rules that they keep, and what they are read as
+pub record BondsTaken (n : ℕ) (bond : ℕ → Bond) (m : ℕ) : Type 0 where
+  pub atoms-kept : atomsKept n bond m ≡ true
+  pub none-to-itself : noneToItself bond m ≡ true
+  pub none-twice : noneTwice bond m ≡ true
+  pub reads : readBonds n bond m ≡ acceptedReading n bond m
+
+pub bonds-taken : (n : ℕ) (bond : ℕ → Bond) (m : ℕ) → readBonds n bond m .answer ≡ Accepted → BondsTaken n bond m
+unfolding readBonds
+bonds-taken n bond m e =
+    let r6 = kept-on (atomsKept n bond m) _ _ e in
+    let r7 = kept-on (noneToItself bond m) _ _ (r6 .1) in
+    let r8 = kept-on (noneTwice bond m) _ _ (r7 .1) in
+    record {
+      atoms-kept = r6 .0;
+      none-to-itself = r7 .0;
+      none-twice = r8 .0;
+      reads = rw (r6 .0, r7 .0, r8 .0);
+    }
+
+module _ {n : ℕ} {bond : ℕ → Bond} {m : ℕ} (few : n ≤ 128) (taken : BondsTaken n bond m) where
+  pub taken-kept : Kept n bond m
+  taken-kept = kept-of few (taken .atoms-kept) (taken .none-to-itself)
+
+  pub taken-size : length (readBonds n bond m .molecule .rows) ≡ 2048
+  taken-size = rw (taken .reads) (tables m taken-kept .bytes .size)
+
+  -- Their record satisfies rule 9
+  pub taken-well-formed : m ≤ 1024 → wellFormed (readBonds n bond m .molecule) ≡ true
+  taken-well-formed light = rw (taken .reads) (record-well-formed n bond m taken-kept light (taken .none-twice))

@@ -3,10 +3,11 @@
 use Prim.Native.Nat.{ℕ, _+_, _*_, _≤_, _<_}
 use native.Mathlib.Numerals.{add-one}
 use native.Mathlib.Omega.{arith}
-use mathlib.Core.Path.{_≡_, refl, sym, _∙_}
+use mathlib.Core.Path.{_≡_, refl, ap₂, sym, _∙_}
 use mathlib.Core.Bool.{Bool, true, false, _&&_, not, and-true, and-false}
 use mathlib.Core.List.{List}
-use lib.ListN.{getD}
+use lib.ListN.{length, getD, set, length-set}
+use lib.Seq.{getD-set-same, getD-set-other}
 use lib.Dec.{eqb}
 use borrow.Author.Tests.{eq-eqb, ne-eqb}
 use Rattle.graph.specs.Every.{allBelow}
@@ -15,7 +16,7 @@ use Rattle.graph.proofs.Loops.{all-fails, all-more}
 use Rattle.molecule.specs.Record.{isAtom}
 use Rattle.bonds.specs.Bonds.{Bond, atomsKept, noneToItself}
 use Rattle.bonds.specs.declared.BondsKept.{BondsKept}
-use Rattle.bonds.specs.Parts.{stored, storedBond, KeepsBonds}
+use Rattle.bonds.specs.Parts.{stored, storedBond, RoomFor, KeepsBonds}
 
 unfoldable pub within : ℕ → (ℕ → Bond) → ℕ → Bool
 within n bond k = isAtom n (bond k .0) && isAtom n (bond k .1)
@@ -30,6 +31,33 @@ atoms-kept-is n bond m = refl
 pub none-to-itself-is : (bond : ℕ → Bond) (m : ℕ) → noneToItself bond m ≡ allBelow m (differs bond)
 unfolding noneToItself differs
 none-to-itself-is bond m = refl
+
+-- ---- the list of values, with the numbers a and b put at place k of it
+
+module _ (values : List ℕ) (k a b : ℕ) where
+  abbrev one : List ℕ
+  one = set values (2 * k) a
+
+  abbrev both : List ℕ
+  both = set one (2 * k + 1) b
+
+  pub stored-here : RoomFor (k + 1) values → stored both k ≡ (a, b)
+  unfolding stored
+  stored-here room =
+      let room-one : 2 * k + 1 < length one = rw length-set (omega arith) in
+      let other = getD-set-other one (2 * k + 1) (2 * k) b 0 (omega arith) in
+      let left = other ∙ getD-set-same values (2 * k) a 0 (omega arith) in
+      let right = getD-set-same one (2 * k + 1) b 0 room-one in
+      ap₂ (λ x y. (x, y)) left right
+
+  pub stored-other : (j : ℕ) → (j ≡ k → ⊥) → stored both j ≡ stored values j
+  unfolding stored
+  stored-other j n =
+      let left-two = getD-set-other one (2 * k + 1) (2 * j) b 0 (omega arith) in
+      let left-one = getD-set-other values (2 * k) (2 * j) a 0 (λ e. n (omega arith)) in
+      let right-two = getD-set-other one (2 * k + 1) (2 * j + 1) b 0 (λ e. n (omega arith)) in
+      let right-one = getD-set-other values (2 * k) (2 * j + 1) a 0 (omega arith) in
+      ap₂ (λ x y. (x, y)) (left-two ∙ left-one) (right-two ∙ right-one)
 
 -- the stored numbers of bond k, as the code reads them
 module _ (values : List ℕ) (k : ℕ) where

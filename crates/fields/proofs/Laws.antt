@@ -56,6 +56,11 @@ blanks-read zeros (b ∷ bs) v filled e = go (blanks-read zeros bs v filled) (eq
           most = digits-limit zeros (b - 48) bs v filled (omega arith) rest;
         }
 
+-- The value of blanks and digits fits their columns
+pub blanks-fit :
+    (zeros : Bool) (bs : List ℕ) (v : ℕ) (filled : Bool) → afterBlanks zeros bs ≡ Value v filled → v < 10 ^ length bs
+blanks-fit zeros bs v filled e = blanks-read zeros bs v filled e .below
+
 -- a field that begins with a digit 0
 first-byte : (bs : List ℕ) → zeroFirst bs ≡ true → (rest : List ℕ) × (bs ≡ 48 ∷ rest)
 first-byte [] e = absurd (true≢false (sym e))

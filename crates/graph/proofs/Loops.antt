@@ -3,7 +3,7 @@
 use Prim.Native.Nat.{ℕ, _+_, _≤_, _<_}
 use native.Mathlib.Numerals.{add-one}
 use native.Mathlib.Omega.{arith}
-use mathlib.Core.Path.{_≡_}
+use mathlib.Core.Path.{_≡_, refl, sym}
 use mathlib.Core.Bool.{Bool, true, false}
 use Rattle.graph.specs.Every.{allBelow}
 use Rattle.graph.proofs.Below.{and-both, clash, false-of, allBelow-at}
@@ -16,3 +16,22 @@ all-more i test a t = rw add-one (and-both (allBelow i test) (test i) a t)
 
 pub all-done : (i k : ℕ) (test : ℕ → Bool) → i ≤ k → k ≤ i → allBelow i test ≡ true → allBelow k test ≡ true
 all-done i k test l u a = let same : i ≡ k = omega arith in rw same at a
+
+-- ---- the loop as a record: the first i of n numbers pass
+
+pub record Passing (test : ℕ → Bool) (n i : ℕ) : Type 0 where
+  pub within : i ≤ n
+  pub all : allBelow i test ≡ true
+
+pub passing-none : {test : ℕ → Bool} {n : ℕ} → Passing test n 0
+passing-none = record { within = omega arith; all = refl }
+
+module _ {test : ℕ → Bool} {n i : ℕ} (passing : Passing test n i) where
+  pub passing-more : i < n → test i ≡ true → Passing test n (i + 1)
+  passing-more more here = record { within = omega arith; all = all-more i test (passing .all) here }
+
+  pub passing-not : i < n → test i ≡ false → false ≡ allBelow n test
+  passing-not more here = sym (all-fails n test i more here)
+
+  pub passing-all : n ≤ i → true ≡ allBelow n test
+  passing-all end = sym (all-done i n test (passing .within) end (passing .all))

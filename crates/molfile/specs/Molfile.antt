@@ -1,7 +1,7 @@
 -- Molfiles (document 02, F-1): what any bytes are read as, rules 18, 3, 4, 19, 6, 7, 8 and 20, each tried over the
 -- whole input before the next. Columns are counted from 0 here, lines too.
 use Prim.Native.Nat.{ℕ, _+_}
-use mathlib.Core.Bool.{Bool, false, _&&_, _||_, cond}
+use mathlib.Core.Bool.{Bool, true, false, _&&_, _||_, cond}
 use mathlib.Core.List.{List, [], _∷_}
 use lib.ListN.{length, take, drop}
 use lib.Dec.{leb, eqb}
@@ -10,7 +10,6 @@ use Rattle.fields.specs.declared.Number.{Number}
 use Rattle.fields.specs.Field.{afterBlanks, isValue, valueOf}
 use Rattle.refusal.specs.declared.Refusal.the-variants as refusal
 use Rattle.refusal.specs.Answers.{unlessRefused}
-use Rattle.molecule.specs.declared.Molecule.{Molecule}
 use Rattle.molecule.specs.Record.{neighbours}
 use Rattle.bonds.specs.declared.Reading.{Reading}
 use Rattle.bonds.specs.Bonds.{Bond}
@@ -105,18 +104,17 @@ unfoldable pub neighboursKept : (ℕ → ℕ) → ℕ → List ℕ → Bool
 neighboursKept limit n rows = allBelow n (λ i. leb (neighbours rows i) (limit i))
 
 -- rule 20 on what the bonds are read as
-abbrev pub withinLimits : (ℕ → ℕ) → Reading → Reading
-withinLimits limit read =
+abbrev pub withinLimits : (ℕ → ℕ) → ℕ → Reading → Reading
+withinLimits limit n read =
     unlessRefused (read .answer) refusedReading
-    (cond (neighboursKept limit (read .molecule .atoms) (read .molecule .rows)) read
-    (refusedReading refusal.TooManyNeighbours))
+    (cond (neighboursKept limit n (read .molecule .rows)) read (refusedReading refusal.TooManyNeighbours))
 
 -- Rules 3, 4, 19, then 6, 7 and 8, then 20
 unfoldable pub readAtoms : ℕ → ℕ → (ℕ → ℕ) → (ℕ → Bond) → Reading
 readAtoms n m limit bond =
     cond (fewAtoms n)
     (cond (fewBonds m)
-    (cond (symbolsKept limit n) (withinLimits limit (readBonds n bond m)) (refusedReading refusal.UnknownSymbol))
+    (cond (symbolsKept limit n) (withinLimits limit n (readBonds n bond m)) (refusedReading refusal.UnknownSymbol))
     (refusedReading refusal.TooManyBonds))
     (refusedReading refusal.TooManyAtoms)
 

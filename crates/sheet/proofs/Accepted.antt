@@ -11,10 +11,9 @@ use Rattle.refusal.specs.declared.Answer.the-variants.{Accepted}
 use Rattle.molecule.specs.declared.Molecule.{Molecule}
 use Rattle.molecule.specs.Record.{bonded, wellFormed}
 use Rattle.bonds.specs.declared.Reading.{Reading}
-use Rattle.bonds.specs.Bonds.{atomsKept, noneToItself, noneTwice}
-use Rattle.bonds.specs.Reading.{acceptedReading, readBonds}
-use Rattle.bonds.proofs.Tables.{Kept, kept-of, Joins}
-use Rattle.bonds.proofs.Record.{kept-on, record-bonds, record-well-formed}
+use Rattle.bonds.specs.Reading.{readBonds}
+use Rattle.bonds.proofs.Tables.{Joins}
+use Rattle.bonds.proofs.Record.{kept-on, record-bonds, BondsTaken, bonds-taken, taken-kept, taken-well-formed}
 use Rattle.sheet.specs.Read.{lengthKept, linesKept, atomsOf, bondsOf, bondOf}
 use Rattle.sheet.specs.Read.{fewAtoms, fewBonds, sizeKept, readSheet}
 
@@ -25,43 +24,32 @@ pub record Rules (s : List ℕ) : Type 0 where
   pub few : atomsOf s ≤ 128
   pub light : bondsOf s ≤ 1024
   pub size : length s ≡ 9 * suc (bondsOf s)
-  pub atoms-kept : atomsKept (atomsOf s) (bondOf s) (bondsOf s) ≡ true
-  pub none-to-itself : noneToItself (bondOf s) (bondsOf s) ≡ true
-  pub none-twice : noneTwice (bondOf s) (bondsOf s) ≡ true
-  pub reads : readSheet s ≡ acceptedReading (atomsOf s) (bondOf s) (bondsOf s)
+  pub taken : BondsTaken (atomsOf s) (bondOf s) (bondsOf s)
+  pub reads : readSheet s ≡ readBonds (atomsOf s) (bondOf s) (bondsOf s)
 
 pub accepted-rules : (s : List ℕ) → readSheet s .answer ≡ Accepted → Rules s
-unfolding readSheet readBonds
+unfolding readSheet
 accepted-rules s e =
     let r1 = kept-on (lengthKept s) _ _ e in
     let r2 = kept-on (linesKept s) _ _ (r1 .1) in
     let r3 = kept-on (fewAtoms (atomsOf s)) _ _ (r2 .1) in
     let r4 = kept-on (fewBonds (bondsOf s)) _ _ (r3 .1) in
     let r5 = kept-on (sizeKept (length s) (bondsOf s)) _ _ (r4 .1) in
-    let r6 = kept-on (atomsKept (atomsOf s) (bondOf s) (bondsOf s)) _ _ (r5 .1) in
-    let r7 = kept-on (noneToItself (bondOf s) (bondsOf s)) _ _ (r6 .1) in
-    let r8 = kept-on (noneTwice (bondOf s) (bondsOf s)) _ _ (r7 .1) in
     record {
       length-kept = r1 .0;
       lines-kept = r2 .0;
       few = leb-true (atomsOf s) 128 (r3 .0);
       light = leb-true (bondsOf s) 1024 (r4 .0);
       size = eqb-true (length s) (9 * suc (bondsOf s)) (r5 .0);
-      atoms-kept = r6 .0;
-      none-to-itself = r7 .0;
-      none-twice = r8 .0;
-      reads = rw (r1 .0, r2 .0, r3 .0, r4 .0, r5 .0, r6 .0, r7 .0, r8 .0);
+      taken = bonds-taken (atomsOf s) (bondOf s) (bondsOf s) (r5 .1);
+      reads = rw (r1 .0, r2 .0, r3 .0, r4 .0, r5 .0);
     }
-
-rules-kept : {s : List ℕ} → Rules s → Kept (atomsOf s) (bondOf s) (bondsOf s)
-rules-kept rules = kept-of (rules .few) (rules .atoms-kept) (rules .none-to-itself)
 
 -- An accepted sheet's record satisfies rule 9
 pub accepted-well-formed : (s : List ℕ) → readSheet s .answer ≡ Accepted → wellFormed (readSheet s .molecule) ≡ true
 accepted-well-formed s e =
     let rules = accepted-rules s e in
-    let formed = record-well-formed (atomsOf s) (bondOf s) (bondsOf s) (rules-kept rules) in
-    rw (rules .reads) (formed (rules .light) (rules .none-twice))
+    rw (rules .reads) (taken-well-formed (rules .few) (rules .taken) (rules .light))
 
 -- Its atoms, bonds and pairs are the sheet's
 pub record SameAs (s : List ℕ) (mol : Molecule) : Type 0 where
@@ -72,8 +60,8 @@ pub record SameAs (s : List ℕ) (mol : Molecule) : Type 0 where
 pub accepted-same : (s : List ℕ) → readSheet s .answer ≡ Accepted → SameAs s (readSheet s .molecule)
 accepted-same s e =
     let rules = accepted-rules s e in
-    let pairs = record-bonds (atomsOf s) (bondOf s) (bondsOf s) (rules-kept rules) in
-    rw (rules .reads) (record { atoms = refl; bonds = refl; pairs = pairs })
+    let pairs = record-bonds (atomsOf s) (bondOf s) (bondsOf s) (taken-kept (rules .few) (rules .taken)) in
+    rw (rules .reads, rules .taken .reads) (record { atoms = refl; bonds = refl; pairs = pairs })
 
 -- ---- a sheet that an entry has read
 

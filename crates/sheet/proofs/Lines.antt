@@ -8,13 +8,13 @@ use mathlib.Core.Bool.{Bool, true, false, true≢false}
 use mathlib.Core.List.{List}
 use mathlib.Core.Logic.{⊎-elim}
 use lib.ListN.{length, getD, set, length-set}
-use lib.Seq.{getD-set-same, getD-set-other}
 use borrow.Author.Tests.{eq-eqb, ne-eqb}
 use Rattle.graph.specs.Every.{allBelow}
 use Rattle.graph.proofs.Loops.{all-fails, all-more}
 use Rattle.fields.specs.declared.Number.the-variants.{Value, Bad}
 use Rattle.fields.specs.Field.{fieldAt}
 use Rattle.fields.proofs.Laws.{value-fits}
+use Rattle.bonds.proofs.Stored.{stored-here, stored-other}
 use Rattle.sheet.specs.declared.Entry.{Entry}
 use Rattle.bonds.specs.Bonds.{Bond}
 use Rattle.sheet.specs.Read.{lineKept, lineOf}
@@ -63,29 +63,8 @@ field-small s at e = let fits = rw e at (value-fits 4 s at) in omega arith
 -- ---- the list of values, with the numbers a and b of line i put at place k of it
 
 module _ (values : List ℕ) (line : ℕ → Bond) (i a b k : ℕ) (room : RoomFor (k + 1) values) (slot : k ≡ min i 1025) where
-  abbrev one : List ℕ
-  one = set values (2 * k) a
-
   abbrev both : List ℕ
-  both = set one (2 * k + 1) b
-
-  stored-here : stored both k ≡ (a, b)
-  unfolding stored
-  stored-here =
-      let room-one : 2 * k + 1 < length one = rw length-set (omega arith) in
-      let other = getD-set-other one (2 * k + 1) (2 * k) b 0 (omega arith) in
-      let left = other ∙ getD-set-same values (2 * k) a 0 (omega arith) in
-      let right = getD-set-same one (2 * k + 1) b 0 room-one in
-      ap₂ (λ x y. (x, y)) left right
-
-  stored-other : (j : ℕ) → (j ≡ k → ⊥) → stored both j ≡ stored values j
-  unfolding stored
-  stored-other j n =
-      let left-two = getD-set-other one (2 * k + 1) (2 * j) b 0 (omega arith) in
-      let left-one = getD-set-other values (2 * k) (2 * j) a 0 (λ e. n (omega arith)) in
-      let right-two = getD-set-other one (2 * k + 1) (2 * j + 1) b 0 (λ e. n (omega arith)) in
-      let right-one = getD-set-other values (2 * k) (2 * j + 1) a 0 (omega arith) in
-      ap₂ (λ x y. (x, y)) (left-two ∙ left-one) (right-two ∙ right-one)
+  both = set (set values (2 * k) a) (2 * k + 1) b
 
   decodes-more : Decodes values line i → (a, b) ≡ line i → Decodes both line (i + 1)
   decodes-more d new = record { at = here }
@@ -94,13 +73,13 @@ module _ (values : List ℕ) (line : ℕ → Bond) (i a b k : ℕ) (room : RoomF
       here j h small =
           ⊎-elim
           (λ (e : j ≡ i). last e)
-          (λ (l : j < i). stored-other j (omega arith) ∙ d .at j l small)
+          (λ (l : j < i). stored-other values k a b j (omega arith) ∙ d .at j l small)
           (eq-or-lt-of-le (omega arith))
         where
           last : j ≡ i → stored both j ≡ line j
           last e =
               let same : j ≡ k = omega arith in
-              ap (stored both) same ∙ stored-here ∙ new ∙ ap line (sym e)
+              ap (stored both) same ∙ stored-here values k a b room ∙ new ∙ ap line (sym e)
 
 -- ---- the loop over the lines: those before i are kept, and their numbers are stored
 -- `start` is the list of values before the first

@@ -1,0 +1,4 @@
+pub mod Elements
+pub mod Lines
+pub mod Molfile
+pub mod Parts
