@@ -17,7 +17,7 @@ use Rattle.bond_writer.proofs.CellBonds.{columns-beyond, rows-beyond}
 
 -- ---- lines
 
-lines-append : (xs ys : List Bond) → bondLines (xs ++ ys) ≡ bondLines xs ++ bondLines ys
+pub lines-append : (xs ys : List Bond) → bondLines (xs ++ ys) ≡ bondLines xs ++ bondLines ys
 unfolding bondLines
 lines-append [] ys = refl
 lines-append (x ∷ xs) ys = rw (lines-append xs ys, ← append-assoc)

@@ -13,7 +13,6 @@ use Rattle.refusal.specs.declared.Refusal.{Refusal}
 use Rattle.refusal.specs.declared.Answer.the-variants.{Accepted, Refused}
 use Rattle.refusal.specs.Number.{numberOf}
 use Rattle.bonds.specs.declared.Reading.{Reading}
-use Rattle.sheet.specs.Read.{readSheet}
 use Rattle.bond_writer.proofs.Splices.{filled}
 use Rattle.flat.specs.Codes.{wrongLength, flatBytes, readCode, readOutput}
 
@@ -79,25 +78,22 @@ behind-head head rest rows out part four same whole copied =
     post-is : postOf 4 (length out - 4) out ≡ []
     post-is = drop-of-length-le (drop 4 out) short
 
--- what reading a sheet returns and writes, by its answer
-module _ (sheet out : List ℕ) where
+-- what a reader returns and writes, by its answer
+module _ (read : Reading) (out : List ℕ) where
   abbrev Left : ℕ → List ℕ → Type 0
-  Left code out′ = (code ≡ readCode sheet out) × (out′ ≡ readOutput sheet out)
+  Left code out′ = (code ≡ readCode read out) × (out′ ≡ readOutput read out)
 
   pub read-wrong-length : (length out ≡ 2052 → ⊥) → Left wrongLength out
   unfolding readCode readOutput
   read-wrong-length wrong = (rw (ne-eqb (length out) 2052 wrong), rw (ne-eqb (length out) 2052 wrong))
 
-  -- the code read the sheet
-  module _ (size : length out ≡ 2052) {read : Reading} (same : read ≡ readSheet sheet) where
+  module _ (size : length out ≡ 2052) where
     pub read-accepted : read .answer ≡ Accepted → {out′ : List ℕ} → out′ ≡ flatBytes (read .molecule) → Left 0 out′
     unfolding readCode readOutput
     read-accepted accepted written =
-        let answer = rw same at accepted in
-        (rw (eq-eqb (length out) 2052 size, answer), rw (eq-eqb (length out) 2052 size, answer) (rw same at written))
+        (rw (eq-eqb (length out) 2052 size, accepted), rw (eq-eqb (length out) 2052 size, accepted) written)
 
     pub read-refused : {r : Refusal} → read .answer ≡ Refused r → {code : ℕ} → code ≡ numberOf r → Left code out
     unfolding readCode readOutput
     read-refused refused is =
-        let answer = rw same at refused in
-        (rw (eq-eqb (length out) 2052 size, answer) is, rw (eq-eqb (length out) 2052 size, answer))
+        (rw (eq-eqb (length out) 2052 size, refused) is, rw (eq-eqb (length out) 2052 size, refused))

@@ -14,7 +14,7 @@ use Rattle.molecule.specs.Record.{wellFormed}
 use Rattle.judge.specs.declared.Verdict.{Verdict}
 use Rattle.judge.specs.declared.Verdict.the-variants as verdict
 use Rattle.judge.specs.Verdict.{judgeRing, judgePath}
-use Rattle.sheet.specs.Read.{readSheet}
+use Rattle.bonds.specs.declared.Reading.{Reading}
 use Rattle.counter.specs.declared.Counted.{Counted}
 use Rattle.counter.specs.declared.Counted.the-variants as counted
 use Rattle.counter.specs.Count.{countShortest}
@@ -51,17 +51,18 @@ headBytes atoms bonds = atoms % 256 ∷ atoms / 256 % 256 ∷ bonds % 256 ∷ bo
 unfoldable pub flatBytes : Molecule → List ℕ
 flatBytes mol = headBytes (mol .atoms) (mol .bonds) ++ mol .rows
 
-unfoldable pub readCode : List ℕ → List ℕ → ℕ
-readCode sheet out = cond (eqb (length out) 2052) (answerCode (readSheet sheet .answer)) wrongLength
+-- what a reader returns for what a text is read as
+unfoldable pub readCode : Reading → List ℕ → ℕ
+readCode read out = cond (eqb (length out) 2052) (answerCode (read .answer)) wrongLength
 
 -- the new list where an entry accepts; nothing changes otherwise
 abbrev pub ifAccepted : Answer → List ℕ → List ℕ → List ℕ
 ifAccepted Accepted new old = new
 ifAccepted (Refused r) new old = old
 
-unfoldable pub readOutput : List ℕ → List ℕ → List ℕ
-readOutput sheet out =
-    cond (eqb (length out) 2052) (ifAccepted (readSheet sheet .answer) (flatBytes (readSheet sheet .molecule)) out) out
+-- and what it leaves in its output
+unfoldable pub readOutput : Reading → List ℕ → List ℕ
+readOutput read out = cond (eqb (length out) 2052) (ifAccepted (read .answer) (flatBytes (read .molecule)) out) out
 
 unfoldable pub checkCode : ℕ → ℕ → List ℕ → ℕ
 checkCode atoms bonds rows =

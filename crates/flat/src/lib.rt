@@ -4,6 +4,9 @@ ghost use Prim.Native.Nat.{_≤_};
 ghost use mathlib.Core.List.{_++_};
 ghost use lib.ListN.{length, drop};
 ghost use Rattle.fields.specs.Field.{readField, fieldText};
+ghost use Rattle.sheet.specs.Read.{readSheet};
+ghost use Rattle.molfile.specs.Elements.{builtIn};
+ghost use Rattle.molfile.specs.Molfile.{readMolfile};
 ghost use Rattle.search.specs.Entries.{startRings, startPaths, startShortest, startRingsUpTo};
 ghost use Rattle.search.specs.Mark.{restoreMark};
 ghost use Rattle.flat.specs.Codes.{verdictCode, fieldCode, zerosCode, headBytes, flatBytes, molecule};
@@ -11,6 +14,7 @@ ghost use Rattle.flat.specs.Codes.{readCode, readOutput, checkCode, ring
 ghost use Rattle.flat.specs.Codes.{countCode, countOutput};
 ghost use Rattle.flat.specs.Searches.{SizesTold, SearchSize, searchFrom, Packed, MadeStored, RanStored};
 ghost use Rattle.flat.specs.Searches.{MadeLeft, RunLeft, SaveLeft};
+use bonds::Reading;
 use counter::Counted;
 use fields::Number;
 use judge::Verdict;
@@ -67,16 +71,14 @@ fn flatten(m: Molecule, out: &mut [u8])
     bytes::copy(&rows, &mut out[4..]);
 }
 
-// Reads a sheet into a record of 2,052 bytes.
-#[no_mangle]
-pub extern "C" fn flat_read_sheet(sheet: &[u8], record: &mut [u8]) -> u32
-    ensures { λ r. ⌜ r ≡ readCode (now (sheet .entry)) (now («record» .entry)) ⌝ }
-    ensures { λ _. ⌜ now («record» .exit) ≡ readOutput (now (sheet .entry)) (now («record» .entry)) ⌝ }
+// Puts what a text was read as into a record of 2,052 bytes.
+fn put_reading(read: Reading, record: &mut [u8]) -> u32
+    ensures { λ r. ⌜ r ≡ readCode read (now («record» .entry)) ⌝ }
+    ensures { λ _. ⌜ now («record» .exit) ≡ readOutput read (now («record» .entry)) ⌝ }
 {
     if record.len() != 2052 {
         return 10000;
     }
-    let read = sheet::read_sheet(sheet);
     let answer = read.answer;
     let m = read.molecule;
     match answer {
@@ -86,6 +88,26 @@ pub extern "C" fn flat_read_sheet(sheet: &[u8], record: &mut [u8]) -> u32
         }
         Answer::Refused(r) => refusal::number(r),
     }
+}
+
+// Reads a sheet into a record of 2,052 bytes.
+#[no_mangle]
+pub extern "C" fn flat_read_sheet(sheet: &[u8], record: &mut [u8]) -> u32
+    ensures { λ r. ⌜ r ≡ readCode (readSheet (now (sheet .entry))) (now («record» .entry)) ⌝ }
+    ensures { λ _. ⌜ now («record» .exit) ≡ readOutput (readSheet (now (sheet .entry))) (now («record» .entry)) ⌝ }
+{
+    put_reading(sheet::read_sheet(sheet), record)
+}
+
+// Reads a molfile into a record of 2,052 bytes.
+#[no_mangle]
+pub extern "C" fn flat_read_molfile(molfile: &[u8], record: &mut [u8]) -> u32
+    ensures { λ r. ⌜ r ≡ readCode (readMolfile builtIn (now (molfile .entry))) (now («record» .entry)) ⌝ }
+    ensures { λ _.
+        let read = readMolfile builtIn (now (molfile .entry)) in
+        ⌜ now («record» .exit) ≡ readOutput read (now («record» .entry)) ⌝ }
+{
+    put_reading(molfile::read_molfile(molfile), record)
 }
 
 // Rule 9.

@@ -1,3 +1,4 @@
+pub mod Accepted
 pub mod Columns
 pub mod Elements
 pub mod Ends

@@ -1,6 +1,6 @@
 -- Molfiles (document 02, F-1): what any bytes are read as, rules 18, 3, 4, 19, 6, 7, 8 and 20, each tried over the
 -- whole input before the next. Columns are counted from 0 here, lines too.
-use Prim.Native.Nat.{ℕ, _+_}
+use Prim.Native.Nat.{ℕ, zero, suc, _+_}
 use mathlib.Core.Bool.{Bool, true, false, _&&_, _||_, cond}
 use mathlib.Core.List.{List, [], _∷_}
 use lib.ListN.{length, take, drop}
@@ -131,3 +131,13 @@ readLines table lines =
 -- What a molfile is read as with a table
 abbrev pub readMolfile : Table → List ℕ → Reading
 readMolfile table bytes = readLines table (linesIn bytes)
+
+-- ---- the bonds that lines name, as a list, for the law that an accepted file is read as the sheet with the same bonds
+
+-- the first m of some bonds
+unfoldable pub firstBonds : (ℕ → Bond) → ℕ → List Bond
+firstBonds bond zero = []
+firstBonds bond (suc m) = bond 0 ∷ firstBonds (λ k. bond (suc k)) m
+
+abbrev pub bondsNamed : List (List ℕ) → List Bond
+bondsNamed lines = firstBonds (bondOf lines) (bondsOf lines)

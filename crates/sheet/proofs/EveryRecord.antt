@@ -22,15 +22,11 @@ use Rattle.molecule.proofs.BondCount.{bonds-count}
 use Rattle.molecule.proofs.BondLaws.{all-bonded-of, listed-is-bonded, same-there, listed-record}
 use Rattle.bonds.specs.Bonds.{Bond, atomsKept, noneToItself, samePair, noneTwice, rowsOf}
 use Rattle.sheet.specs.Read.{readSheet}
-use Rattle.sheet.specs.Text.{Fillings, sheetText, bondAt}
+use Rattle.sheet.specs.Text.{bondAt, blanks, recordSheet}
 use Rattle.bonds.proofs.Stored.{within, differs, atoms-kept-is, none-to-itself-is}
 use Rattle.bonds.proofs.Tables.{Joins, Kept, kept-of, isNew}
 use Rattle.bonds.proofs.Record.{same-pair-cases, record-bonds, record-well-formed}
 use Rattle.sheet.proofs.Complete.{every-molecule-has-a-sheet}
-
--- blanks fill every field
-blanks : Fillings
-blanks i = (false, false)
 
 -- two bonds with the lower atom first, one before the other, join different atoms
 ordered-differ : (x y : Bond) → x .0 < x .1 → y .0 < y .1 → Before x y → samePair x y ≡ false
@@ -120,12 +116,14 @@ module _ (mol : Molecule) (formed : wellFormed mol ≡ true) where
   same-record : read ≡ mol
   same-record = listed-record read mol read-formed formed refl (sym same-listed)
 
-  sheet-reads : readSheet (sheetText blanks n bonds) ≡ record { answer = Accepted; molecule = mol }
-  sheet-reads =
+  -- Its blank-filled sheet is read as the record
+  pub record-sheet-reads : readSheet (recordSheet mol) ≡ record { answer = Accepted; molecule = mol }
+  unfolding recordSheet
+  record-sheet-reads =
       every-molecule-has-a-sheet blanks n bonds few light atoms-kept none-to-itself none-twice ∙ rw same-record
 
 -- Every record that rule 9 allows is read from a sheet
 pub every-record-has-a-sheet :
     (mol : Molecule) → wellFormed mol ≡ true →
     (s : List ℕ) × (readSheet s ≡ record { answer = Accepted; molecule = mol })
-every-record-has-a-sheet mol formed = (sheetText blanks (mol .atoms) (bondList (mol .rows)), sheet-reads mol formed)
+every-record-has-a-sheet mol formed = (recordSheet mol, record-sheet-reads mol formed)

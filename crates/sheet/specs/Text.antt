@@ -1,10 +1,13 @@
 -- The sheet of n atoms and some bonds (document 01, "Bond sheet"), with any choice of
--- fillings (request F-2), for the law that every molecule in range has one in each.
+-- fillings (request F-2), for the law that every molecule in range has one in each; and the sheet of a record, which
+-- is written for a molfile (request F-1).
 use Prim.Native.Nat.{ℕ, suc}
-use mathlib.Core.Bool.{Bool}
+use mathlib.Core.Bool.{Bool, false}
 use mathlib.Core.List.{List, [], _∷_, _++_}
 use lib.ListN.{length, getD}
 use Rattle.fields.specs.Field.{filledText}
+use Rattle.molecule.specs.declared.Molecule.{Molecule}
+use Rattle.molecule.specs.BondList.{bondList}
 use Rattle.bonds.specs.Bonds.{Bond}
 
 -- for each line, whether zeros fill its two fields
@@ -28,3 +31,11 @@ sheetText zeros n bonds = linesText zeros ((n, length bonds) ∷ bonds)
 -- bond k of a list, counted from 0
 abbrev pub bondAt : List Bond → ℕ → Bond
 bondAt bonds k = getD bonds k (0, 0)
+
+-- blanks fill every field
+abbrev pub blanks : Fillings
+blanks i = (false, false)
+
+-- The blank-filled sheet of a record: its bonds lower atom first, in dictionary order
+unfoldable pub recordSheet : Molecule → List ℕ
+recordSheet mol = sheetText blanks (mol .atoms) (bondList (mol .rows))

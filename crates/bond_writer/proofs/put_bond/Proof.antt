@@ -1,4 +1,4 @@
--- `mark_writer::put_bond` meets its contract: two fields and a line feed, each put where the one before it ends.
+-- `bond_writer::put_bond` meets its contract: two fields and a line feed, each put where the one before it ends.
 use borrow.Author.Needs.{needs}
 use Rattle.bond_writer.proofs.BondSplices.{line-put}
 use Rattle.bond_writer.proofs.put_bond.Statement.{statement}

@@ -1,4 +1,4 @@
--- `mark_writer::put_bonds` meets its contract.
+-- `bond_writer::put_bonds` meets its contract.
 -- The invariant is `Lined`: the bonds of the first rows are put over the list, and `place` is where they end.
 use Prim.Native.Nat.{_-_, _*_}
 use native.Mathlib.Omega.{arith}

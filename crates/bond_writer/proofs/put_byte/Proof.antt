@@ -1,4 +1,4 @@
--- `mark_writer::put_byte` meets its contract.
+-- `bond_writer::put_byte` meets its contract.
 -- The invariant is `Lined`: the bonds of the first k cells are put over the list, and `end` is where they end.
 use Prim.Native.Nat.{_-_, _*_}
 use native.Mathlib.Omega.{arith}

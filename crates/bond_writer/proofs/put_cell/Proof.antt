@@ -1,4 +1,4 @@
--- `mark_writer::put_cell` meets its contract: a bit that is clear, or not above the diagonal, is no bond.
+-- `bond_writer::put_cell` meets its contract: a bit that is clear, or not above the diagonal, is no bond.
 use borrow.Author.Needs.{needs}
 use Rattle.bond_writer.proofs.CellBonds.{clear-bond, low-bond, one-bond}
 use Rattle.bond_writer.proofs.BondSplices.{put-none, one-fits, put-one}

@@ -1,4 +1,4 @@
--- `mark_writer::put_feed` meets its contract: a byte that is set is a text of one byte.
+-- `bond_writer::put_feed` meets its contract: a byte that is set is a text of one byte.
 use borrow.Author.Needs.{needs}
 use Rattle.bond_writer.proofs.Splices.{splice-byte}
 use Rattle.bond_writer.proofs.put_feed.Statement.{statement}

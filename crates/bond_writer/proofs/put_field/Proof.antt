@@ -1,4 +1,4 @@
--- `mark_writer::put_field` meets its contract: the field fills the part of the list that is lent for it.
+-- `bond_writer::put_field` meets its contract: the field fills the part of the list that is lent for it.
 use borrow.Author.Needs.{needs}
 use Rattle.bond_writer.proofs.Splices.{splice-field}
 use Rattle.bond_writer.proofs.put_field.Statement.{statement}

@@ -1,4 +1,4 @@
--- `mark_writer::put_row` meets its contract.
+-- `bond_writer::put_row` meets its contract.
 -- The invariant is `Lined`: the bonds of the first i bytes of the row are put over the list, and end at `end`.
 use Prim.Native.Nat.{_-_, _*_}
 use native.Mathlib.Omega.{arith}
