@@ -31,7 +31,7 @@ use Rattle.carry.specs.Carry.{carryAnswer, carryOutput}
 use Rattle.host.specs.Resume.{Resumed, searchFor, runAndSave, namedSize, markSize, listedIn}
 use Rattle.host.specs.Start.{Started, wroteMark}
 use Rattle.host.specs.Count.{CountedSheet, refusedCount, wroteCount, countSheet}
-use Rattle.host.specs.Carry.{Carried, savedNumber, savedLength, carrySheet}
+use Rattle.host.specs.Written.{WrittenOut, savedNumber, savedLength, writtenOut}
 
 module _ (mol : Molecule) (mark : List ℕ) where
   pub search-fresh : wellFormed mol ≡ true → length mark ≡ 0 → acceptedSearch (freshSearch 0 0 0) ≡ searchFor mol mark
@@ -98,17 +98,16 @@ module _ (sheet : List ℕ) {read : Reading} (s t count : ℕ) where
   unfolding countSheet
   count-read taken is-counted = rw (← taken .is-read, taken .accepted, ← is-counted)
 
--- the same of the entries that carry a mark
-abbrev pub LeavesCarried : ℕ → List ℕ → ℕ → Carried → Type 0
-LeavesCarried number mark length x = (number ≡ x .number) × (mark ≡ x .mark) × (length ≡ x .length)
+-- the same of an entry that writes bytes and puts their number down
+abbrev pub LeavesWritten : ℕ → List ℕ → ℕ → WrittenOut → Type 0
+LeavesWritten number bytes length x = (number ≡ x .number) × (bytes ≡ x .bytes) × (length ≡ x .length)
 
--- their answer in numbers
-pub carried :
-    (from to : Form) (sheet mark out : List ℕ) (before : ℕ) {saved : Saved} {last : List ℕ} {number after : ℕ} →
-    (saved ≡ carryAnswer from to sheet mark out) × (last ≡ carryOutput from to sheet mark out) →
-    (number ≡ savedNumber saved) × (after ≡ savedLength saved before) →
-    LeavesCarried number last after (carrySheet from to sheet mark out before)
-carried from to sheet mark out before (is-answer, is-output) (is-number, is-length) = (
+-- an answer in numbers
+pub written :
+    (answer : Saved) (output : List ℕ) (before : ℕ) {saved : Saved} {last : List ℕ} {number after : ℕ} →
+    (saved ≡ answer) × (last ≡ output) → (number ≡ savedNumber saved) × (after ≡ savedLength saved before) →
+    LeavesWritten number last after (writtenOut answer output before)
+written answer output before (is-answer, is-output) (is-number, is-length) = (
   is-number ∙ ap savedNumber is-answer,
   is-output,
   is-length ∙ ap (λ (x : Saved). savedLength x before) is-answer,

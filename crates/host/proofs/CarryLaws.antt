@@ -32,11 +32,12 @@ use Rattle.carry.specs.Carry.{carryAnswer}
 use Rattle.carry.proofs.Laws as carry
 use Rattle.carry.proofs.Laws.{CarryNumber}
 use Rattle.host.specs.Calls.{HostCall, keeping, keptBy, HostHistory, allCallsIn, HostFromMark}
-use Rattle.host.specs.Carry.{Carried, savedNumber, savedLength, carrySheet, GoesOnWith}
+use Rattle.host.specs.Written.{WrittenOut, savedNumber, savedLength}
+use Rattle.host.specs.Carry.{carrySheet, GoesOnWith}
 use Rattle.host.proofs.History.{host-from-mark, host-mark-done}
 
 module _ (from to : Form) (sheet mark out : List ℕ) (before : ℕ) where
-  abbrev pub call : Carried
+  abbrev pub call : WrittenOut
   call = carrySheet from to sheet mark out before
 
   -- what the carrying answered
@@ -98,8 +99,8 @@ pub carry-there-and-back :
     (from to : Form) (sheet mark out : List ℕ) (before : ℕ) → carrySheet from to sheet mark out before .number ≡ 0 →
     let there = carrySheet from to sheet mark out before in
     (second : List ℕ) (other : ℕ) → length mark ≤ length second →
-    let back = carrySheet to from sheet (take (there .length) (there .mark)) second other in
-    (back .number ≡ 0) × (back .length ≡ length mark) × (back .mark ≡ mark ++ drop (length mark) second)
+    let back = carrySheet to from sheet (take (there .length) (there .bytes)) second other in
+    (back .number ≡ 0) × (back .length ≡ length mark) × (back .bytes ≡ mark ++ drop (length mark) second)
 carry-there-and-back from to sheet mark out before zero second other room =
     let written = carry-written from to sheet mark out before zero in
     let (answer, output) = carry.there-and-back from to sheet mark out second _ written .0 room in
@@ -118,7 +119,7 @@ module _ (sheet old out : List ℕ) (before : ℕ) (zero : carrySheet Old New sh
   abbrev pub carriedOver : List ℕ
   carriedOver =
       let call = carrySheet Old New sheet old out before in
-      take (call .length) (call .mark)
+      take (call .length) (call .bytes)
 
   module _ (q : Search) (is : restoreIn Old mol old ≡ acceptedSearch q) where
     -- it restores the search that the old mark restores

@@ -7,41 +7,18 @@ use mathlib.Core.List.{List, _++_}
 use lib.ListN.{take}
 use Rattle.enumeration.specs.Trials.{records}
 use Rattle.molecule.specs.declared.Molecule.{Molecule}
-use Rattle.refusal.specs.Number.{numberOf}
 use Rattle.search.specs.declared.Form.{Form}
-use Rattle.search.specs.declared.Saved.{Saved}
-use Rattle.search.specs.declared.Saved.the-variants.{Written, Refused}
 use Rattle.history.specs.Calls.{Call, start, standing}
 use Rattle.history.specs.Demand.{Demand}
 use Rattle.carry.specs.Carry.{carryAnswer, carryOutput}
+use Rattle.host.specs.Written.{WrittenOut, writtenOut}
 use Rattle.host.specs.Resume.{listedIn}
 use Rattle.host.specs.Calls.{HostCall, Kept, allCallsIn, returnedDone, listOf}
 
--- What an entry returns, and its two outputs after it: the mark, and the number of its bytes
-pub record Carried : Type 0 where
-  pub number : ℕ
-  pub mark : List ℕ
-  pub length : ℕ
-
--- The number that is returned: 0 where a mark was written, else that of the refusal
-abbrev pub savedNumber : Saved → ℕ
-savedNumber (Written k) = 0
-savedNumber (Refused r) = numberOf r
-
--- The number of bytes written; a refusal leaves the number that was there
-abbrev pub savedLength : Saved → ℕ → ℕ
-savedLength (Written k) before = k
-savedLength (Refused r) before = before
-
 -- An entry that carries a mark from one form to the other: rules 1 to 8, 14 to 17, 13
-abbrev pub carrySheet : Form → Form → List ℕ → List ℕ → List ℕ → ℕ → Carried
+abbrev pub carrySheet : Form → Form → List ℕ → List ℕ → List ℕ → ℕ → WrittenOut
 carrySheet from to sheet mark out before =
-    let answer = carryAnswer from to sheet mark out in
-    record {
-      number = savedNumber answer;
-      mark = carryOutput from to sheet mark out;
-      length = savedLength answer before;
-    }
+    writtenOut (carryAnswer from to sheet mark out) (carryOutput from to sheet mark out) before
 
 -- ---- what is listed after an old mark is carried over
 

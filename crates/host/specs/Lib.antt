@@ -1,6 +1,8 @@
-pub mod Gate
-pub mod Resume
-pub mod Start
-pub mod Count
 pub mod Calls
 pub mod Carry
+pub mod Count
+pub mod Gate
+pub mod Molfile
+pub mod Resume
+pub mod Start
+pub mod Written

@@ -10,7 +10,9 @@ ghost use Rattle.host.specs.Resume.{searchFor, runAndSave, resume, markS
 ghost use Rattle.host.specs.Start.{startMark};
 ghost use Rattle.host.specs.Count.{countSheet};
 ghost use Rattle.search.specs.declared.Form.the-variants.{Old, New};
-ghost use Rattle.host.specs.Carry.{savedNumber, savedLength, carrySheet};
+ghost use Rattle.host.specs.Written.{savedNumber, savedLength};
+ghost use Rattle.host.specs.Carry.{carrySheet};
+ghost use Rattle.host.specs.Molfile.{molfileSheet};
 use counter::Counted;
 use fields::Number;
 use molecule::Molecule;
@@ -184,7 +186,7 @@ pub extern "C" fn ringlist_carry_over(
     ensures { λ r.
         let x =
         carrySheet Old New (now (sheet .entry)) (now («old_mark» .entry)) (now (mark .entry)) (now (length .entry)) in
-        ⌜ (r ≡ x .number) × (now (mark .exit) ≡ x .mark) × (now (length .exit) ≡ x .length) ⌝ }
+        ⌜ (r ≡ x .number) × (now (mark .exit) ≡ x .bytes) × (now (length .exit) ≡ x .length) ⌝ }
 {
     let saved = carry::carry_over(sheet, old_mark, mark);
     put_length(saved, length)
@@ -201,9 +203,20 @@ pub extern "C" fn ringlist_carry_back(
     ensures { λ r.
         let x =
         carrySheet New Old (now (sheet .entry)) (now (mark .entry)) (now («old_mark» .entry)) (now (length .entry)) in
-        ⌜ (r ≡ x .number) × (now («old_mark» .exit) ≡ x .mark) × (now (length .exit) ≡ x .length) ⌝ }
+        ⌜ (r ≡ x .number) × (now («old_mark» .exit) ≡ x .bytes) × (now (length .exit) ≡ x .length) ⌝ }
 {
     let saved = carry::carry_back(sheet, mark, old_mark);
+    put_length(saved, length)
+}
+
+// Reads a molfile and writes the sheet of its record: rules 18, 3, 4, 19, 6, 7, 8, 20, 13.
+#[no_mangle]
+pub extern "C" fn ringlist_molfile(molfile: &[u8], sheet: &mut [u8], length: &mut usize) -> u32
+    ensures { λ r.
+        let x = molfileSheet (now (molfile .entry)) (now (sheet .entry)) (now (length .entry)) in
+        ⌜ (r ≡ x .number) × (now (sheet .exit) ≡ x .bytes) × (now (length .exit) ≡ x .length) ⌝ }
+{
+    let saved = molsheet::write_sheet(molfile, sheet);
     put_length(saved, length)
 }
 

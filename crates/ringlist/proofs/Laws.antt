@@ -1,87 +1,69 @@
--- What the definition `printedText` amounts to: how its search ends, its text then, and which bytes decide it.
--- Instances of `Whole` for the rings of a molecule record.
-use Prim.Native.Nat.{ℕ, suc, _*_, _≤_}
+-- The theorem of `ringlist`: for every input, the texts of the turns, joined, are the text of the input; and its first
+-- 65,536 bytes decide it. By the laws of a listing, since the record of an accepted input keeps rule 9.
+use Prim.Native.Nat.{ℕ, _≤_, _<_}
 use native.Mathlib.Omega.{arith}
-use mathlib.Core.Path.{_≡_, refl, ap, sym, subst}
-use mathlib.Core.Logic.{_⊎_, inl, inr}
-use mathlib.Core.Bool.{true}
-use mathlib.Core.List.{List, _++_}
+use mathlib.Core.Path.{_≡_, refl, ap, sym, _∙_}
+use mathlib.Core.Logic.{inl, inr}
+use mathlib.Core.Bool.{Bool, true, false, cond}
+use mathlib.Core.List.{List}
 use lib.ListN.{length, take}
 use lib.Seq.{take-all, length-take-le}
 use lib.Dec.{ltb}
-use borrow.Author.Tests.{lt-ltb, ltb-true, ltb-false}
-use Rattle.graph.proofs.Below.{clash}
-use Rattle.enumeration.specs.declared.Stop.the-variants.{Done, Limit}
-use Rattle.enumeration.specs.Words.{members}
-use Rattle.enumeration.specs.Lawful.{Lawful}
-use Rattle.enumeration.specs.Run.{limit}
-use Rattle.enumeration.specs.Listing.{openWords}
+use borrow.Author.Tests.{lt-ltb, le-ltb, ltb-true, ltb-false}
 use Rattle.enumeration.proofs.Basics.{Decided, decided}
-use Rattle.molecule.specs.declared.Molecule.{Molecule}
+use Rattle.refusal.specs.declared.Refusal.the-variants.{SheetLength}
+use Rattle.refusal.specs.declared.Answer.the-variants.{Accepted}
 use Rattle.molecule.specs.Record.{wellFormed}
-use Rattle.search.proofs.Readings.{family-atoms, family-lawful}
-use Rattle.molecule.proofs.Bonds.{rule9}
-use Rattle.report.specs.Lines.{linesOf, countLine}
-use Rattle.ringlist.specs.declared.text.Listing.{Listing}
-use Rattle.ringlist.specs.Text.{ringsOf, wholeRun, listingText, printedText}
-use Rattle.ringlist.specs.Turns.{turned, textOf, Prints, ends, goes-on}
-use Rattle.ringlist.proofs.Whole.{whole-ends, whole-listed, whole-extensions, whole-trials, whole-done}
+use Rattle.bonds.specs.declared.Reading.{Reading}
+use Rattle.bonds.specs.Reading.{refusedReading}
+use Rattle.bonds.proofs.Record.{kept-on}
+use Rattle.sheet.specs.Read.{readSheet}
+use Rattle.sheet.proofs.Accepted.{accepted-well-formed}
+use Rattle.listing.specs.Sound.{Sound}
+use Rattle.listing.specs.Text.{readingText}
+use Rattle.listing.specs.Turns.{Prints}
+use Rattle.listing.proofs.Joined.{reading-sound, reading-prints}
+use Rattle.ringlist.specs.Text.{inputRead, printedText, opened}
 
-module _ (m : Molecule) (good : wellFormed m ≡ true) where
-  lawful : Lawful (ringsOf m)
-  lawful = family-lawful m 0 0 0
+-- what an input is read as, by its length
+pub read-long : (input : List ℕ) → 65529 < length input → refusedReading SheetLength ≡ inputRead input
+unfolding inputRead
+read-long input h = rw (lt-ltb 65529 (length input) h)
 
-  short : ringsOf m .atoms ≤ 128
-  short = omega (arith, family-atoms m 0 0 0, rule9 m good .atoms-high)
+pub read-short : (input : List ℕ) → length input ≤ 65529 → readSheet input ≡ inputRead input
+unfolding inputRead
+read-short input h = rw (le-ltb 65529 (length input) h)
 
-  -- The search of the definition ends done or limit, never spent or full
-  pub ends-done-or-limit : (wholeRun m .stop ≡ Done) ⊎ (wholeRun m .stop ≡ Limit)
-  unfolding wholeRun
-  ends-done-or-limit = whole-ends (ringsOf m) lawful short
-
-  -- It ends done if n × (extensions + 1), all its trials, are within the limit
-  pub ends-done : m .atoms * suc (length (openWords (ringsOf m))) ≤ limit → wholeRun m .stop ≡ Done
-  unfolding wholeRun
-  ends-done h =
-      let extensions = length (openWords (ringsOf m)) in
-      whole-done (ringsOf m) lawful short (subst (λ (n : ℕ). n * suc extensions ≤ limit) (sym (family-atoms m 0 0 0)) h)
-
-  -- The text then: the lines of all rings in dictionary order, and the counts that demand 3 gives
-  pub done-text :
-      wholeRun m .stop ≡ Done →
-      let rings = members (ringsOf m) in
-      let extensions = length (openWords (ringsOf m)) in
-      listingText m (wholeRun m .state)
-      ≡ linesOf rings ++ countLine (length rings) extensions (m .atoms * suc extensions)
-  unfolding wholeRun listingText
-  done-text e =
-      let rings = members (ringsOf m) in
-      let extensions = length (openWords (ringsOf m)) in
-      rw (
-        whole-listed (ringsOf m) lawful short e,
-        whole-extensions (ringsOf m) lawful short e,
-        whole-trials (ringsOf m) lawful short e,
-        take-all (length rings) rings (omega arith),
-      )
-      (ap (λ (n : ℕ). linesOf rings ++ countLine (length rings) extensions (n * suc extensions)) (family-atoms m 0 0 0))
-
--- The turns print one text
-pub prints-one :
-    {l : Listing} {buffer text other : List ℕ} → Prints l buffer text → Prints l buffer other → text ≡ other
-prints-one (ends l buffer e) (ends _ _ f) = refl
-prints-one (ends l buffer e) (goes-on _ _ rest f p) = absurd (clash (turned l buffer .last) e f)
-prints-one (goes-on l buffer rest e p) (ends _ _ f) = absurd (clash (turned l buffer .last) f e)
-prints-one (goes-on l buffer rest e p) (goes-on _ _ other f q) =
-    ap (λ (t : List ℕ). textOf l buffer ++ t) (prints-one p q)
-
--- The first 65,536 bytes of an input decide its text: `main` reads no more
-pub first-bytes : (input : List ℕ) → printedText (take 65536 input) ≡ printedText input
-unfolding printedText
-first-bytes input = by (decided (ltb 65536 (length input)))
+-- The record of an accepted input keeps rule 9
+input-formed : (input : List ℕ) → inputRead input .answer ≡ Accepted → wellFormed (inputRead input .molecule) ≡ true
+unfolding inputRead
+input-formed input = go (ltb 65529 (length input))
   where
-    by : Decided (ltb 65536 (length input)) → printedText (take 65536 input) ≡ printedText input
+    go :
+        (long : Bool) → cond long (refusedReading SheetLength) (readSheet input) .answer ≡ Accepted →
+        wellFormed (cond long (refusedReading SheetLength) (readSheet input) .molecule) ≡ true
+    go true e = let z : _≡_ {A = ℕ} 0 1 = cc in absurd (omega arith)
+    go false e = accepted-well-formed input e
+
+pub opened-sound : (input : List ℕ) → Sound (opened input)
+opened-sound input = reading-sound (inputRead input) (input-formed input)
+
+-- The turns from the listing of an input come to a last one, and their texts, joined, are the text of the input
+pub turns-joined :
+    (buffer : List ℕ) → 65536 ≤ length buffer → (input : List ℕ) → Prints (opened input) buffer (printedText input)
+turns-joined buffer room input = reading-prints buffer room (inputRead input) (input-formed input)
+
+-- The first 65,536 bytes of an input decide what it is read as, and so its text: `main` reads no more
+first-read : (input : List ℕ) → inputRead (take 65536 input) ≡ inputRead input
+unfolding inputRead
+first-read input = by (decided (ltb 65536 (length input)))
+  where
+    by : Decided (ltb 65536 (length input)) → inputRead (take 65536 input) ≡ inputRead input
     by (inr e) = rw (take-all 65536 input (ltb-false 65536 (length input) e)) refl
     by (inl e) =
         let more = ltb-true 65536 (length input) e in
         let size : length (take 65536 input) ≡ 65536 = length-take-le 65536 input (omega arith) in
         rw (size, lt-ltb 65529 (length input) (omega arith)) refl
+
+pub first-bytes : (input : List ℕ) → printedText (take 65536 input) ≡ printedText input
+first-bytes input = ap (λ (x : Reading). readingText x) (first-read input)

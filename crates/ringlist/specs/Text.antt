@@ -1,45 +1,25 @@
 -- What `ringlist` prints for every input (document 01, "Judge, host entry and `ringlist`"), from bytes to text.
-use Prim.Native.Nat.{ℕ, _*_}
+use Prim.Native.Nat.{ℕ}
 use mathlib.Core.Bool.{cond}
-use mathlib.Core.List.{List, _++_}
-use lib.ListN.{length, take}
+use mathlib.Core.List.{List}
+use lib.ListN.{length}
 use lib.Dec.{ltb}
-use Rattle.enumeration.specs.Words.{Family, members}
-use Rattle.enumeration.specs.Machine.{State, fresh}
-use Rattle.enumeration.specs.Run.{Outcome, limit, run}
 use Rattle.refusal.specs.declared.Refusal.the-variants.{SheetLength}
-use Rattle.refusal.specs.declared.Answer.{Answer}
-use Rattle.refusal.specs.declared.Answer.the-variants.{Accepted, Refused}
-use Rattle.refusal.specs.Number.{numberOf}
-use Rattle.molecule.specs.declared.Molecule.{Molecule}
+use Rattle.bonds.specs.declared.Reading.{Reading}
+use Rattle.bonds.specs.Reading.{refusedReading}
 use Rattle.sheet.specs.Read.{readSheet}
-use Rattle.search.specs.Place.{familyOf}
-use Rattle.report.specs.Lines.{refusalLine, linesOf, countLine}
+use Rattle.listing.specs.declared.Listing.{Listing}
+use Rattle.listing.specs.Text.{readingText}
+use Rattle.listing.specs.Turns.{begunReading}
 
--- The rings of a molecule, as a family
-abbrev pub ringsOf : Molecule → Family
-ringsOf m = familyOf m 0 0 0
+-- What an input is read as; one above 65,529 bytes is refused by rule 1
+unfoldable pub inputRead : List ℕ → Reading
+inputRead input = cond (ltb 65529 (length input)) (refusedReading SheetLength) (readSheet input)
 
--- The search until it says done or limit: one run of the fresh search, with a budget and an output that never end it
--- (law `ends-done-or-limit`)
-unfoldable pub wholeRun : Molecule → Outcome
-wholeRun m = run (ringsOf m) limit (129 * limit) fresh
+-- The text of an input
+abbrev pub printedText : List ℕ → List ℕ
+printedText input = readingText (inputRead input)
 
--- The rings that it has listed, a line each, and then its counts: the first `listed` of the list (law `fresh-listing`)
-unfoldable pub listingText : Molecule → State → List ℕ
-listingText m st =
-    linesOf (take (st .listed) (members (ringsOf m)))
-    ++ countLine (st .listed) (st .extensions) (st .trials)
-
--- The text of a sheet that is accepted, or refused by a rule
-abbrev pub answerText : Answer → Molecule → List ℕ
-answerText Accepted m = listingText m (wholeRun m .state)
-answerText (Refused r) m = refusalLine (numberOf r)
-
--- The text of an input; one above 65,529 bytes is refused by rule 1
-unfoldable pub printedText : List ℕ → List ℕ
-printedText input =
-    let sheet = readSheet input in
-    cond (ltb 65529 (length input))
-    (refusalLine (numberOf SheetLength))
-    (answerText (sheet .answer) (sheet .molecule))
+-- Its listing, before the first piece
+abbrev pub opened : List ℕ → Listing
+opened input = begunReading (inputRead input)

@@ -29,5 +29,5 @@ pub put-reading-spec : {M : Type 1} → statement M
 put-reading-spec =
     tie.close
     (tie.spec
-    returns (λ c κs. search needs) enum-told (λ c κs. search needs) (λ c. search needs) (λ c κs. search needs)
+    returns enum-told (λ c κs. search needs) (λ c. search needs) (λ c κs. search needs)
     (λ c. search needs) returns-2 returns-3)

@@ -1,28 +1,25 @@
--- The theorem of `ringlist`: for every input, the texts of the turns, joined, are the text of the input.
+-- The texts of the turns of a listing, joined, are the text of what the input was read as.
 -- By induction on the rings not listed yet: the last search is over, and so is the one that the definition names.
 use Prim.Native.Nat.{ℕ, zero, suc, _+_, _-_, _*_, _≤_, _<_}
 use native.Mathlib.Omega.{arith}
 use mathlib.Core.Path.{_≡_, refl, ap, sym, _∙_, subst}
 use mathlib.Core.Logic.{inl, inr}
-use mathlib.Core.Bool.{Bool, true, false, cond}
+use mathlib.Core.Bool.{true, false}
 use mathlib.Core.List.{List, [], _∷_, _++_, append-assoc}
 use lib.ListN.{length, take, drop, length-append, length-drop, length-take}
 use lib.Seq.{take-append-seam, take-add, drop-drop}
-use lib.Dec.{ltb}
 use Rattle.graph.proofs.Below.{clash}
 use Rattle.enumeration.specs.Words.{members}
 use Rattle.enumeration.specs.Machine.{State, fresh, isDone}
 use Rattle.enumeration.specs.Run.{atLimit}
 use Rattle.enumeration.specs.Trials.{steps}
 use Rattle.refusal.specs.declared.Refusal.{Refusal}
-use Rattle.refusal.specs.declared.Refusal.the-variants as refusal
 use Rattle.refusal.specs.Number.{numberOf}
 use Rattle.refusal.specs.declared.Answer.{Answer}
 use Rattle.refusal.specs.declared.Answer.the-variants.{Accepted, Refused}
 use Rattle.molecule.specs.declared.Molecule.{Molecule}
-use Rattle.molecule.specs.Record.{wellFormed, freshMolecule}
-use Rattle.sheet.specs.Read.{readSheet}
-use Rattle.sheet.proofs.Accepted.{accepted-well-formed}
+use Rattle.molecule.specs.Record.{wellFormed}
+use Rattle.bonds.specs.declared.Reading.{Reading}
 use Rattle.search.specs.declared.Search.{Search}
 use Rattle.search.specs.Place.{searchAt, freshSearch}
 use Rattle.search.proofs.Readings.{family-atoms, family-lawful}
@@ -31,16 +28,17 @@ use Rattle.molecule.proofs.Bonds.{rule9}
 use Rattle.search.specs.Entries.{runOutput}
 use Rattle.report.specs.Lines.{refusalLine, ringLines, linesOf, countLine, printed, printedOn}
 use Rattle.report.proofs.Texts.{printed-whole}
-use Rattle.ringlist.specs.declared.text.Part.{Part}
-use Rattle.ringlist.specs.declared.text.Part.the-variants as part
-use Rattle.ringlist.specs.declared.text.Listing.{Listing}
-use Rattle.ringlist.specs.declared.text.Turn.{Turn}
-use Rattle.ringlist.specs.Text.{ringsOf, wholeRun, listingText, answerText, printedText}
-use Rattle.ringlist.specs.Turns.{begun, firstPart, begunSheet, opened, budget, output, oneRun, runRecords}
-use Rattle.ringlist.specs.Turns.{partAfter, countsOf, turnedBy, turned, turnedText, textOf, Prints, ends, goes-on}
-use Rattle.ringlist.proofs.Whole.{Over, over-is, whole-is}
-use Rattle.ringlist.proofs.Ends.{Stands, OverAt, fresh-stands, stands-at, output-fits, used-most, listed-rises}
-use Rattle.ringlist.proofs.Ends.{listed-most, run-stands, run-lines, LastOrLists, last-or-lists}
+use Rattle.listing.specs.declared.Part.{Part}
+use Rattle.listing.specs.declared.Part.the-variants as part
+use Rattle.listing.specs.declared.Listing.{Listing}
+use Rattle.listing.specs.declared.Turn.{Turn}
+use Rattle.listing.specs.Sound.{Stands, SoundBy, Sound}
+use Rattle.listing.specs.Text.{ringsOf, wholeRun, listingText, answerText, readingText}
+use Rattle.listing.specs.Turns.{begun, firstPart, begunReading, budget, output, oneRun, runRecords}
+use Rattle.listing.specs.Turns.{partAfter, countsOf, turnedBy, turned, turnedText, textOf, Prints, ends, goes-on}
+use Rattle.listing.proofs.Whole.{Over, over-is, whole-is}
+use Rattle.listing.proofs.Ends.{OverAt, fresh-stands, stands-at, output-fits, used-most, listed-rises}
+use Rattle.listing.proofs.Ends.{listed-most, run-stands, run-lines, LastOrLists, last-or-lists}
 
 -- ---- a piece in a buffer that has room
 
@@ -226,16 +224,7 @@ accepted-prints m good buffer room =
     (listing-of m (p .final) (wholeRun m .state) (final-is (p .stands) (p .over)))
     (p .prints)
 
--- ---- the loop of `main` ends
-
--- a listing with more rings to come stands as demand 3 speaks of it
-abbrev SoundBy : Part → Molecule → Search → Type 0
-SoundBy (part.Refused r) m q = Unit {0}
-SoundBy part.Rings m q = Stands m q
-SoundBy part.Counts m q = Unit {0}
-
-abbrev pub Sound : Listing → Type 0
-Sound l = SoundBy (l .part) (l .molecule) (l .search)
+-- ---- the loop of `print` ends
 
 -- the rings that are not listed yet; none where no run follows
 abbrev leftBy : Part → Molecule → Search → ℕ
@@ -278,46 +267,35 @@ pub turned-goes-on :
     Sound (turn .listing) × (left (turn .listing) < left l)
 turned-goes-on l buffer e sound more = rw e (turn-goes-on l buffer sound (ap (λ (t : Turn). t .last) (sym e) ∙ more))
 
-pub opened-sound : (input : List ℕ) → Sound (opened input)
-unfolding opened
-opened-sound input = go (ltb 65529 (length input))
+-- the listing of what a text was read as, before its first piece
+pub reading-sound :
+    (read : Reading) → (read .answer ≡ Accepted → wellFormed (read .molecule) ≡ true) → Sound (begunReading read)
+reading-sound read good = by (read .answer) good
   where
-    answered :
-        (answer : Answer) (m : Molecule) → (answer ≡ Accepted → wellFormed m ≡ true) →
-        Sound (begun (firstPart answer) m)
-    answered Accepted m good = fresh-stands (good refl)
-    answered (Refused r) m good = tt
+    by :
+        (answer : Answer) → (answer ≡ Accepted → wellFormed (read .molecule) ≡ true) →
+        Sound (begun (firstPart answer) (read .molecule))
+    by Accepted good = fresh-stands (good refl)
+    by (Refused r) good = tt
 
-    go :
-        (long : Bool) →
-        Sound (cond long (begun (part.Refused refusal.SheetLength) freshMolecule) (begunSheet (readSheet input)))
-    go true = tt
-    go false = answered (readSheet input .answer) (readSheet input .molecule) (accepted-well-formed input)
-
--- ---- every input
+-- ---- what a text was read as
 
 module _ (buffer : List ℕ) (room : 65536 ≤ length buffer) where
-  refused-prints : (r : Refusal) (m : Molecule) → Prints (begun (part.Refused r) m) buffer (refusalLine (numberOf r))
+  pub refused-prints :
+      (r : Refusal) (m : Molecule) → Prints (begun (part.Refused r) m) buffer (refusalLine (numberOf r))
   refused-prints r m =
       let l : Listing = begun (part.Refused r) m in
       let line : textOf l buffer ≡ refusalLine (numberOf r) = piece-text _ buffer (omega arith) in
       subst (Prints l buffer) line (ends l buffer refl)
 
-  sheet-prints :
-      (answer : Answer) (m : Molecule) → (answer ≡ Accepted → wellFormed m ≡ true) →
-      Prints (begun (firstPart answer) m) buffer (answerText answer m)
-  sheet-prints Accepted m good = accepted-prints m (good refl) buffer room
-  sheet-prints (Refused r) m good = refused-prints r m
-
-  -- The turns from the listing of an input come to a last one, and their texts, joined, are the text of the input
-  pub turns-joined : (input : List ℕ) → Prints (opened input) buffer (printedText input)
-  unfolding opened printedText
-  turns-joined input = go (ltb 65529 (length input))
+  -- The turns from its listing come to a last one, and their texts, joined, are its text
+  pub reading-prints :
+      (read : Reading) → (read .answer ≡ Accepted → wellFormed (read .molecule) ≡ true) →
+      Prints (begunReading read) buffer (readingText read)
+  reading-prints read good = by (read .answer) good
     where
-      go :
-          (long : Bool) →
-          let sheet = readSheet input in
-          Prints (cond long (begun (part.Refused refusal.SheetLength) freshMolecule) (begunSheet sheet)) buffer
-          (cond long (refusalLine (numberOf refusal.SheetLength)) (answerText (sheet .answer) (sheet .molecule)))
-      go true = refused-prints refusal.SheetLength freshMolecule
-      go false = sheet-prints (readSheet input .answer) (readSheet input .molecule) (accepted-well-formed input)
+      by :
+          (answer : Answer) → (answer ≡ Accepted → wellFormed (read .molecule) ≡ true) →
+          Prints (begun (firstPart answer) (read .molecule)) buffer (answerText answer (read .molecule))
+      by Accepted good = accepted-prints (read .molecule) (good refl) buffer room
+      by (Refused r) good = refused-prints r (read .molecule)

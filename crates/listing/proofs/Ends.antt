@@ -1,4 +1,4 @@
--- The runs of `ringlist` are calls as demand 3 speaks of them: each is handed the search as it stands.
+-- The runs of a listing are calls as demand 3 speaks of them: each is handed the search as it stands.
 -- So each lists the next rings, and is the last or lists one; and no more are listed than there are.
 use Prim.Native.Nat.{ℕ, _+_, _-_, _*_, _≤_, _<_}
 use native.Mathlib.Nat.{mul-le-mul}
@@ -35,17 +35,11 @@ use Rattle.history.proofs.Reached.{list-reached}
 use Rattle.history.proofs.Joined.{history-joined, standing-joined}
 use Rattle.report.specs.Lines.{ringLines, linesOf}
 use Rattle.report.proofs.Records.{lines-of-records}
-use Rattle.ringlist.specs.declared.text.Part.the-variants.{Rings, Counts}
-use Rattle.ringlist.specs.Text.{ringsOf}
-use Rattle.ringlist.specs.Turns.{budget, output, oneRun, runRecords, partAfter}
-use Rattle.ringlist.proofs.Contracts.{answered}
-
--- q stands after some list of calls on the record m that began with the fresh ring search: what demand 3 speaks of
-pub record Stands (m : Molecule) (q : Search) : Type 0 where
-  pub good : wellFormed m ≡ true
-  pub calls : List Call
-  pub history : History m (start 0 0 0) calls
-  pub search-is : q ≡ standing (start 0 0 0) calls .search
+use Rattle.listing.specs.declared.Part.the-variants.{Rings, Counts}
+use Rattle.listing.specs.Sound.{Stands}
+use Rattle.listing.specs.Text.{ringsOf}
+use Rattle.listing.specs.Turns.{budget, output, oneRun, runRecords, partAfter}
+use Rattle.listing.proofs.Contracts.{answered}
 
 pub fresh-stands : {m : Molecule} → wellFormed m ≡ true → Stands m (freshSearch 0 0 0)
 unfolding start standing

@@ -1,21 +1,19 @@
--- What the functions of `text.rt` return is what the definitions say.
+-- What the functions of a listing return is what the definitions say.
 -- From what their callees ensure, by the definitions.
-use Prim.Native.Nat.{ℕ, _*_, _≤_, _<_}
+use Prim.Native.Nat.{ℕ, _*_, _≤_}
 use native.Mathlib.Omega.{arith}
 use mathlib.Core.Path.{_≡_, refl, ap, _∙_}
 use mathlib.Core.Bool.{Bool, true, false, _&&_, cond}
 use mathlib.Core.List.{List, _++_}
 use lib.ListN.{length, take, drop, length-append}
-use borrow.Author.Tests.{lt-ltb, le-ltb}
 use Rattle.refusal.specs.declared.Refusal.{Refusal}
 use Rattle.refusal.specs.declared.Refusal.the-variants as refusal
 use Rattle.refusal.specs.Number.{numberOf}
 use Rattle.report.specs.Lines.{refusalLine, ringLines, printed, printedOn}
 use Rattle.refusal.specs.declared.Answer.{Answer}
 use Rattle.molecule.specs.declared.Molecule.{Molecule}
-use Rattle.molecule.specs.Record.{wellFormed, freshMolecule}
+use Rattle.molecule.specs.Record.{wellFormed}
 use Rattle.bonds.specs.declared.Reading.{Reading}
-use Rattle.sheet.specs.Read.{readSheet}
 use Rattle.enumeration.specs.Run.{Outcome}
 use Rattle.search.specs.declared.Search.{Search}
 use Rattle.search.specs.declared.Made.{Made}
@@ -23,12 +21,12 @@ use Rattle.search.specs.declared.Ran.{Ran}
 use Rattle.search.specs.Place.{restorable, freshSearch}
 use Rattle.search.specs.Entries.{acceptedSearch, refusedSearch, outcome, startRings, refusedRun, ran, runSearch, runOutput}
 use Rattle.report.proofs.Texts.{printed-within}
-use Rattle.ringlist.specs.declared.text.Part.{Part}
-use Rattle.ringlist.specs.declared.text.Part.the-variants.{Refused, Rings, Counts}
-use Rattle.ringlist.specs.declared.text.Listing.{Listing}
-use Rattle.ringlist.specs.declared.text.Turn.{Turn}
-use Rattle.ringlist.specs.Turns.{begun, firstPart, opened, budget, output, runRecords, partAfter}
-use Rattle.ringlist.specs.Turns.{turnOf, ringsTurn, ringsOn, countsOf, turnedBy, textBy, turned, turnedText}
+use Rattle.listing.specs.declared.Part.{Part}
+use Rattle.listing.specs.declared.Part.the-variants.{Refused, Rings, Counts}
+use Rattle.listing.specs.declared.Listing.{Listing}
+use Rattle.listing.specs.declared.Turn.{Turn}
+use Rattle.listing.specs.Turns.{begun, firstPart, begunReading, budget, output, runRecords, partAfter}
+use Rattle.listing.specs.Turns.{turnOf, ringsTurn, ringsOn, countsOf, turnedBy, textBy, turned, turnedText}
 
 -- ---- the start of a listing
 
@@ -46,18 +44,11 @@ start-fresh m = go (wellFormed m)
 pub made-fresh : (m : Molecule) {x : Made} → x ≡ startRings m → x .search ≡ freshSearch 0 0 0
 made-fresh m e = ap (λ (x : Made). x .search) e ∙ start-fresh m
 
-pub opened-long :
-    (input : List ℕ) {m : Molecule} → 65529 < length input → m ≡ freshMolecule →
-    begun (Refused refusal.SheetLength) m ≡ opened input
-unfolding opened
-opened-long input h e = rw (e, lt-ltb 65529 (length input) h)
-
--- the listing of a sheet, by its answer
-pub opened-sheet :
-    (input : List ℕ) {sheet : Reading} {answer : Answer} → length input ≤ 65529 → sheet ≡ readSheet input →
-    sheet .answer ≡ answer → begun (firstPart answer) (sheet .molecule) ≡ opened input
-unfolding opened
-opened-sheet input h e a = rw (le-ltb 65529 (length input) h, ← e, a)
+-- the listing of what a text was read as, by its answer
+pub opened-reading :
+    (read : Reading) {answer : Answer} → read .answer ≡ answer →
+    begun (firstPart answer) (read .molecule) ≡ begunReading read
+opened-reading read e = rw e
 
 -- ---- one more run
 

@@ -1,10 +1,10 @@
--- `text::list_more` meets its contract: the run's records are within its output, and their lines are the piece.
+-- `listing::list_more` meets its contract: the run's records are within its output, and their lines are the piece.
 use mathlib.Core.Path.{sym}
 use lib.Seq.{length-take-le}
 use borrow.Author.Needs.{needs}
-use Rattle.ringlist.proofs.Contracts.{used-within, rings-turned}
-use Rattle.ringlist.proofs.text.list_more.Statement.{statement}
-use Rattle.ringlist.proofs.text.list_more.Tie as tie
+use Rattle.listing.proofs.Contracts.{used-within, rings-turned}
+use Rattle.listing.proofs.list_more.Statement.{statement}
+use Rattle.listing.proofs.list_more.Tie as tie
 
 array-share-prefix-out : tie.Need-array-share-prefix-out
 array-share-prefix-out c = used-within _ _ _ _ (c .before .run .ensures)

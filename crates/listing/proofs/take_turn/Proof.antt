@@ -1,8 +1,8 @@
--- `text::take_turn` meets its contract, by what comes next.
+-- `listing::take_turn` meets its contract, by what comes next.
 use borrow.Author.Needs.{needs}
-use Rattle.ringlist.proofs.Contracts.{refused-turned, counts-turned, more-turned}
-use Rattle.ringlist.proofs.text.take_turn.Statement.{statement}
-use Rattle.ringlist.proofs.text.take_turn.Tie as tie
+use Rattle.listing.proofs.Contracts.{refused-turned, counts-turned, more-turned}
+use Rattle.listing.proofs.take_turn.Statement.{statement}
+use Rattle.listing.proofs.take_turn.Tie as tie
 
 returns : tie.Need-returns
 returns c =

@@ -1,21 +1,17 @@
--- The turns of `ringlist`: the listing of an input, the piece of the text that each turn prints, and what is left then.
--- The contracts of `text::open` and `text::take_turn` cite these. What they amount to is `turns-joined`.
+-- The turns of a listing: the piece of the text that each turn prints, and what is left then.
+-- The contracts of `listing::open` and `listing::take_turn` cite these. What they amount to is `reading-prints`.
 use Prim.Native.Nat.{ℕ, _*_}
 use mathlib.Core.Path.{_≡_}
-use mathlib.Core.Bool.{Bool, true, false, cond}
+use mathlib.Core.Bool.{Bool, true, false}
 use mathlib.Core.List.{List, _++_}
 use lib.ListN.{length, take, replicate}
-use lib.Dec.{ltb}
 use Rattle.enumeration.specs.declared.Stop.{Stop}
 use Rattle.enumeration.specs.declared.Stop.the-variants.{Done, Limit, Spent, Full}
-use Rattle.refusal.specs.declared.Refusal.the-variants as refusal
 use Rattle.refusal.specs.declared.Answer.{Answer}
 use Rattle.refusal.specs.declared.Answer.the-variants as answer
 use Rattle.refusal.specs.Number.{numberOf}
 use Rattle.molecule.specs.declared.Molecule.{Molecule}
-use Rattle.molecule.specs.Record.{freshMolecule}
 use Rattle.bonds.specs.declared.Reading.{Reading}
-use Rattle.sheet.specs.Read.{readSheet}
 use Rattle.search.specs.declared.Search.{Search}
 use Rattle.search.specs.declared.Ran.{Ran}
 use Rattle.search.specs.declared.Ended.{Ended}
@@ -23,27 +19,23 @@ use Rattle.search.specs.declared.Ended.the-variants as ended
 use Rattle.search.specs.Place.{freshSearch}
 use Rattle.search.specs.Entries.{runSearch, runOutput}
 use Rattle.report.specs.Lines.{refusalLine, ringLines, countLine, printed, printedOn}
-use Rattle.ringlist.specs.declared.text.Part.{Part}
-use Rattle.ringlist.specs.declared.text.Part.the-variants.{Refused, Rings, Counts}
-use Rattle.ringlist.specs.declared.text.Listing.{Listing}
-use Rattle.ringlist.specs.declared.text.Turn.{Turn}
+use Rattle.listing.specs.declared.Part.{Part}
+use Rattle.listing.specs.declared.Part.the-variants.{Refused, Rings, Counts}
+use Rattle.listing.specs.declared.Listing.{Listing}
+use Rattle.listing.specs.declared.Turn.{Turn}
 
--- ---- the listing of an input, before its first piece
+-- ---- the listing of what a text was read as, before its first piece
 
 abbrev pub begun : Part → Molecule → Listing
 begun part m = record { part = part; molecule = m; search = freshSearch 0 0 0 }
 
--- the part that a sheet's answer begins with
+-- the part that a reader's answer begins with
 abbrev pub firstPart : Answer → Part
 firstPart answer.Accepted = Rings
 firstPart (answer.Refused r) = Refused r
 
-abbrev pub begunSheet : Reading → Listing
-begunSheet sheet = begun (firstPart (sheet .answer)) (sheet .molecule)
-
-unfoldable pub opened : List ℕ → Listing
-opened input =
-    cond (ltb 65529 (length input)) (begun (Refused refusal.SheetLength) freshMolecule) (begunSheet (readSheet input))
+abbrev pub begunReading : Reading → Listing
+begunReading read = begun (firstPart (read .answer)) (read .molecule)
 
 -- ---- one run more
 
@@ -113,7 +105,7 @@ turnedText l buffer = textBy (l .part) l buffer
 abbrev pub textOf : Listing → List ℕ → List ℕ
 textOf l buffer = take (turned l buffer .size) (turnedText l buffer)
 
--- The loop of `main`: turns from a listing on, each handed the buffer as the one before left it, come to a last one,
+-- The loop of `print`: turns from a listing on, each handed the buffer as the one before left it, come to a last one,
 -- and their texts, joined, are the third argument
 pub data Prints : Listing → List ℕ → List ℕ → Type 0 where
   ends : (l : Listing) (buffer : List ℕ) → turned l buffer .last ≡ true → Prints l buffer (textOf l buffer)

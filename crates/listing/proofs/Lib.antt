@@ -1,0 +1,5 @@
+pub mod Contracts
+pub mod Whole
+pub mod Ends
+pub mod Joined
+pub mod Laws

@@ -1,0 +1,40 @@
+-- The theorem of `molrings`: for every input, the texts of the turns, joined, are the text of the input; and it is what
+-- is printed for the sheet of the molfile. By the laws of a listing, since an accepted record keeps rule 9.
+use Prim.Native.Nat.{ℕ, _≤_}
+use mathlib.Core.Path.{_≡_, ap, sym, _∙_}
+use mathlib.Core.List.{List}
+use lib.ListN.{length}
+use Rattle.refusal.specs.declared.Answer.the-variants.{Accepted}
+use Rattle.bonds.specs.declared.Reading.{Reading}
+use Rattle.sheet.specs.Read.{readSheet}
+use Rattle.sheet.specs.Text.{recordSheet}
+use Rattle.sheet.proofs.EveryRecord.{record-sheet-reads}
+use Rattle.molfile.specs.Elements.{builtIn}
+use Rattle.molfile.specs.Molfile.{readMolfile}
+use Rattle.molfile.proofs.Accepted.{accepted-well-formed}
+use Rattle.listing.specs.Sound.{Sound}
+use Rattle.listing.specs.Text.{readingText}
+use Rattle.listing.specs.Turns.{Prints}
+use Rattle.listing.proofs.Joined.{reading-sound, reading-prints}
+use Rattle.molrings.specs.Text.{firstBytes, printedText, opened}
+
+pub opened-sound : (bytes : List ℕ) → Sound (opened bytes)
+opened-sound bytes = reading-sound (readMolfile builtIn bytes) (accepted-well-formed builtIn bytes)
+
+-- The turns from the listing of an input come to a last one, and their texts, joined, are the text of the input
+pub turns-joined :
+    (buffer : List ℕ) → 65536 ≤ length buffer → (input : List ℕ) →
+    Prints (opened (firstBytes input)) buffer (printedText input)
+turns-joined buffer room input =
+    let bytes = firstBytes input in
+    reading-prints buffer room (readMolfile builtIn bytes) (accepted-well-formed builtIn bytes)
+
+-- The text of an accepted molfile is what is printed for the blank-filled sheet of its record
+pub prints-its-sheet :
+    (input : List ℕ) →
+    let read = readMolfile builtIn (firstBytes input) in
+    read .answer ≡ Accepted → printedText input ≡ readingText (readSheet (recordSheet (read .molecule)))
+prints-its-sheet input e =
+    let read = readMolfile builtIn (firstBytes input) in
+    let sheet = record-sheet-reads (read .molecule) (accepted-well-formed builtIn (firstBytes input) e) in
+    rw (sheet, e)
