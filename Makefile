@@ -1,6 +1,6 @@
 # make example: builds ringlist and lists the rings of cubane.
 # make test: the layout, the layers, the style, docs/SPEC.md, the edits, the C and Rust tests, and last the verdict of the prover over every crate.
-# make bench: ring listings through the host entry against listers in Rust; what it costs to go on from a mark; then reading a full bond sheet.
+# make bench: ring listings through the host entry against listers in Rust; what it costs to go on from a mark; then reading a full bond sheet and molfiles.
 
 .PHONY: example test tests bench
 
@@ -33,3 +33,4 @@ bench:
 	rt staticlib host
 	cd tests/rust && CARGO_TARGET_DIR=../../target/tests/cargo cargo run --release --offline --quiet --bin bench_host
 	cd tests/rust && CARGO_TARGET_DIR=../../target/tests/cargo cargo run --release --offline --quiet --bin bench_sheet
+	cd tests/rust && CARGO_TARGET_DIR=../../target/tests/cargo cargo run --release --offline --quiet --bin bench_molfile

@@ -96,11 +96,16 @@ MOLECULES = {
 }
 
 
-def sheet(bonds):
-    """The text of a bond sheet."""
+def numbered(bonds):
+    """The names of the atoms in the order of their numbers, and the sorted bonds as pairs of numbers."""
     names = sorted({name for bond in bonds for name in bond})
     number = {name: i for i, name in enumerate(names, 1)}
-    pairs = sorted({tuple(sorted((number[a], number[b]))) for a, b in bonds})
+    return names, sorted({tuple(sorted((number[a], number[b]))) for a, b in bonds})
+
+
+def sheet(bonds):
+    """The text of a bond sheet."""
+    names, pairs = numbered(bonds)
     lines = [(len(names), len(pairs))] + pairs
     return "".join("%4d%4d\n" % line for line in lines)
 

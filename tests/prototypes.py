@@ -48,10 +48,13 @@ WRONG = [
     ("include/ringlist.h", "uint8_t *mark, size_t mark_len, size_t *length", "uint8_t *mark, size_t mark_len, uint64_t length"),
     ("include/ringlist.h", "uint8_t *old_mark, size_t old_mark_len,\n                             size_t *length",
      "const uint8_t *old_mark, size_t old_mark_len,\n                             size_t *length"),
+    ("include/ringlist.h", "(const uint8_t *molfile,", "(uint8_t *molfile,"),
+    ("include/ringlist.h", "uint8_t *sheet, size_t sheet_len, size_t *length", "uint8_t *sheet, size_t *length"),
     ("include/ringlist.h", 'extern "C" {', 'extern "C++" {'),
     ("include/flat.h", "const uint64_t *numbers", "uint64_t *numbers"),
     ("include/flat.h", "uint64_t flat_read_field", "uint32_t flat_read_field"),
     ("include/flat.h", "uint64_t *count", "uint64_t count"),
+    ("include/flat.h", "const uint8_t *molfile, size_t molfile_len", "const uint8_t *molfile, uint32_t molfile_len"),
 ]
 
 

@@ -1,8 +1,9 @@
 #!/usr/bin/env bash
-# Runs all tests of target/staticlib/libflat.a, target/staticlib/libhost.a and
-# target/bin/ringlist: in C, in Rust, by killing the example host and the program
-# that carries its states over, and a sample under valgrind. Any failure is a
-# non-zero exit.
+# Runs all tests of target/staticlib/libflat.a, target/staticlib/libhost.a,
+# target/bin/ringlist and target/bin/molrings: in C, in Rust, on molfiles of Open
+# Babel where it is installed, by killing the example host and the program that
+# carries its states over, and a sample under valgrind. Any failure is a non-zero
+# exit.
 set -euo pipefail
 cd "$(dirname "$0")/.."
 root=$PWD
@@ -11,7 +12,8 @@ die() { echo "run_tests.sh: $*" >&2; exit 1; }
 flat=$root/target/staticlib/libflat.a
 host=$root/target/staticlib/libhost.a
 ringlist=$root/target/bin/ringlist
-for made in "$flat" "$host" "$ringlist"; do
+molrings=$root/target/bin/molrings
+for made in "$flat" "$host" "$ringlist" "$molrings"; do
     [ -f "$made" ] || die "$made is missing; build it first"
 done
 
@@ -22,12 +24,13 @@ mkdir -p "$out"
 export CARGO_TARGET_DIR=$out/cargo
 unset FLAT_LIB_DIR FLAT_BIN_DIR FLAT_SAMPLE
 
-echo "== Example sheets: the script makes the files that are committed"
-rm -rf "$out/sheets"
-mkdir "$out/sheets"
-python3 examples/make_sheets.py "$out/sheets"
-for sheet in "$out"/sheets/*.sheet examples/*.sheet; do
-    cmp "$out/sheets/${sheet##*/}" "examples/${sheet##*/}" || die "${sheet##*/} is not what make_sheets.py makes"
+echo "== Example sheets and molfiles: the scripts make the files that are committed"
+rm -rf "$out/examples"
+mkdir "$out/examples"
+python3 examples/make_sheets.py "$out/examples"
+python3 examples/make_molfiles.py "$out/examples"
+for file in {"$out/examples",examples}/*.{sheet,mol}; do
+    cmp "$out/examples/${file##*/}" "examples/${file##*/}" || die "${file##*/} is not what its script makes"
 done
 
 echo "== The C headers against the functions that the code exports"
@@ -56,6 +59,23 @@ if "$out/minimal" <examples/cubane.sheet >/dev/full; then die "minimal on a full
 sed -n '/^```c$/,/^```$/p' README.md | sed '1d;$d' >"$out/minimal.text"
 sed 1d examples/minimal.c | cmp - "$out/minimal.text" || die "README.md does not have examples/minimal.c as it is"
 
+echo "== molrings: what ringlist prints for the sheet with the same bonds"
+for molfile in examples/*.mol; do
+    python3 tests/molfile_sheet.py <"$molfile" >"$out/molfile.sheet"
+    "$ringlist" <"$out/molfile.sheet" >"$out/sheet.text"
+    "$molrings" <"$molfile" >"$out/molfile.text" || die "molrings on $molfile: exit code $?"
+    cmp "$out/sheet.text" "$out/molfile.text" || die "molrings on $molfile: not what ringlist prints for its sheet"
+    # The carbons have the numbers of the example sheet, and hydrogens are in no ring.
+    sheet=${molfile%.mol}.sheet
+    [ ! -f "$sheet" ] || "$ringlist" <"$sheet" | sed '$d' | cmp - <(sed '$d' "$out/molfile.text") ||
+        die "molrings on $molfile: not the rings of $sheet"
+done
+"$ringlist" <examples/gonane.sheet | cmp - <("$molrings" <examples/gonane.mol) ||
+    die "molrings on examples/gonane.mol: not what ringlist prints for examples/gonane.sheet"
+"$molrings" </dev/null >"$out/molfile.text" || die "molrings on no molfile: exit code $?"
+echo "refused  18" | cmp - "$out/molfile.text" || die "molrings on no molfile: not refused by rule 18"
+python3 tests/openbabel_test.py "$root/target/bin" "$out/openbabel"
+
 echo "== Rust tests"
 (cd tests/rust && cargo test --release --offline)
 
@@ -63,11 +83,13 @@ echo "== Killing the example host, and the program that carries its states over"
 python3 tests/kill_test.py "$out/host" "$out/host_steps" "$out/carry" "$out/carry_steps" "$ringlist" examples \
     "$out/kill"
 
-echo "== C tests, ringlist, hosts and carry under valgrind"
+echo "== C tests, ringlist, molrings, hosts and carry under valgrind"
 $checker "$out/flat_test" || die "flat_test under valgrind: exit code $?"
 $checker "$out/host_test" without-stack || die "host_test under valgrind: exit code $?"
 $checker "$ringlist" <examples/dodecahedrane.sheet >"$out/checked.text" || die "ringlist under valgrind: exit code $?"
 "$ringlist" <examples/dodecahedrane.sheet | cmp - "$out/checked.text" || die "ringlist under valgrind: another output"
+$checker "$molrings" <examples/caffeine.mol >"$out/molfile.text" || die "molrings under valgrind: exit code $?"
+"$molrings" <examples/caffeine.mol | cmp - "$out/molfile.text" || die "molrings under valgrind: another output"
 $checker "$out/minimal" <examples/dodecahedrane.sheet >"$out/minimal.text" || die "minimal under valgrind: exit code $?"
 sed '$d' "$out/checked.text" | cmp - "$out/minimal.text" || die "minimal under valgrind: another output"
 rm -f "$out/state" "$out/rings"

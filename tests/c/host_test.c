@@ -927,6 +927,508 @@ static void refused_carrying(void) {
     carried(ringlist_carry_back, other, sizeof other - 1, full_mark, 144, 144, 15, "", __LINE__);
 }
 
+/* A molfile read with a sheet output of `room` bytes: its answer, all that it
+   wrote, and the length, which only the answer 0 sets; the numbers beside the
+   length are kept. */
+static void molfile_read(const void *molfile, size_t molfile_len, size_t room, uint32_t answer,
+                         const char *sheet, int line) {
+    const size_t before = 7;
+    size_t around[3] = {before, before, before};
+    uint8_t *given = exact(molfile, molfile_len), *out = some(room + 2 * MARGIN);
+    memset(out, PATTERN, room + 2 * MARGIN);
+    check_number(ringlist_molfile(given, molfile_len, out + MARGIN, room, &around[1]), answer, line,
+                 "answer of reading");
+    check(molfile_len == 0 || memcmp(given, molfile, molfile_len) == 0, line, "molfile kept");
+    check(begins(out, room, sheet, strlen(sheet)), line, "sheet");
+    check_number(around[1], answer == 0 ? strlen(sheet) : before, line, "length");
+    check(around[0] == before && around[2] == before, line, "numbers beside the length");
+    free(given);
+    free(out);
+}
+
+/* A sheet output that always will do. */
+#define SHEET_ROOM 9000
+
+/* An accepted molfile: its sheet, in an output of just its length and in longer
+   ones; shorter ones are refused by 13. */
+static void molfile_accepted(const void *molfile, size_t molfile_len, const char *sheet, int line) {
+    const size_t len = strlen(sheet);
+    molfile_read(molfile, molfile_len, len, 0, sheet, line);
+    molfile_read(molfile, molfile_len, len + 1, 0, sheet, line);
+    molfile_read(molfile, molfile_len, SHEET_ROOM, 0, sheet, line);
+    molfile_read(molfile, molfile_len, len - 1, 13, "", line);
+    molfile_read(molfile, molfile_len, len - 9, 13, "", line);
+    molfile_read(molfile, molfile_len, 0, 13, "", line);
+}
+
+/* A molfile refused by a rule of its own, which comes before the room. */
+static void molfile_refused(const void *molfile, size_t molfile_len, uint32_t rule, int line) {
+    molfile_read(molfile, molfile_len, SHEET_ROOM, rule, "", line);
+    molfile_read(molfile, molfile_len, 0, rule, "", line);
+}
+
+#define ACCEPTED(molfile, sheet) molfile_accepted(molfile, sizeof(molfile) - 1, sheet, __LINE__)
+#define NOT_READ(molfile, rule) molfile_refused(molfile, sizeof(molfile) - 1, rule, __LINE__)
+
+/* The lines of a molfile as editors write them, of 40, 70, 13 and 7 bytes. */
+#define HEADER "rings\n  by hand\n\n"
+#define COUNTS(numbers) numbers "  0  0  0  0  0  0  0  0999 V2000\n"
+#define ATOM(symbol) "    0.0000   -1.2500    0.0000 " symbol " 0  0  0  0  0  0  0  0  0  0  0  0\n"
+#define BOND(atoms) atoms "  1  0\n"
+#define END "M  END\n"
+
+/* The document's molecule with two more elements. Its sheet has the bonds in
+   dictionary order. */
+static const char molfile[] =
+    HEADER COUNTS("  4  5") ATOM("C  ") ATOM("N  ") ATOM("C  ") ATOM("O  ")
+    BOND("  1  2") BOND("  2  3") BOND("  3  4") BOND("  1  4") BOND("  1  3") END;
+static const char molfile_sheet[] = "   4   5\n" BONDS;
+
+/* Where its lines begin; atoms and bonds from 0 on. */
+#define COUNTS_AT (sizeof HEADER - 1)
+#define ATOM_AT(i) (COUNTS_AT + 40 + 70 * (i))
+#define BOND_AT(i) (ATOM_AT(4) + 13 * (i))
+
+/* Cyclopropane: carbons 2, 5 and 9, hydrogens the others. */
+static const char cyclopropane[] =
+    HEADER COUNTS("  9  9") ATOM("H  ") ATOM("C  ") ATOM("H  ") ATOM("H  ") ATOM("C  ") ATOM("H  ")
+    ATOM("H  ") ATOM("H  ") ATOM("C  ") BOND("  9  8") BOND("  2  9") BOND("  7  9") BOND("  6  5")
+    BOND("  5  2") BOND("  4  5") BOND("  2  3") BOND("  1  2") BOND("  9  5") END;
+
+static void molfiles_by_hand(void) {
+    EQUAL(sizeof molfile - 1, BOND_AT(5) + 7);
+    ACCEPTED(molfile, molfile_sheet);
+    /* The bonds in any order, with either atom first, and zeros before the numbers. */
+    ACCEPTED(HEADER COUNTS("004 05") ATOM("C  ") ATOM("N  ") ATOM("C  ") ATOM("O  ") BOND(" 04003")
+             BOND("003  1") BOND("  4001") BOND("  3 02") BOND("002001") END, molfile_sheet);
+    ACCEPTED(cyclopropane,
+             "   9   9\n   1   2\n   2   3\n   2   5\n   2   9\n   4   5\n   5   6\n   5   9\n"
+             "   7   9\n   8   9\n");
+    /* Elements of one molecule: 1 is P, 2 S, 3 N, 4 F, 5 H, 6 O, 7 C. */
+    ACCEPTED(HEADER COUNTS("  7  4") ATOM("P  ") ATOM("S  ") ATOM("N  ") ATOM("F  ") ATOM("H  ")
+             ATOM("O  ") ATOM("C  ") BOND("  7  4") BOND("  1  2") BOND("  6  5") BOND("  3  1") END,
+             "   7   4\n   1   2\n   1   3\n   4   7\n   5   6\n");
+    /* No bonds, and no atoms. */
+    ACCEPTED(HEADER COUNTS("  2  0") ATOM("O  ") ATOM("H  ") END, "   2   0\n");
+    ACCEPTED(HEADER COUNTS("  0  0") END, "   0   0\n");
+    ACCEPTED(HEADER COUNTS("000000") END, "   0   0\n");
+}
+
+/* The sheet of a molfile is listed by the other functions. */
+static void molfiles_listed(void) {
+    static uint8_t sheet[SHEET_ROOM];
+    uint8_t all[16];
+    char mark[160];
+    size_t length = 0, mark_len = mark_after(16, mark);
+    EQUAL(ringlist_molfile((const uint8_t *)molfile, sizeof molfile - 1, sheet, SHEET_ROOM, &length),
+          0);
+    EQUAL(length, 54);
+    wrote(call(sheet, length, NULL, 0, 16, 8, MARK), 101, records, 8, mark, mark_len, __LINE__);
+    wrote(call(sheet, length, full_mark, 144, 11, 8, MARK), 101, records, 8, mark, mark_len,
+          __LINE__);
+    EQUAL(ringlist_molfile((const uint8_t *)cyclopropane, sizeof cyclopropane - 1, sheet, SHEET_ROOM,
+                           &length), 0);
+    EQUAL(length, 90);
+    /* The ring is 2 5 9, with the beginnings 2 and 2 5: 9 * (2 + 1) trials. */
+    sheet[length] = 0;
+    EQUAL(list_all((const char *)sheet, 0, 0, 0, all,
+                   "                  27                   2                   1"), 4);
+    CHECK(memcmp(all, "\3\2\5\11", 4) == 0);
+}
+
+/* A stretch of length 0 is not touched, whatever its pointer. */
+static void molfile_zero_lengths(void) {
+    uint8_t *nowhere[2] = {NULL, (uint8_t *)1}, sheet[54];
+    size_t length = 7;
+    for (int i = 0; i < 2; i++) {
+        uint8_t *any = nowhere[i];
+        EQUAL(ringlist_molfile(any, 0, any, 0, &length), 18);
+        EQUAL(ringlist_molfile(any, 0, sheet, 54, &length), 18);
+        EQUAL(ringlist_molfile((const uint8_t *)molfile, sizeof molfile - 1, any, 0, &length), 13);
+    }
+    EQUAL(length, 7);
+}
+
+/* The molfile with a carriage return before the line feeds of its lines from
+   `first` to `last`; returns its bytes. */
+static size_t with_returns(int first, int last, char text[600]) {
+    size_t len = 0;
+    int line = 0;
+    for (const char *byte = molfile; *byte != 0; byte++) {
+        if (*byte == '\n' && ++line >= first && line <= last) {
+            text[len++] = '\r';
+        }
+        text[len++] = *byte;
+    }
+    return len;
+}
+
+/* The ends of lines. */
+static void molfile_line_ends(void) {
+    char text[600];
+    const size_t len = sizeof molfile - 1;
+    EQUAL(with_returns(1, 14, text), len + 14);
+    for (int first = 1; first <= 14; first++) {
+        molfile_accepted(text, with_returns(first, 14, text), molfile_sheet, __LINE__);
+        molfile_accepted(text, with_returns(first, first, text), molfile_sheet, __LINE__);
+        molfile_accepted(text, with_returns(1, first, text), molfile_sheet, __LINE__);
+    }
+    /* Each beginning lacks a line feed. */
+    for (size_t shorter = 0; shorter < len; shorter++) {
+        molfile_refused(molfile, shorter, 18, __LINE__);
+    }
+    size_t longer = with_returns(1, 14, text);
+    for (size_t shorter = 0; shorter < longer; shorter++) {
+        molfile_refused(text, shorter, 18, __LINE__);
+    }
+    /* A carriage return alone ends no line. */
+    for (size_t i = 0; i < len; i++) {
+        text[i] = molfile[i] == '\n' ? '\r' : molfile[i];
+    }
+    molfile_refused(text, len, 18, __LINE__);
+    /* A line feed too many is one more line. */
+    NOT_READ("\n" HEADER COUNTS("  0  0") END, 18);
+    NOT_READ(HEADER "\n" COUNTS("  0  0") END, 18);
+    NOT_READ(HEADER COUNTS("  1  0") "\n" ATOM("C  ") END, 18);
+    NOT_READ(HEADER COUNTS("  2  1") ATOM("C  ") ATOM("C  ") "\n" BOND("  1  2") END, 18);
+    ACCEPTED(HEADER COUNTS("  0  0") "\n" END, "   0   0\n");
+}
+
+/* Lines with nothing past the last column named for them, and 31 columns of any
+   bytes before a symbol. */
+#define LEAST_COUNTS(numbers) numbers "xxxxxxxxxxxxxxxxxxxxxxxxxxxxV2000"
+#define LEAST_ATOM(symbol) "\000\001\r\t\377\200  M  END V2000 0123456789" symbol
+#define LEAST(counts, atom, bond) "\n\n\n" counts "\n" atom "\n" LEAST_ATOM("C  ") "\n" bond "\n" END
+
+/* The lengths of lines. */
+static void molfile_line_lengths(void) {
+    static const char sheet[] = "   2   1\n   1   2\n";
+    EQUAL(sizeof LEAST_COUNTS("  2  1") - 1, 39);
+    EQUAL(sizeof LEAST_ATOM("C  ") - 1, 34);
+    ACCEPTED(LEAST(LEAST_COUNTS("  2  1"), LEAST_ATOM("C  "), "  2  1"), sheet);
+    ACCEPTED(LEAST(LEAST_COUNTS("  2  1") "\r", LEAST_ATOM("C  ") "\r", "  2  1\r"), sheet);
+    /* Longer by any bytes; of two carriage returns one belongs to the line. */
+    ACCEPTED(LEAST(LEAST_COUNTS("  2  1") "0", LEAST_ATOM("C  ") "l", "  2  17"), sheet);
+    ACCEPTED(LEAST(LEAST_COUNTS("  2  1") "\000\r\r", LEAST_ATOM("C  ") "\377\r\r", "  2  1\r\r"),
+             sheet);
+    /* Shorter by a column, which neither carriage returns nor the next line give. */
+    NOT_READ(LEAST("  2  1xxxxxxxxxxxxxxxxxxxxxxxxxxxxV200", LEAST_ATOM("C  "), "  2  1"), 18);
+    NOT_READ(LEAST("  2  1xxxxxxxxxxxxxxxxxxxxxxxxxxxxV200\r\r", LEAST_ATOM("C  "), "  2  1"), 18);
+    NOT_READ(LEAST(LEAST_COUNTS("  2  1"), LEAST_ATOM("C "), "  2  1"), 18);
+    NOT_READ(LEAST(LEAST_COUNTS("  2  1"), LEAST_ATOM("C "), "  2  1\r"), 18);
+    NOT_READ(LEAST(LEAST_COUNTS("  2  1"), LEAST_ATOM("C ") "\r", "  2  1"), 18);
+    NOT_READ(LEAST(LEAST_COUNTS("  2  1"), LEAST_ATOM("C"), "  2  1"), 18);
+    NOT_READ(LEAST(LEAST_COUNTS("  2  1"), "", "  2  1"), 18);
+    NOT_READ(LEAST(LEAST_COUNTS("  2  1"), LEAST_ATOM("C  "), "  2 1"), 18);
+    NOT_READ(LEAST(LEAST_COUNTS("  2  1"), LEAST_ATOM("C  "), "  2  \r"), 18);
+    NOT_READ(LEAST(LEAST_COUNTS("  2  1"), LEAST_ATOM("C  "), ""), 18);
+    /* Shorter, with no byte behind it. */
+    NOT_READ(HEADER "  0  0\n", 18);
+    NOT_READ(HEADER COUNTS("  1  0") "C\n", 18);
+    NOT_READ(HEADER COUNTS("  0  1") "1\n", 18);
+    NOT_READ(HEADER COUNTS("  0  0") "M\n", 18);
+    /* The first of two carriage returns is in the last column of the symbol. */
+    NOT_READ(LEAST(LEAST_COUNTS("  2  1"), LEAST_ATOM("C ") "\r\r", "  2  1"), 19);
+}
+
+#define ETHANE COUNTS("  2  1") ATOM("C  ") ATOM("C  ") BOND("  1  2")
+
+/* What is skipped: the header, what stands before M  END, and what follows it. */
+static void molfile_skipped_lines(void) {
+    static const char sheet[] = "   2   1\n   1   2\n";
+    ACCEPTED(END END END ETHANE END, sheet);
+    ACCEPTED("M  END\r\n\000\377\r\r\n" COUNTS("  9  9") ETHANE END, sheet);
+    ACCEPTED("\n\n\n" ETHANE END, sheet);
+    NOT_READ("\n\n" ETHANE END, 18);
+    NOT_READ("\n\n\n\n" ETHANE END, 18);
+    /* Property lines, bond lines too many, and lines that are nearly M  END. */
+    ACCEPTED(HEADER ETHANE "M  CHG  1   2   1\nM  ISO  1   1  13\n" END, sheet);
+    ACCEPTED(HEADER ETHANE BOND("  1  2") BOND("  9  9") BOND("xxxxxx") ATOM("Xx ") END, sheet);
+    ACCEPTED(HEADER ETHANE "M  END \n M  END\nM  EN\nM END\nm  end\nM  END\r\r\n\000\n" END, sheet);
+    ACCEPTED(HEADER ETHANE "M  END\000\nM  EN\nD\nM\t END\nM  ENDM  END\nM  EMD\r\n" "M  END\r\n",
+             sheet);
+    NOT_READ(HEADER ETHANE, 18);
+    NOT_READ(HEADER ETHANE "M  END", 18);
+    NOT_READ(HEADER ETHANE "M  END\r", 18);
+    NOT_READ(HEADER ETHANE "M  END\r\r\n", 18);
+    NOT_READ(HEADER ETHANE "M  END \n", 18);
+    NOT_READ(HEADER ETHANE " M  END\n", 18);
+    NOT_READ(HEADER ETHANE "M  EN\nD\n", 18);
+    NOT_READ(HEADER ETHANE "M  ENDM  END\n", 18);
+    NOT_READ(HEADER ETHANE "M END\nm  end\nM  EMD\n\n\n", 18);
+    /* M  END in the place of another line. */
+    NOT_READ(HEADER END ETHANE END, 18);
+    NOT_READ(HEADER COUNTS("  1  0") END END, 18);
+    NOT_READ(HEADER COUNTS("  1  1") ATOM("C  ") END END, 18);
+    /* What follows is not read: no line feed, another molfile, what would be refused. */
+    ACCEPTED(HEADER ETHANE END "M  EN", sheet);
+    ACCEPTED(HEADER ETHANE END "> <name>\nethane\n\n$$$$\n" HEADER COUNTS("999999") ATOM("Xx ") END,
+             sheet);
+    ACCEPTED(HEADER ETHANE END "\000\377\r", sheet);
+}
+
+/* The molfile with other bytes from `at` on: the sheet, or a rule where there is none. */
+static void replaced(size_t at, const char *bytes, size_t len, const char *sheet, uint32_t rule,
+                     int line) {
+    char text[sizeof molfile];
+    memcpy(text, molfile, sizeof molfile);
+    memcpy(text + at, bytes, len);
+    if (sheet != NULL) {
+        molfile_accepted(text, sizeof molfile - 1, sheet, line);
+    } else {
+        molfile_refused(text, sizeof molfile - 1, rule, line);
+    }
+}
+
+#define REPLACED(at, bytes, sheet) replaced(at, bytes, sizeof(bytes) - 1, sheet, 0, __LINE__)
+#define SPOILED(at, bytes, rule) replaced(at, bytes, sizeof(bytes) - 1, NULL, rule, __LINE__)
+
+/* Numbers: blanks, then one or more digits, to the right of their columns. */
+static void molfile_numbers(void) {
+    static const char bad[24][4] = {
+        "   ", "4  ", " 4 ", "04 ", "4 4", "0 4", "00 ", "-04", " -4", "  -", "+ 4", " +4",
+        "x04", "  x", "0x4", "4.0", "1e0", "\t\t4", "  \n", " \r4", " 4\r", "  /", "  :", "  \xb4",
+    };
+    const size_t places[6] = {COUNTS_AT,      COUNTS_AT + 3, BOND_AT(0),
+                              BOND_AT(0) + 3, BOND_AT(4),    BOND_AT(4) + 3};
+    for (int i = 0; i < 6; i++) {
+        for (int k = 0; k < 24; k++) {
+            replaced(places[i], bad[k], 3, NULL, 18, __LINE__);
+        }
+        replaced(places[i], "\000\0004", 3, NULL, 18, __LINE__);
+    }
+    REPLACED(COUNTS_AT, "004005", molfile_sheet);
+    REPLACED(COUNTS_AT, " 04 05", molfile_sheet);
+    REPLACED(BOND_AT(2), "003004", molfile_sheet);
+    REPLACED(BOND_AT(2), " 03 04", molfile_sheet);
+    REPLACED(BOND_AT(2), " 04003", molfile_sheet);
+    /* Fewer bonds than bond lines: the others are skipped. */
+    REPLACED(COUNTS_AT + 3, "000", "   4   0\n");
+    REPLACED(COUNTS_AT + 3, " 00", "   4   0\n");
+    REPLACED(COUNTS_AT + 3, "  2", "   4   2\n   1   2\n   2   3\n");
+    /* A bond line more than there are, an atom line more or fewer. */
+    SPOILED(COUNTS_AT + 3, "  6", 18);
+    SPOILED(COUNTS_AT + 3, "999", 18);
+    SPOILED(COUNTS_AT, "  5", 18);
+    SPOILED(COUNTS_AT, "  3", 18);
+    SPOILED(COUNTS_AT, "000", 18);
+    SPOILED(COUNTS_AT, "999", 18);
+}
+
+/* V2000 in its columns and nowhere else. */
+static void molfile_version(void) {
+    SPOILED(COUNTS_AT + 34, "V3000", 18);
+    SPOILED(COUNTS_AT + 34, "v2000", 18);
+    SPOILED(COUNTS_AT + 34, "V2001", 18);
+    SPOILED(COUNTS_AT + 34, "     ", 18);
+    SPOILED(COUNTS_AT + 34, "W2000", 18);
+    SPOILED(COUNTS_AT + 33, "V2000 ", 18);
+    SPOILED(COUNTS_AT + 34, " V2000\n", 18);
+    NOT_READ(HEADER "  0  0  0  0  0  0  0  0  0  0999  V2000\n" END, 18);
+    NOT_READ(HEADER "  0  0  0  0  0  0  0  0  0  0999V2000 \n" END, 18);
+    NOT_READ(HEADER "  0  0  0  0  0  0  0  0  0  0999V2000\n" END, 18);
+    ACCEPTED(HEADER "  0  0  0  0  0  0  0  0  0  0999 V2000V3000\n" END, "   0   0\n");
+}
+
+/* A symbol that is in the table, to the left of its columns. */
+static void molfile_symbols(void) {
+    static const char bad[24][4] = {
+        "   ", " C ", "  C", "c  ", "h  ", "CC ", "C C", "CO ", "Cl ", "CL ", "C0 ", "C\r ",
+        "C\t ", "C \t", "C \xa0", "B  ", "D  ", "Si ", "Na ", "R# ", "*  ", "C_ ", "\xc3  ", "Br ",
+    };
+    for (size_t i = 0; i < 4; i++) {
+        for (int k = 0; k < 24; k++) {
+            replaced(ATOM_AT(i) + 31, bad[k], 3, NULL, 19, __LINE__);
+        }
+        SPOILED(ATOM_AT(i) + 31, "C\000\000", 19);
+        SPOILED(ATOM_AT(i) + 31, "C\n ", 18);
+    }
+    REPLACED(ATOM_AT(0) + 31, "S  ", molfile_sheet);
+    REPLACED(ATOM_AT(1) + 31, "C  ", molfile_sheet);
+    REPLACED(ATOM_AT(2) + 31, "O  ", molfile_sheet);
+    REPLACED(ATOM_AT(3) + 31, "P  ", molfile_sheet);
+    /* Columns 31 and 35 are not the symbol's. */
+    REPLACED(ATOM_AT(0) + 30, "CC  l", molfile_sheet);
+}
+
+/* Bonds, and each rule before the next, over the whole input. */
+static void molfile_bonds(void) {
+    SPOILED(BOND_AT(0), "  0", 6);
+    SPOILED(BOND_AT(4) + 3, "000", 6);
+    SPOILED(BOND_AT(4), "  5", 6);
+    SPOILED(BOND_AT(0) + 3, "  5", 6);
+    SPOILED(BOND_AT(2), "999", 6);
+    SPOILED(BOND_AT(2), "259", 6);
+    SPOILED(BOND_AT(2), "  0  0", 6);
+    SPOILED(BOND_AT(2), "  5  5", 6);
+    SPOILED(BOND_AT(0), "  1  1", 7);
+    SPOILED(BOND_AT(4), "  4  4", 7);
+    SPOILED(BOND_AT(0), "  1  3", 8);
+    SPOILED(BOND_AT(0), "  3  1", 8);
+    SPOILED(BOND_AT(4), "  2  3", 8);
+    SPOILED(BOND_AT(4), "  3  2", 8);
+    /* The hydrogen 1 has three neighbours. */
+    SPOILED(ATOM_AT(0) + 31, "H  ", 20);
+    SPOILED(ATOM_AT(3) + 31, "F  ", 20);
+    NOT_READ(HEADER COUNTS("  3  3") ATOM("H  ") ATOM("C  ") ATOM("C  ") BOND("  1  2") BOND("  3  1")
+             BOND("  2  1") END, 8);
+    /* A hydrogen that has one neighbour in two bonds breaks rule 8 alone. */
+    NOT_READ(HEADER COUNTS("  2  2") ATOM("H  ") ATOM("C  ") BOND("  1  2") BOND("  1  2") END, 8);
+}
+
+/* A molfile and a sheet that are written at length. */
+static struct {
+    char molfile[90000], sheet[SHEET_ROOM + 1];
+    size_t molfile_len, sheet_len;
+} drawn;
+
+static void draw_counts(int n, int m) {
+    drawn.molfile_len = (size_t)sprintf(drawn.molfile, HEADER COUNTS("%3d%3d"), n, m);
+    drawn.sheet_len = (size_t)sprintf(drawn.sheet, "%4d%4d\n", n, m);
+}
+
+static void draw_atoms(int count, const char *symbol) {
+    for (; count > 0; count--) {
+        drawn.molfile_len += (size_t)sprintf(drawn.molfile + drawn.molfile_len, ATOM("%-3s"), symbol);
+    }
+}
+
+static void draw_bond(int a, int b) {
+    drawn.molfile_len += (size_t)sprintf(drawn.molfile + drawn.molfile_len, BOND("%3d%3d"), a, b);
+}
+
+static void draw_sheet_line(int a, int b) {
+    drawn.sheet_len += (size_t)sprintf(drawn.sheet + drawn.sheet_len, "%4d%4d\n", a, b);
+}
+
+static void draw_end(void) {
+    drawn.molfile_len += (size_t)sprintf(drawn.molfile + drawn.molfile_len, END);
+}
+
+#define DRAWN drawn.molfile, drawn.molfile_len
+
+/* Each element in the midst of 0 to 7 sulfurs: so many neighbours and no more. */
+static void molfile_neighbours(void) {
+    static const struct {
+        const char *symbol;
+        int most;
+    } elements[7] = {{"H", 1}, {"C", 4}, {"N", 4}, {"O", 3}, {"F", 1}, {"P", 6}, {"S", 6}};
+    for (int i = 0; i < 7; i++) {
+        for (int count = 0; count <= 7; count++) {
+            draw_counts(count + 1, count);
+            draw_atoms(1, elements[i].symbol);
+            draw_atoms(count, "S");
+            for (int other = count + 1; other > 1; other--) {
+                draw_bond(other % 2 ? 1 : other, other % 2 ? other : 1);
+                draw_sheet_line(1, count + 3 - other);
+            }
+            draw_end();
+            if (count <= elements[i].most) {
+                molfile_accepted(DRAWN, drawn.sheet, __LINE__);
+            } else {
+                molfile_refused(DRAWN, 20, __LINE__);
+            }
+        }
+    }
+}
+
+/* A molfile that breaks the rules 18, 3, 19, 6, 7, 8 and 20, of which the first
+   `kept` are mended. The bonds that break a rule stand behind those that break a
+   later one. */
+static void draw_wrong(int kept) {
+    int n = kept < 2 ? 129 : 128;
+    draw_counts(n, 5);
+    draw_atoms(1, kept < 7 ? "H" : "C");
+    draw_atoms(n - 2, "C");
+    draw_atoms(1, kept < 3 ? "Cl" : "F");
+    draw_bond(1, 2);
+    draw_bond(1, 3);
+    draw_bond(kept < 6 ? 2 : 5, kept < 6 ? 1 : 6);
+    draw_bond(kept < 5 ? 4 : 6, kept < 5 ? 4 : 7);
+    draw_bond(kept < 4 ? 0 : 127, kept < 4 ? 5 : 128);
+    if (kept > 0) {
+        draw_end();
+    }
+}
+
+/* The order of the rules, 13 last. */
+static void molfile_rules(void) {
+    static const uint32_t rules[7] = {18, 3, 19, 6, 7, 8, 20};
+    for (int kept = 0; kept < 7; kept++) {
+        draw_wrong(kept);
+        molfile_refused(DRAWN, rules[kept], __LINE__);
+    }
+    draw_wrong(7);
+    molfile_accepted(DRAWN, " 128   5\n   1   2\n   1   3\n   5   6\n   6   7\n 127 128\n", __LINE__);
+}
+
+/* 999 atoms are read before they are too many. */
+static void many_molfile_atoms(void) {
+    draw_counts(999, 0);
+    draw_atoms(998, "Xx");
+    molfile_refused(DRAWN, 18, __LINE__);
+    draw_end();
+    molfile_refused(DRAWN, 18, __LINE__);
+    drawn.molfile_len -= sizeof END - 1;
+    draw_atoms(1, "C");
+    molfile_refused(DRAWN, 18, __LINE__);
+    draw_end();
+    molfile_refused(DRAWN, 3, __LINE__);
+}
+
+/* 128 sulfurs around a circle, each bonded to the three next on either side: 384
+   bonds, as many as a molfile can have. */
+static void draw_circle(int m) {
+    draw_counts(128, m);
+    draw_atoms(128, "S");
+    for (int i = 0; i < 384; i++) {
+        draw_bond(i % 128 + 1, (i % 128 + i / 128 + 1) % 128 + 1);
+    }
+    for (int a = 1; a <= 128; a++) {
+        for (int b = a + 1; b <= 128; b++) {
+            if (b - a <= 3 || b - a >= 125) {
+                draw_sheet_line(a, b);
+            }
+        }
+    }
+}
+
+/* 384 bonds, one more, and 999, all of different pairs. */
+static void many_molfile_bonds(void) {
+    draw_circle(384);
+    draw_end();
+    EQUAL(drawn.sheet_len, 3465);
+    molfile_accepted(DRAWN, drawn.sheet, __LINE__);
+    draw_circle(385);
+    draw_bond(1, 5);
+    draw_end();
+    molfile_refused(DRAWN, 20, __LINE__);
+    draw_circle(999);
+    for (int i = 0; i < 615; i++) {
+        draw_bond(i % 100 + 1, i % 100 + i / 100 + 5);
+    }
+    molfile_refused(DRAWN, 18, __LINE__);
+    draw_end();
+    molfile_refused(DRAWN, 20, __LINE__);
+}
+
+static void molfiles(void) {
+    molfiles_by_hand();
+    molfiles_listed();
+    molfile_zero_lengths();
+    molfile_line_ends();
+    molfile_line_lengths();
+    molfile_skipped_lines();
+    molfile_numbers();
+    molfile_version();
+    molfile_symbols();
+    molfile_bonds();
+    molfile_neighbours();
+    molfile_rules();
+    many_molfile_atoms();
+    many_molfile_bonds();
+}
+
 /* Counts are taken as they are; at the limit a run stops before its first
    trial, but done comes before the limit, and the limit before spent. */
 static void limit(void) {
@@ -1033,7 +1535,9 @@ static void *call_in_thread(void *calls) {
                    ringlist_carry_over((const uint8_t *)SHEET, (const uint8_t *)full_mark, 99, next, MARK,
                                        &length) == 0 && length == 144 &&
                    ringlist_carry_back((const uint8_t *)SHEET, next, 144, fresh, MARK, &length) == 0 &&
-                   length == 99
+                   length == 99 &&
+                   ringlist_molfile((const uint8_t *)molfile, sizeof molfile - 1, next, MARK, &length) == 0 &&
+                   length == 54
                ? calls
                : NULL;
 }
@@ -1093,6 +1597,7 @@ int main(int words, char **word) {
     carrying_of_cubane();
     carrying();
     refused_carrying();
+    molfiles();
     limit();
     mark_readers();
     if (words == 1) {

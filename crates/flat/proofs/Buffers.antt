@@ -78,6 +78,13 @@ behind-head head rest rows out part four same whole copied =
     post-is : postOf 4 (length out - 4) out ≡ []
     post-is = drop-of-length-le (drop 4 out) short
 
+-- what a reader returns and writes, for what the text is read as
+pub reading-is :
+    {read defined : Reading} (out : List ℕ) {code : ℕ} {last : List ℕ} → read ≡ defined →
+    (code ≡ readCode read out) × (last ≡ readOutput read out) →
+    (code ≡ readCode defined out) × (last ≡ readOutput defined out)
+reading-is out is both = rw (← is) both
+
 -- what a reader returns and writes, by its answer
 module _ (read : Reading) (out : List ℕ) where
   abbrev Left : ℕ → List ℕ → Type 0

@@ -1,19 +1,20 @@
--- The list of the bonds of a record that rule 9 allows has m bonds: half of the ones of its rows.
--- The ones are summed byte by byte and bit by bit, so cell by cell; a cell off the diagonal is above it or mirrors one.
+-- The ones of a row are as many as the neighbours of its atom, and the list of the bonds of a record that rule 9 allows
+-- has m bonds: half of all ones. They are summed row by row, bit by bit, so cell by cell; each cell has a mirror image.
 use Prim.Native.Nat.{ℕ, zero, suc, _+_, _*_, _/_, _%_, _<_}
 use native.Mathlib.Decide.{decLt}
 use native.Mathlib.Omega.{arith}
 use mathlib.Core.Path.{_≡_, refl, ap, sym, _∙_}
 use mathlib.Core.Bool.{Bool, true, false, _&&_, cond}
 use mathlib.Core.List.{List, [], _∷_, _++_}
-use lib.ListN.{length, getD, length-append}
+use lib.ListN.{length, getD, take, drop, length-append, length-drop}
+use lib.Seq.{getD-take, getD-drop, length-take-le}
 use lib.Dec.{ltb}
 use lib.Count.{ones}
 use borrow.Author.Tests.{lt-ltb, le-ltb, eqb-true}
 use Rattle.graph.proofs.Below.{false-of, same-test}
 use Rattle.graph.proofs.Sums.{sum, sum-same, sum-first, sum-rows, sum-grid, sum-mirror}
 use Rattle.molecule.specs.declared.Molecule.{Molecule}
-use Rattle.molecule.specs.Record.{bit, cell, onesOf, wellFormed}
+use Rattle.molecule.specs.Record.{bit, cell, onesOf, neighbours, wellFormed}
 use Rattle.molecule.specs.BondList.{pairOf, bondHere, bondsTo, bondList}
 use Rattle.molecule.proofs.Rules.{Rows, Sound, sound-of-rules}
 use Rattle.molecule.proofs.Bonds.{rule9}
@@ -35,19 +36,63 @@ module _ (rows : List ℕ) where
   abbrev up : ℕ → ℕ → ℕ
   up i j = number (ltb i j && cell rows i j)
 
-  -- bit k of byte at, and the cell at place p, as numbers
+  -- the ones of byte at, and its bit k as a number
+  abbrev onesAt : ℕ → ℕ
+  onesAt at = ones (getD rows at 0)
+
   abbrev bitOf : ℕ → ℕ → ℕ
   bitOf at k = number (bit (getD rows at 0) k)
 
-  abbrev setAt : ℕ → ℕ
-  setAt p = set (p / 128) (p % 128)
-
-  place-bit : (at k : ℕ) → k < 8 → bitOf at k ≡ setAt (at * 8 + k)
+  row-bit : (i at k : ℕ) → k < 8 → bitOf (i * 16 + at) k ≡ set i (at * 8 + k)
   unfolding cell
-  place-bit at k h =
-      let same-byte : 16 * ((at * 8 + k) / 128) + (at * 8 + k) % 128 / 8 ≡ at = omega arith in
-      let same-bit : (at * 8 + k) % 128 % 8 ≡ k = omega arith in
+  row-bit i at k h =
+      let same-byte : 16 * i + (at * 8 + k) / 8 ≡ i * 16 + at = omega arith in
+      let same-bit : (at * 8 + k) % 8 ≡ k = omega arith in
       rw (same-byte, same-bit)
+
+  module _ (bytes : Rows rows) where
+    -- the 16 bytes of a row
+    row-cells : (i : ℕ) → sum 16 (λ at. onesAt (i * 16 + at)) ≡ sum 128 (set i)
+    row-cells i =
+        let bits = sum-same 16 (λ at. onesAt (i * 16 + at)) _ (λ at h. byte-bits (i * 16 + at)) in
+        let cells = sum-grid 16 8 (λ at. bitOf (i * 16 + at)) (λ at k. set i (at * 8 + k)) (λ at k h. row-bit i at k) in
+        bits ∙ cells ∙ sym (sum-rows 16 8 (set i))
+      where
+        byte-bits : (at : ℕ) → onesAt at ≡ sum 8 (bitOf at)
+        byte-bits at = ones-bits 8 (getD rows at 0) (bytes .byte at)
+
+    ones-cells : onesOf rows ≡ sum 128 (λ i. sum 128 (set i))
+    ones-cells =
+        let all = ap (λ k. sum k onesAt) (bytes .size) in
+        let cells = sum-same 128 (λ i. sum 16 (λ at. onesAt (i * 16 + at))) _ (λ i h. row-cells i) in
+        ones-bytes rows ∙ all ∙ sum-rows 128 16 onesAt ∙ cells
+
+    -- The one bits of a row are as many as the atoms bonded to its atom
+    pub neighbours-counted : (i : ℕ) → i < 128 → neighbours rows i ≡ sum 128 (λ j. number (cell rows i j))
+    unfolding neighbours
+    neighbours-counted i h =
+        let all = ap (λ k. sum k (λ at. ones (getD row at 0))) size in
+        let here = sum-same 16 (λ at. ones (getD row at 0)) _ (λ at l. ap ones (byte at l)) in
+        ones-bytes row ∙ all ∙ here ∙ row-cells i
+      where
+        row : List ℕ
+        row = take 16 (drop (16 * i) rows)
+
+        size : length row ≡ 16
+        size =
+            let whole = bytes .size in
+            let rest = length-drop (16 * i) rows in
+            length-take-le 16 (drop (16 * i) rows) (omega arith)
+
+        byte : (at : ℕ) → at < 16 → getD row at 0 ≡ getD rows (i * 16 + at) 0
+        byte at l =
+            let place : 16 * i + at ≡ i * 16 + at = omega arith in
+            getD-take 16 (drop (16 * i) rows) at 0 l ∙ getD-drop (16 * i) rows at 0 ∙ rw place
+
+    -- and those of all rows together
+    pub ones-neighbours : onesOf rows ≡ sum 128 (neighbours rows)
+    ones-neighbours =
+        ones-cells ∙ sum-same 128 (λ i. sum 128 (set i)) (neighbours rows) (λ i h. sym (neighbours-counted i h))
 
   -- by places, and by rows and columns
   places : (f : ℕ → ℕ → ℕ) → sum 16384 (λ p. f (p / 128) (p % 128)) ≡ sum 128 (λ i. sum 128 (f i))
@@ -60,16 +105,6 @@ module _ (rows : List ℕ) where
           let row : (i * 128 + j) / 128 ≡ i = omega arith in
           let column : (i * 128 + j) % 128 ≡ j = omega arith in
           rw (row, column)
-
-  ones-cells : Rows rows → onesOf rows ≡ sum 128 (λ i. sum 128 (set i))
-  ones-cells bytes =
-      let all = ap (λ k. sum k (λ at. ones (getD rows at 0))) (bytes .size) in
-      let bits = sum-same 2048 (λ at. ones (getD rows at 0)) (λ at. sum 8 (bitOf at)) (λ at h. byte-bits at) in
-      let cells = sum-grid 2048 8 bitOf (λ at k. setAt (at * 8 + k)) (λ at k h. place-bit at k) in
-      ones-bytes rows ∙ all ∙ bits ∙ cells ∙ sym (sum-rows 2048 8 setAt) ∙ places set
-    where
-      byte-bits : (at : ℕ) → ones (getD rows at 0) ≡ sum 8 (bitOf at)
-      byte-bits at = ones-bits 8 (getD rows at 0) (bytes .byte at)
 
   -- ---- two for each bond
 

@@ -2,8 +2,12 @@ pub mod Accepted
 pub mod Columns
 pub mod Elements
 pub mod Ends
+pub mod Every
 pub mod Feeds
 pub mod Limits
 pub mod Loops
+pub mod Names
+pub mod Plain
+pub mod Texts
 pub mod Whole
 pub mod Words

@@ -2,3 +2,4 @@ pub mod Elements
 pub mod Lines
 pub mod Molfile
 pub mod Parts
+pub mod Text

@@ -21,8 +21,10 @@ use Rattle.molecule.proofs.BondWithin.{before-differs, mem-at, ascend-at, ascen
 use Rattle.molecule.proofs.BondCount.{bonds-count}
 use Rattle.molecule.proofs.BondLaws.{all-bonded-of, listed-is-bonded, same-there, listed-record}
 use Rattle.bonds.specs.Bonds.{Bond, atomsKept, noneToItself, samePair, noneTwice, rowsOf}
+use Rattle.bonds.specs.Reading.{acceptedReading, readBonds}
 use Rattle.sheet.specs.Read.{readSheet}
 use Rattle.sheet.specs.Text.{bondAt, blanks, recordSheet}
+use Rattle.bonds.proofs.Answers.{bonds-read}
 use Rattle.bonds.proofs.Stored.{within, differs, atoms-kept-is, none-to-itself-is}
 use Rattle.bonds.proofs.Tables.{Joins, Kept, kept-of, isNew}
 use Rattle.bonds.proofs.Record.{same-pair-cases, record-bonds, record-well-formed}
@@ -116,11 +118,18 @@ module _ (mol : Molecule) (formed : wellFormed mol ≡ true) where
   same-record : read ≡ mol
   same-record = listed-record read mol read-formed formed refl (sym same-listed)
 
+  accepted : acceptedReading n bond m ≡ record { answer = Accepted; molecule = mol }
+  accepted = rw same-record
+
+  -- The list of the bonds of a record is read as that record, from any text that names n and them
+  pub record-reads : readBonds n bond m ≡ record { answer = Accepted; molecule = mol }
+  record-reads = bonds-read n bond m atoms-kept none-to-itself none-twice ∙ accepted
+
   -- Its blank-filled sheet is read as the record
   pub record-sheet-reads : readSheet (recordSheet mol) ≡ record { answer = Accepted; molecule = mol }
   unfolding recordSheet
   record-sheet-reads =
-      every-molecule-has-a-sheet blanks n bonds few light atoms-kept none-to-itself none-twice ∙ rw same-record
+      every-molecule-has-a-sheet blanks n bonds few light atoms-kept none-to-itself none-twice ∙ accepted
 
 -- Every record that rule 9 allows is read from a sheet
 pub every-record-has-a-sheet :

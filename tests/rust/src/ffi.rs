@@ -8,6 +8,12 @@ mod c {
             record: *mut u8,
             record_len: usize,
         ) -> u32;
+        pub fn flat_read_molfile(
+            molfile: *const u8,
+            molfile_len: usize,
+            record: *mut u8,
+            record_len: usize,
+        ) -> u32;
         pub fn flat_check_record(atoms: u64, bonds: u64, rows: *const u8, rows_len: usize) -> u32;
         pub fn flat_judge_ring(
             atoms: u64,
@@ -137,6 +143,19 @@ pub fn read_sheet(sheet: &[u8], record: &mut [u8]) -> u32 {
         c::flat_read_sheet(
             sheet.as_ptr(),
             sheet.len(),
+            record.as_mut_ptr(),
+            record.len(),
+        )
+    }
+}
+
+pub fn read_molfile(molfile: &[u8], record: &mut [u8]) -> u32 {
+    // SAFETY: both pointers come with the lengths of live slices, and only
+    // the second, borrowed mutably, is written.
+    unsafe {
+        c::flat_read_molfile(
+            molfile.as_ptr(),
+            molfile.len(),
             record.as_mut_ptr(),
             record.len(),
         )

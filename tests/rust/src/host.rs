@@ -59,6 +59,13 @@ mod c {
             old_mark_len: usize,
             length: *mut usize,
         ) -> u32;
+        pub fn ringlist_molfile(
+            molfile: *const u8,
+            molfile_len: usize,
+            sheet: *mut u8,
+            sheet_len: usize,
+            length: *mut usize,
+        ) -> u32;
         pub fn ringlist_mark_length(mark: *const u8, mark_len: usize) -> usize;
         pub fn ringlist_listed(mark: *const u8, mark_len: usize) -> u64;
     }
@@ -136,6 +143,20 @@ pub fn carry_back(sheet: &[u8], mark: &[u8], old_mark: &mut [u8], length: &mut u
             mark.len(),
             old_mark.as_mut_ptr(),
             old_mark.len(),
+            length,
+        )
+    }
+}
+
+pub fn molfile(molfile: &[u8], sheet: &mut [u8], length: &mut usize) -> u32 {
+    // SAFETY: the pointers come with the lengths of live slices, and only the
+    // one borrowed mutably and the length are written.
+    unsafe {
+        c::ringlist_molfile(
+            molfile.as_ptr(),
+            molfile.len(),
+            sheet.as_mut_ptr(),
+            sheet.len(),
             length,
         )
     }
@@ -306,6 +327,41 @@ impl Entry {
         assert_eq!(answer, code, "answer; {}", call());
         assert!(right, "count ({answer}); {}", call());
         assert!(*given == *sheet, "the sheet was written; {}", call());
+        *self.answers.entry(answer).or_default() += 1;
+        expected
+    }
+}
+
+impl Entry {
+    /// A molfile that reads as `read` says, with `room` bytes for its sheet,
+    /// compared in the same way: the length holds anything before the call, and
+    /// stands between others that are kept. A sheet written counts as the answer 0.
+    pub fn molfile(
+        &mut self,
+        (file, read): (&[u8], Result<&Record, u32>),
+        room: usize,
+    ) -> Result<Vec<u8>, u32> {
+        let given: Box<[u8]> = file.into();
+        let seed = self.seeds.next();
+        let mut sheet = Guarded::new(room, seed);
+        let mut length = Guarded::lengths(1, seed);
+        let answer = molfile(&given, sheet.buffer(), &mut length.buffer()[0]);
+        let expected = host::molfile(read, room);
+        let (code, parts) = match &expected {
+            Ok(made) => (0, [sheet.begins(made), length.holds(&[made.len()])]),
+            Err(rule) => (*rule, [sheet.is_untouched(), length.is_untouched()]),
+        };
+        let call = || {
+            let made = expected
+                .as_ref()
+                .map(|made| made.escape_ascii().to_string());
+            let file = file.escape_ascii();
+            format!("{room} bytes, expected {made:?}\nmolfile {file}")
+        };
+        assert_eq!(answer, code, "answer; {}", call());
+        assert!(parts[0], "sheet ({answer}); {}", call());
+        assert!(parts[1], "length ({answer}); {}", call());
+        assert!(*given == *file, "the molfile was written; {}", call());
         *self.answers.entry(answer).or_default() += 1;
         expected
     }

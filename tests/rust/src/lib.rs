@@ -1,6 +1,6 @@
 //! Tests of the libraries behind `include/flat.h` and `include/ringlist.h`, and
-//! of the program `ringlist`, against a model written from the scope document
-//! and the change requests alone.
+//! of the programs `ringlist` and `molrings`, against a model written from the
+//! scope document and the change requests alone.
 
 pub mod compare;
 pub mod examples;
@@ -9,11 +9,14 @@ pub mod generate;
 pub mod guard;
 pub mod host;
 pub mod model;
+pub mod molfiles;
 pub mod plot;
+pub mod program;
 pub mod rng;
 pub mod spoil;
 pub mod stepper;
 pub mod subject;
+pub mod timing;
 
 /// A value of which the compiler knows nothing more, for benches; the standard
 /// library has one from Rust 1.66 on.

@@ -1,115 +1,18 @@
-//! The program `ringlist` against the model's text. It is taken from the folder
-//! FLAT_BIN_DIR names, or from target/bin at the root of the repository.
+//! The program `ringlist` against the model's text.
 
-use std::fs::File;
-use std::io::{ErrorKind, Read, Write};
-use std::os::unix::io::{AsRawFd, OwnedFd};
-use std::os::unix::net::UnixDatagram;
-use std::path::PathBuf;
-use std::process::{Child, Command, ExitStatus, Stdio};
-use std::thread;
-use std::time::{Duration, Instant};
+use std::time::Duration;
 
 use flat_tests::generate::{self, Molecule};
-use flat_tests::model::list::Task;
-use flat_tests::model::{host, lister, sheet};
+use flat_tests::program::{MOST_OF_SHEET, RINGLIST};
 use flat_tests::rng::Rng;
 use flat_tests::{examples, sample, sampled};
 
-/// The highest number of bytes that the program reads as a sheet.
-const MOST: usize = 65_529;
-
-fn program() -> PathBuf {
-    let folder = match std::env::var_os("FLAT_BIN_DIR") {
-        Some(folder) => PathBuf::from(folder),
-        None => PathBuf::from(concat!(env!("CARGO_MANIFEST_DIR"), "/../../target/bin")),
-    };
-    let program = folder.join("ringlist");
-    assert!(program.is_file(), "{} is missing", program.display());
-    program
-}
-
-/// What it prints for an input.
-fn expected(input: &[u8]) -> Vec<u8> {
-    if input.len() > MOST {
-        return host::refusal_line(1);
-    }
-    match sheet::read(input) {
-        Ok(record) => {
-            let listing = lister::list(&record, Task::Rings);
-            let trials = record.atoms * (listing.extensions + 1);
-            let mut text = host::ring_lines(&listing.sheet);
-            text.extend(host::count_line(listing.listed, listing.extensions, trials));
-            text
-        }
-        Err(rule) => host::refusal_line(rule),
-    }
-}
-
-/// Writes in pieces, each after a pause if there is one. The program may end
-/// before it has read all.
-fn feed(child: &mut Child, pieces: Vec<Vec<u8>>, pause: Option<Duration>) {
-    let mut input = child.stdin.take().expect("piped");
-    thread::spawn(move || {
-        for piece in pieces {
-            if input.write_all(&piece).is_err() {
-                return;
-            }
-            if let Some(pause) = pause {
-                thread::sleep(pause);
-            }
-        }
-    });
-}
-
-fn start(command: &mut Command) -> Child {
-    command
-        .stdin(Stdio::piped())
-        .stdout(Stdio::piped())
-        .stderr(Stdio::piped())
-        .spawn()
-        .expect("ringlist starts")
-}
-
-/// The output for an input, and that nothing else is said.
-fn output(mut child: Child) -> (Vec<u8>, ExitStatus) {
-    let (mut text, mut errors) = (Vec::new(), Vec::new());
-    let mut out = child.stdout.take().expect("piped");
-    out.read_to_end(&mut text).expect("readable");
-    let mut err = child.stderr.take().expect("piped");
-    err.read_to_end(&mut errors).expect("readable");
-    assert_eq!(errors.escape_ascii().to_string(), "");
-    (text, child.wait().expect("it ends"))
-}
-
-fn run(input: &[u8]) -> Vec<u8> {
-    let mut child = start(&mut Command::new(program()));
-    feed(&mut child, vec![input.to_vec()], None);
-    let (text, status) = output(child);
-    assert!(status.code().is_some(), "{status}");
-    text
-}
-
 fn compare(input: &[u8]) {
-    let (text, expected) = (run(input), expected(input));
-    if text != expected {
-        let shown = |bytes: &[u8]| bytes[..bytes.len().min(400)].escape_ascii().to_string();
-        panic!(
-            "{} bytes {}\nprinted  {}\nexpected {}",
-            input.len(),
-            shown(input),
-            shown(&text),
-            shown(&expected)
-        );
-    }
+    RINGLIST.compare(input);
 }
 
 fn expect(input: &[u8], text: &str) {
-    assert_eq!(
-        run(input).escape_ascii().to_string(),
-        text.as_bytes().escape_ascii().to_string()
-    );
-    compare(input);
+    RINGLIST.expect(input, text);
 }
 
 #[test]
@@ -155,7 +58,7 @@ fn refusals() {
 #[test]
 fn longest_inputs() {
     let lines = |count: usize| "   1   2\n".repeat(count).into_bytes();
-    assert_eq!(lines(7_281).len(), MOST);
+    assert_eq!(lines(7_281).len(), MOST_OF_SHEET);
     expect(&lines(7_281), "refused   5\n");
     let mut last = lines(7_281);
     *last.last_mut().expect("many") = b'\r';
@@ -166,7 +69,7 @@ fn longest_inputs() {
     // A multiple of 9 again, but above the highest number.
     expect(&lines(7_282), "refused   1\n");
     expect(&lines(7_280), "refused   5\n");
-    expect(&lines(7_281)[..MOST - 1], "refused   1\n");
+    expect(&lines(7_281)[..MOST_OF_SHEET - 1], "refused   1\n");
     expect(&lines(100_000), "refused   1\n");
     // The longest sheet that is accepted.
     let long = generate::random_molecule(&mut Rng::new(9), 128, 1024).sheet();
@@ -190,19 +93,10 @@ fn pieces() {
         ("   1   2\n".repeat(7_281).into_bytes(), None),
     ] {
         for size in [1, 7, 4_096] {
-            let mut child = start(&mut Command::new(program()));
-            let pieces = input.chunks(size).map(<[u8]>::to_vec).collect();
-            feed(&mut child, pieces, pause);
-            assert!(output(child).0 == expected(&input), "pieces of {size}");
+            RINGLIST.compare_in_pieces(&input, size, pause);
         }
     }
-    let file = File::open(examples::folder().join("cubane.sheet")).expect("an example");
-    let made = Command::new(program())
-        .stdin(file)
-        .output()
-        .expect("it runs");
-    assert!(made.status.success());
-    assert!(made.stdout == expected(&examples::bytes("cubane")));
+    RINGLIST.compare_file(&examples::folder().join("cubane.sheet"));
 }
 
 #[test]
@@ -240,13 +134,13 @@ fn both_fillings() {
         sheets.push(generate::any_searched(&mut rng).sheet());
     }
     for blanks in sheets {
-        let text = run(&blanks);
-        assert!(text == expected(&blanks));
+        let text = RINGLIST.run(&blanks);
+        assert!(text == RINGLIST.expected(&blanks));
         for sheet in [
             generate::zero_filled(&blanks),
             generate::mixed(&mut rng, &blanks),
         ] {
-            assert!(run(&sheet) == text, "{}", sheet.escape_ascii());
+            assert!(RINGLIST.run(&sheet) == text, "{}", sheet.escape_ascii());
         }
     }
 }
@@ -284,101 +178,18 @@ fn random_sheets() {
     }
 }
 
-/// Waits for the program, but not for ever.
-fn ends(child: &mut Child) -> ExitStatus {
-    let begin = Instant::now();
-    loop {
-        if let Some(status) = child.try_wait().expect("a child") {
-            return status;
-        }
-        if begin.elapsed() > Duration::from_secs(20) {
-            child.kill().expect("a child");
-            panic!("ringlist does not end");
-        }
-        thread::sleep(Duration::from_millis(2));
-    }
-}
-
-/// A shell command with the program as $0.
-fn shell(command: &str) -> Command {
-    let mut shell = Command::new("sh");
-    shell.arg("-c").arg(command).arg(program());
-    shell
-}
-
 /// Buckminsterfullerene prints many times the memory that it may have.
 #[test]
 fn bounded_memory() {
-    if sample() > 1 {
-        return;
+    if sample() == 1 {
+        RINGLIST.bounded_memory(&examples::bytes("buckminsterfullerene"));
     }
-    let input = examples::bytes("buckminsterfullerene");
-    let mut child = start(&mut shell("ulimit -v 8192 && exec \"$0\""));
-    feed(&mut child, vec![input.clone()], None);
-    let (text, status) = output(child);
-    assert!(status.success(), "{status}");
-    assert!(text.len() > 20_000_000 && text == expected(&input));
 }
 
-/// Nobody reads any more, in the middle of a listing that would take years: it
-/// ends, whether it is told by a signal or by an error.
 #[test]
 fn closed_output() {
-    if sample() > 1 {
-        return;
-    }
-    let endless = generate::random_molecule(&mut Rng::new(3), 128, 400).sheet();
-    for command in ["exec \"$0\"", "trap '' PIPE; exec \"$0\""] {
-        let mut child = start(&mut shell(command));
-        let mut out = child.stdout.take().expect("piped");
-        feed(&mut child, vec![endless.clone()], None);
-        let mut first = [0; 100];
-        out.read_exact(&mut first).expect("a ring");
-        drop(out);
-        ends(&mut child);
-    }
-    let mut child = start(&mut shell("exec \"$0\" > /dev/full"));
-    feed(&mut child, vec![endless.clone()], None);
-    ends(&mut child);
-    // After a write that failed nothing more is printed, not the counts either,
-    // which would be taken. A short text comes whole.
-    assert_eq!(narrowly(&endless).escape_ascii().to_string(), "");
-    let cubane = examples::bytes("cubane");
-    assert!(narrowly(&cubane) == expected(&cubane));
-}
-
-/// What comes of the output through a socket that takes short writes and fails
-/// long ones whole.
-fn narrowly(input: &[u8]) -> Vec<u8> {
-    extern "C" {
-        fn setsockopt(socket: i32, level: i32, name: i32, value: *const i32, len: u32) -> i32;
-    }
-    const SOL_SOCKET: i32 = 1;
-    const SO_SNDBUF: i32 = 7;
-    let (near, far) = UnixDatagram::pair().expect("a pair of sockets");
-    // SAFETY: the socket is open, and the value has the length that is given.
-    let set = unsafe { setsockopt(far.as_raw_fd(), SOL_SOCKET, SO_SNDBUF, &4_096, 4) };
-    assert_eq!(set, 0);
-    let taken = |len: usize| far.send(&vec![b'.'; len]).is_ok();
-    assert!(!taken(20_000) && taken(61), "only the short write is taken");
-    let mut piece = vec![0; 65_536];
-    assert_eq!(near.recv(&mut piece).ok(), Some(61));
-    let mut child = Command::new(program())
-        .stdin(Stdio::piped())
-        .stdout(OwnedFd::from(far))
-        .spawn()
-        .expect("ringlist starts");
-    feed(&mut child, vec![input.to_vec()], None);
-    ends(&mut child);
-    near.set_nonblocking(true).expect("a socket");
-    let mut text = Vec::new();
-    loop {
-        match near.recv(&mut piece) {
-            Ok(len) => text.extend_from_slice(&piece[..len]),
-            Err(error) => {
-                assert_eq!(error.kind(), ErrorKind::WouldBlock);
-                return text;
-            }
-        }
+    if sample() == 1 {
+        let endless = generate::random_molecule(&mut Rng::new(3), 128, 400).sheet();
+        RINGLIST.closed_output(&endless, &examples::bytes("cubane"));
     }
 }

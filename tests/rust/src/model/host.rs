@@ -4,7 +4,7 @@ use super::field;
 use super::list::{Lists, Task};
 use super::machine::{self, Search, Stop};
 use super::mark::{self, MARK_ROOM};
-use super::Record;
+use super::{sheet, Record};
 
 /// Bytes of the shortest mark.
 const SHORTEST_MARK: usize = 91;
@@ -64,6 +64,16 @@ pub fn start(
 /// says, or a refusal.
 pub fn count_shortest(read: Result<&Record, u32>, s: u64, t: u64) -> Result<u64, u32> {
     machine::count_shortest(read?, true, s, t)
+}
+
+/// The sheet of a molfile that reads as `read` says, with `room` bytes for it, or a
+/// refusal.
+pub fn molfile(read: Result<&Record, u32>, room: usize) -> Result<Vec<u8>, u32> {
+    let sheet = sheet::write(read?);
+    if room < sheet.len() {
+        return Err(13);
+    }
+    Ok(sheet)
 }
 
 /// The bytes of the mark at the start of a buffer, or 0.

@@ -10,6 +10,8 @@ pub mod list;
 pub mod lister;
 pub mod machine;
 pub mod mark;
+pub mod molfile;
+pub mod plain_molfile;
 pub mod record;
 pub mod search;
 pub mod sheet;

@@ -53,6 +53,13 @@ impl Record {
         self.bonds += 1;
     }
 
+    /// The number of atoms bonded to atom `a`: the one bits of its row.
+    pub fn neighbours(&self, a: u64) -> u64 {
+        let (byte, _) = Record::place(a, 1);
+        let row = &self.rows[byte..byte + ROW];
+        row.iter().map(|byte| u64::from(byte.count_ones())).sum()
+    }
+
     /// The record follows the rules of its section (rule 9).
     pub fn is_lawful(&self) -> bool {
         if self.atoms > MAX_ATOMS || self.bonds > MAX_BONDS || self.rows.len() != ROWS {
@@ -97,6 +104,14 @@ mod tests {
         assert_eq!(record.rows[16], 128);
         record.set(128, 128);
         assert_eq!(record.rows[2047], 128);
+    }
+
+    #[test]
+    fn neighbours_by_hand() {
+        let mut record = Record::new(128);
+        record.join(1, 128);
+        record.join(2, 1);
+        assert_eq!([1, 2, 3, 128].map(|a| record.neighbours(a)), [2, 1, 0, 1]);
     }
 
     #[test]

@@ -1,6 +1,6 @@
 //! Bond sheets.
 
-use super::{field, Record, MAX_ATOMS, MAX_BONDS};
+use super::{field, mark, Record, MAX_ATOMS, MAX_BONDS};
 
 /// Bytes of a line: two fields of 4 columns and a line feed.
 pub const LINE: usize = 9;
@@ -37,6 +37,12 @@ pub fn read(sheet: &[u8]) -> Result<Record, u32> {
     if bonds.len() as u64 != m {
         return Err(5);
     }
+    join(n, bonds)
+}
+
+/// The record of n atoms, at most 128, and these bonds, or the first of rules 6 to
+/// 8 that they break.
+pub(super) fn join(n: u64, bonds: &[(u64, u64)]) -> Result<Record, u32> {
     if bonds
         .iter()
         .any(|&(a, b)| a == 0 || a > n || b == 0 || b > n)
@@ -56,6 +62,16 @@ pub fn read(sheet: &[u8]) -> Result<Record, u32> {
     Ok(record)
 }
 
+/// The sheet of a lawful record, filled by blanks: each bond with its lower atom
+/// first, in dictionary order.
+pub fn write(record: &Record) -> Vec<u8> {
+    let mut sheet = mark::write_bond((record.atoms, record.bonds));
+    for bond in mark::bonds(record) {
+        sheet.extend(mark::write_bond(bond));
+    }
+    sheet
+}
+
 #[cfg(test)]
 mod tests {
     use super::*;
@@ -67,6 +83,15 @@ mod tests {
         assert_eq!((record.rows[0], record.rows[16]), (2, 1));
         assert!(record.is_lawful());
         assert_eq!(read(b"   0   0\n"), Ok(Record::new(0)));
+    }
+
+    #[test]
+    fn writes_by_hand() {
+        assert_eq!(write(&Record::new(0)), b"   0   0\n");
+        let record = read(b"0012   3\n   2  12\n  11   2\n   3   1\n").expect("a sheet");
+        let sheet = b"  12   3\n   1   3\n   2  11\n   2  12\n";
+        assert_eq!(write(&record), sheet);
+        assert_eq!(read(sheet), Ok(record));
     }
 
     #[test]
