@@ -22,7 +22,7 @@ tests:
 	python3 tests/spec.py
 	python3 tests/spec_test.py
 	python3 tests/edits.py
-	rt check ringlist judge marks history
+	rt check ringlist molrings judge marks history
 	rt staticlib flat
 	rt staticlib host
 	tests/run_tests.sh

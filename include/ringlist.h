@@ -7,10 +7,12 @@
    the search where a mark left it, makes at most `budget` trials, and writes
    the rings that it found and the mark to go on from. A search for all rings
    may also start without a mark. ringlist_count_shortest works out the number
-   of shortest paths without listing them. ringlist_carry_over makes a mark of
-   one from before request F-5, and ringlist_carry_back one for the library from
-   before it. examples/minimal.c is a whole host in twenty lines;
-   examples/host.c keeps its mark in a file and goes on after being killed.
+   of shortest paths without listing them. ringlist_molfile makes a bond sheet
+   of a molfile, so that all of this serves molfiles too. ringlist_carry_over
+   makes a mark of one from before request F-5, and ringlist_carry_back one for
+   the library from before it. examples/minimal.c is a whole host in twenty
+   lines; examples/host.c keeps its mark in a file and goes on after being
+   killed.
 
    For hosts written before marks had bond lines (request F-5). To change: give
    ringlist_resume and ringlist_start a mark output of at least 9,815 bytes (599
@@ -137,11 +139,11 @@ extern "C" {
    several threads, where no output of one call overlaps a stretch of another.
    They take no memory from the heap and use less than 32 kilobytes of stack.
    This paragraph is not proved: no Rattle function has a heap, or variables
-   that outlive a call; the stack is measured on starts, resumes, a count and
-   carried marks (tests/c/host_test.c). That the prototypes in this header are
+   that outlive a call; the stack is measured on starts, resumes, a count,
+   carried marks and molfiles (tests/c/host_test.c). That the prototypes in this header are
    those of the code is tested (tests/prototypes.py). The proofs of these
-   functions assume nothing of the C library; only those of the program ringlist
-   do, of its read and write. */
+   functions assume nothing of the C library; only those of the programs ringlist
+   and molrings do, of their read and write. */
 uint32_t ringlist_resume(const uint8_t *sheet, size_t sheet_len,
                          const uint8_t *mark, size_t mark_len,
                          uint64_t budget,
@@ -278,6 +280,60 @@ uint32_t ringlist_carry_back(const uint8_t *sheet, size_t sheet_len,
                              const uint8_t *mark, size_t mark_len,
                              uint8_t *old_mark, size_t old_mark_len,
                              size_t *length);
+
+/* Makes the bond sheet of a molfile: of a V2000 connection table, as drawing
+   programs save it.
+
+   molfile    the file, molfile_len bytes. A line ends with a line feed, with or
+              without a carriage return (byte 13) before it, which is not part
+              of its text. Three header lines are skipped, whatever they hold.
+              The fourth has the atoms n in columns 1 to 3, the bonds m in 4 to
+              6 and V2000 in 35 to 39. Then come n atom lines, with the
+              element's symbol in columns 32 to 34, left-justified; m bond
+              lines, with the bond's two atoms in columns 1 to 3 and 4 to 6;
+              and any lines up to the first that is exactly "M  END". What
+              follows that line is not read. A number is blanks, then one or
+              more digits, right-justified; leading zeros are allowed: "  1",
+              " 01" and "001" are 1. What stands in other columns is not looked
+              at, and a line may be longer than the last column named here.
+   sheet      the sheet output, sheet_len bytes; 9,000 always will do.
+   length     where the number of the sheet's bytes is put.
+
+   The elements and the most neighbours that an atom of each may have: H 1, C 4,
+   N 4, O 3, F 1, P 6, S 6.
+
+   Taken on trust, and nothing else: both stretches are real memory of the
+   lengths given, and length the place of a real number, aligned as one, that
+   may be read and written for as long as the call lasts; none of the three
+   overlaps another, and nobody else writes to any of them during the call. Of a
+   stretch of length 0 nothing is read or written, and its pointer may be any,
+   also null. All else is checked: any bytes are answered as said here.
+
+   Returned when the sheet is written: 0. It stands at the start of the output,
+   *length bytes, that is 9 * (m + 1); the bytes past it keep their values.
+   Blanks fill its fields. Its first line has n and m, and a line for each bond
+   follows, the lower atom first, in dictionary order. It is the sheet of just
+   the file's atoms and bonds: handed to the other functions here, it is read as
+   the same molecule.
+
+   Returned when it was refused, by the first rule that is broken in the order
+   18, 3, 4, 19, 6, 7, 8, 20, 13, each tried over the whole file before the next.
+   A refused call writes nothing, and leaves *length.
+      18  a line (M  END too) or its line feed is missing, a line does not reach
+          the last column named for it, V2000 is not in its columns, or a number
+          is none; so for each of the n atom lines and m bond lines that the
+          fourth line names, up to 999 each
+       3  n is above 128
+      19  a symbol is not one of the elements: " C " and "c  " are none
+       6  a bond names atom 0 or an atom above n
+       7  a bond joins an atom to itself
+       8  two bonds join the same two atoms, in either order
+      20  an atom has more neighbours than its element allows
+      13  the sheet output is shorter than the sheet
+   No other number comes back: m has three columns, so it is never above 1,024
+   (4). */
+uint32_t ringlist_molfile(const uint8_t *molfile, size_t molfile_len,
+                          uint8_t *sheet, size_t sheet_len, size_t *length);
 
 /* The bytes of the mark at the start of a buffer: 91 + 4 * the number in
    columns 21 to 24 of its first line, its atoms in the beginning, + 9 * that in

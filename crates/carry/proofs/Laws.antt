@@ -31,14 +31,11 @@ use Rattle.search.specs.Mark.{bondLines, writeAnswer}
 use Rattle.search.specs.Forms.{markIn, restoreIn}
 use Rattle.search.proofs.FormLaws.{made-accepted, form-restores, form-saves, form-restorable, form-rules}
 use Rattle.search.proofs.FormLaws.{form-lines, longest, form-most, write-fits, write-short, write-ways}
+use Rattle.search.proofs.FormLaws.{written-refused}
 use Rattle.carry.specs.Carry.{carryOn, carryAnswer, carryOutput}
 use Rattle.carry.proofs.Answers.{sheet-refuses, mark-refuses, answers}
 
 -- ---- answers
-
--- a written mark is no refusal
-written-refused : {k : ℕ} {r : Refusal} → Written k ≡ Refused r → ⊥
-written-refused e = let z : _≡_ {A = ℕ} 0 1 = cc in omega arith
 
 -- Rules 1 to 8, rule 13, or rules 14 to 17
 abbrev pub CarryNumber : ℕ → Type 0

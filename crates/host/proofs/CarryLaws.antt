@@ -68,7 +68,7 @@ module _ (from to : Form) (sheet mark out : List ℕ) (before : ℕ) where
   not-zero k (inr h) z = omega arith
 
   -- A refusal, which has another number than 0, leaves every byte and the length
-  pub carry-refused-keeps : (call .number ≡ 0 → ⊥) → (call .mark ≡ out) × (call .length ≡ before)
+  pub carry-refused-keeps : (call .number ≡ 0 → ⊥) → (call .bytes ≡ out) × (call .length ≡ before)
   carry-refused-keeps other = elim either [
     | inl (k, e) ↦ absurd (other (ap savedNumber e))
     | inr (r, e) ↦

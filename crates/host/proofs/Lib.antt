@@ -9,3 +9,4 @@ pub mod Isomers
 pub mod StartLaws
 pub mod CountLaws
 pub mod CarryLaws
+pub mod MolfileLaws

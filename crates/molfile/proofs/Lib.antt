@@ -7,6 +7,7 @@ pub mod Feeds
 pub mod Limits
 pub mod Loops
 pub mod Names
+pub mod Numbers
 pub mod Plain
 pub mod Texts
 pub mod Whole

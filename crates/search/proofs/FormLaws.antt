@@ -9,6 +9,7 @@ use mathlib.Core.List.{List, _++_}
 use mathlib.Core.Logic.{_⊎_, inl, inr}
 use lib.ListN.{length, length-take}
 use borrow.Author.Tests.{le-leb, lt-leb}
+use Rattle.refusal.specs.declared.Refusal.{Refusal}
 use Rattle.refusal.specs.declared.Refusal.the-variants as refusal
 use Rattle.refusal.specs.declared.Answer.{Answer}
 use Rattle.refusal.specs.declared.Answer.the-variants.{Accepted}
@@ -109,6 +110,13 @@ module _ (text out : List ℕ) where
       go : Dec (length text ≤ length out) → Ways
       go (yes h) = inl (h, write-fits h)
       go (no h) = inr (omega arith, write-short (omega arith))
+
+-- bytes that were written are no refusal, and are as many as they are
+pub written-refused : {k : ℕ} {r : Refusal} → Written k ≡ Refused r → ⊥
+written-refused e = let z : _≡_ {A = ℕ} 0 1 = cc in omega arith
+
+pub written-same : {j k : ℕ} → Written j ≡ Written k → j ≡ k
+written-same e = cc
 
 -- ---- the numbers of the refusals
 
