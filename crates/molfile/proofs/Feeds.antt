@@ -3,17 +3,20 @@
 use Prim.Native.Nat.{ℕ, zero, suc, _+_, _-_, _≤_, _<_}
 use native.Mathlib.Nat.{add-zero, eq-or-lt-of-le}
 use native.Mathlib.Numerals.{add-one}
+use native.Mathlib.Decide.{decLt}
 use native.Mathlib.Omega.{arith}
 use mathlib.Core.Path.{_≡_, refl, ap, sym, _∙_}
-use mathlib.Core.Bool.{true, false, cond, true≢false}
+use mathlib.Core.Bool.{Bool, true, false, cond, true≢false, and-true, and-false}
 use mathlib.Core.List.{List, [], _∷_, map}
 use mathlib.Core.Logic.{⊎-elim}
 use lib.ListN.{length, getD, take, drop, length-drop, drop-of-length-le}
 use lib.Dec.{eqb}
 use lib.Seq.{getD-drop, drop-drop, drop-nil, getD-take, length-take-le, take-take}
-use borrow.Author.Tests.{eq-eqb, ne-eqb}
+use borrow.Author.Tests.{eq-eqb, ne-eqb, eqb-false, not-true}
+use Rattle.graph.specs.Every.{allBelow}
+use Rattle.graph.proofs.Below.{allBelow-at}
 use Rattle.molfile.specs.Lines.{inFront, beforeFeeds, textOf, linesIn, lineAt}
-use Rattle.molfile.specs.Parts.{linesFrom, between, NoFeed, FirstFeed, LineFound, ReadsLine, LinesPassed, noLines, SkipsLines}
+use Rattle.molfile.specs.Parts.{linesFrom, between, noFeedAt, NoFeed, FirstFeed, LineFound, ReadsLine, LinesPassed, noLines, SkipsLines}
 
 -- ---- bytes before the first line feed
 
@@ -123,6 +126,53 @@ no-feed-more {s} {from} {i} apart inside other =
         (λ (same : j ≡ i). other (rw same at e))
         (λ (less : j < i). apart .none j low less e)
         (eq-or-lt-of-le (omega arith))
+
+-- a block of 16 bytes without one
+pub no-feed-block :
+    {s : List ℕ} {from i : ℕ} → NoFeed s from i → 16 ≤ length s - i → allBelow 16 (noFeedAt s i) ≡ true →
+    NoFeed s from (i + 16)
+no-feed-block {s} {from} {i} apart room clear =
+    record {
+      ordered = let o = apart .ordered in omega arith;
+      inside = let o = apart .inside in omega arith;
+      none = none;
+    }
+  where
+    none : (j : ℕ) → from ≤ j → j < i + 16 → getD s j 0 ≡ 10 → ⊥
+    none j low high e = go (decLt j i)
+      where
+        go : Dec (j < i) → ⊥
+        go (yes less) = apart .none j low less e
+        go (no more) =
+            let here : i + (j - i) ≡ j = omega arith in
+            let other = allBelow-at 16 (noFeedAt s i) clear (j - i) (omega arith) in
+            eqb-false (getD s (i + (j - i)) 0) 10 (not-true (eqb (getD s (i + (j - i)) 0) 10) other) (rw here e)
+
+-- whether the first j of the bytes from a place on are none, as the loop knows it
+pub record Sifted (s : List ℕ) (at j : ℕ) (clear : Bool) : Type 0 where
+  pub within : j ≤ 16
+  pub is : clear ≡ allBelow j (noFeedAt s at)
+
+pub sifted-none : {s : List ℕ} {at : ℕ} → Sifted s at 0 true
+sifted-none = record { within = omega arith; is = refl }
+
+module _ {s : List ℕ} {at j : ℕ} {clear : Bool} (sifted : Sifted s at j clear) where
+  pub sifted-feed : j < 16 → getD s (at + j) 0 ≡ 10 → Sifted s at (j + 1) false
+  sifted-feed more feed =
+      record { within = omega arith; is = rw (add-one, eq-eqb (getD s (at + j) 0) 10 feed) (sym (and-false (allBelow j (noFeedAt s at)))) }
+
+  pub sifted-other : j < 16 → (getD s (at + j) 0 ≡ 10 → ⊥) → Sifted s at (j + 1) clear
+  sifted-other more other =
+      record {
+        within = omega arith;
+        is = rw (add-one, ne-eqb (getD s (at + j) 0) 10 other) (sifted .is ∙ sym (and-true (allBelow j (noFeedAt s at))));
+      }
+
+  pub sifted-all : 16 ≤ j → clear ≡ allBelow 16 (noFeedAt s at)
+  sifted-all end =
+      let most = sifted .within in
+      let same : j ≡ 16 = omega arith in
+      rw same at (sifted .is)
 
 -- ---- lines passed one after another
 

@@ -1,9 +1,10 @@
 -- What the parts of the molfile reader hold. Nothing to believe: the reader's contract is `readMolfile`.
 use Prim.Native.Nat.{ℕ, _+_, _-_, _≤_, _<_}
 use mathlib.Core.Path.{_≡_}
-use mathlib.Core.Bool.{Bool, true, false}
+use mathlib.Core.Bool.{Bool, true, false, not}
 use mathlib.Core.List.{List, [], _∷_}
 use lib.ListN.{length, getD, take, drop}
+use lib.Dec.{eqb}
 use Rattle.graph.specs.Every.{allBelow}
 use Rattle.bonds.specs.Parts.{storedBond, RoomFor}
 use Rattle.molfile.specs.declared.Line.{Line}
@@ -20,6 +21,10 @@ linesFrom s from = linesIn (drop from s)
 
 abbrev pub between : List ℕ → ℕ → ℕ → List ℕ
 between s from end = take (end - from) (drop from s)
+
+-- byte j from a place on is no line feed
+abbrev pub noFeedAt : List ℕ → ℕ → ℕ → Bool
+noFeedAt s at j = not (eqb (getD s (at + j) 0) 10)
 
 -- no line feed stands between two places
 pub record NoFeed (s : List ℕ) (from to : ℕ) : Type 0 where

@@ -4,14 +4,15 @@ ghost use mathlib.Core.Path.{_≡_};
 ghost use Prim.Native.Nat.{_+_, _-_, _*_, _≤_};
 ghost use mathlib.Core.List.{[], _∷_};
 ghost use lib.ListN.{length, drop};
+ghost use Rattle.graph.specs.Every.{allBelow};
 ghost use Rattle.bonds.specs.Parts.{storedBond, RoomFor};
 ghost use Rattle.molfile.specs.Lines.{stands};
 ghost use Rattle.molfile.specs.Elements.{builtIn, limitOf};
 ghost use Rattle.bonds.specs.Reading.{readBonds};
 ghost use Rattle.molfile.specs.Molfile.{isEnd, hasEnd, symbolsKept, neighboursKept, withinLimits};
 ghost use Rattle.molfile.specs.Molfile.{readAtoms, readMolfile};
-ghost use Rattle.molfile.specs.Parts.{linesFrom, between, FirstFeed, ReadsLine, SkipsLines, ReadsPair};
-ghost use Rattle.molfile.specs.Parts.{noLines, noCounts, heldLimit, ReadsCounts, ReadsAtoms, ReadsBonds, Held};
+ghost use Rattle.molfile.specs.Parts.{linesFrom, between, noFeedAt, NoFeed, FirstFeed, ReadsLine, SkipsLines};
+ghost use Rattle.molfile.specs.Parts.{noLines, noCounts, heldLimit, ReadsPair, ReadsCounts, ReadsAtoms, ReadsBonds, Held};
 use bonds::Reading;
 use fields::Number;
 use refusal::Answer;
@@ -47,12 +48,43 @@ struct Counts {
     pub next: usize,
 }
 
+// Whether none of 16 bytes is a line feed. The loop looks at all of them, so that the machine can compare them at once.
+fn block_clear(s: &[u8], at: usize) -> bool
+    requires { ⌜ at + 16 ≤ length (now s) ⌝ }
+    ensures { λ r. ⌜ r ≡ allBelow 16 (noFeedAt (now (s .entry)) at) ⌝ }
+{
+    let mut clear = true;
+    let mut j: usize = 0;
+    while j < 16 {
+        if s[at + j] == 10 {
+            clear = false;
+        }
+        j += 1;
+    }
+    clear
+}
+
+// A place up to which no line feed stands: as many blocks of 16 bytes on as have none.
+fn clear_from(s: &[u8], from: usize) -> usize
+    requires { ⌜ from ≤ length (now s) ⌝ }
+    ensures { λ r. ⌜ NoFeed (now (s .entry)) from r ⌝ }
+{
+    let mut i = from;
+    while 16 <= s.len() - i {
+        if !block_clear(s, i) {
+            return i;
+        }
+        i += 16;
+    }
+    i
+}
+
 // The first line feed from a place on, or the end of the bytes.
 fn feed_from(s: &[u8], from: usize) -> usize
     requires { ⌜ from ≤ length (now s) ⌝ }
     ensures { λ r. ⌜ FirstFeed (now (s .entry)) from r ⌝ }
 {
-    let mut i = from;
+    let mut i = clear_from(s, from);
     while i < s.len() {
         if s[i] == 10 {
             return i;

@@ -4,7 +4,7 @@ use Prim.Native.Nat.{_-_}
 use native.Mathlib.Omega.{arith}
 use lib.ListN.{length}
 use Rattle.molfile.specs.Parts.{NoFeed}
-use Rattle.molfile.proofs.Feeds.{no-feed-yet, no-feed-more}
+use Rattle.molfile.proofs.Feeds.{no-feed-more}
 use Rattle.molfile.proofs.feed_from.Statement.{statement}
 use Rattle.molfile.proofs.feed_from.Tie as tie
 
@@ -18,7 +18,7 @@ abbrev Place : (tie.InvT-loop → tie.MeasureT-loop → Type 0) → Type 0
 Place place = place Inv-loop μ-loop
 
 loop-holds : tie.Need-loop-holds Inv-loop μ-loop
-loop-holds c = let start : Place tie.Start = search in no-feed-yet (start .pre)
+loop-holds c = c .clear-from .ensures
 
 returns : tie.Need-returns Inv-loop μ-loop
 returns c =
@@ -37,4 +37,4 @@ pub feed-from-spec : {M : Type 1} → statement M
 feed-from-spec =
     tie.close
     (tie.spec
-    Inv-loop μ-loop loop-holds (λ c. omega arith) returns (λ c. omega arith) (λ c. omega arith) loop-again returns-2)
+    Inv-loop μ-loop (λ c κs. let start : Place tie.Start = search in start .pre) loop-holds (λ c. omega arith) returns (λ c. omega arith) (λ c. omega arith) loop-again returns-2)
