@@ -24,7 +24,7 @@ FILE = re.compile(r"`(\w+/specs/\w+\.antt)`")
 DEFINED = re.compile(r"^(?:(?:abbrev|unfoldable) )?pub (?!mod |use )(?:record |data )?([^\s:({]+)", re.M)
 DECLARED = re.compile(r"^pub (?:struct|enum) (\w+)", re.M)
 PROMISE = re.compile(r'^pub (?:extern "C" )?fn .*?^\{', re.M | re.S)
-LAYERS = ("Terms", "Theory", "Entries", "Tests")
+LAYERS = ("Terms", "Theory", "Entries", "Programs", "Tests")
 
 
 def section(text, title):

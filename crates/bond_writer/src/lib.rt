@@ -1,4 +1,5 @@
-// Number fields, line feeds and bond lines (document 01, "Bond sheet"; request F-5) written over a buffer from a place on.
+// Number fields, line feeds and bond lines (document 01, "Bond sheet"; request F-5) written over a buffer from a place
+// on.
 ghost use mathlib.Core.Path.{_≡_};
 ghost use mathlib.Core.List.{[], _∷_};
 ghost use Prim.Native.Nat.{_+_, _≤_, _<_};

@@ -1,4 +1,4 @@
--- What n atoms and m listed bonds are read as: rules 6, 7 and 8 (document 01), each tried over all bonds before the next.
+-- What n atoms and m listed bonds are read as: rules 6, 7 and 8 (document 01), each tried over all before the next.
 -- Every text of a molecule is read so, after the rules of its own layout.
 use Prim.Native.Nat.{ℕ}
 use mathlib.Core.Bool.{cond}
@@ -15,7 +15,8 @@ refusedReading r = record { answer = Refused r; molecule = freshMolecule }
 
 -- n atoms with the first m bonds
 abbrev pub acceptedReading : ℕ → (ℕ → Bond) → ℕ → Reading
-acceptedReading n bond m = record { answer = Accepted; molecule = record { atoms = n; bonds = m; rows = rowsOf bond m } }
+acceptedReading n bond m =
+    record { answer = Accepted; molecule = record { atoms = n; bonds = m; rows = rowsOf bond m } }
 
 -- Rules 6, 7 and 8 on the bonds, each tried over all of them before the next
 unfoldable pub readBonds : ℕ → (ℕ → Bond) → ℕ → Reading

@@ -1,4 +1,4 @@
-// Listed bonds (document 01, "Turned back by number", rules 6, 7 and 8) and the molecule record that holds exactly them.
+// Listed bonds (document 01, "Turned back by number", rules 6, 7 and 8), and the molecule record that has just these.
 ghost use mathlib.Core.Path.{_≡_};
 ghost use Prim.Native.Nat.{_+_};
 ghost use Rattle.bonds.specs.Bonds.{withCell};

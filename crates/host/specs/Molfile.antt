@@ -1,4 +1,4 @@
--- The sheet of a molfile from C (include/ringlist.h; document 02, F-1): what the entry returns and leaves in its outputs.
+-- The sheet of a molfile from C (include/ringlist.h; document 02, F-1): what the entry returns and leaves.
 use Prim.Native.Nat.{ℕ}
 use mathlib.Core.List.{List}
 use Rattle.molfile.specs.Elements.{builtIn}

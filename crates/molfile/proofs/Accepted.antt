@@ -1,4 +1,4 @@
--- An accepted molfile: its rules are kept, its record satisfies rule 9 and is that of the sheet with the same n and bonds.
+-- An accepted molfile: its rules are kept, its record satisfies rule 9, and it is read as the sheet with its bonds.
 -- From the answer back through the tests; then by the laws of bonds and of sheets.
 use Prim.Native.Nat.{ℕ, zero, suc, _+_, _≤_, _<_}
 use native.Mathlib.Omega.{arith}
@@ -23,8 +23,8 @@ use Rattle.sheet.specs.Text.{Fillings, sheetText, bondAt}
 use Rattle.sheet.proofs.Complete.{every-molecule-has-a-sheet}
 use Rattle.molfile.specs.Lines.{linesIn}
 use Rattle.molfile.specs.Elements.{Table}
-use Rattle.molfile.specs.Molfile.{atomsOf, bondsOf, bondOf, formKept, symbolsKept, neighboursKept, withinLimits}
-use Rattle.molfile.specs.Molfile.{readAtoms, limitsOf, readLines, readMolfile, firstBonds, bondsNamed}
+use Rattle.molfile.specs.Molfile.{atomsIn, bondsIn, bondIn, formKept, symbolsKept, neighboursKept, withinLimits}
+use Rattle.molfile.specs.Molfile.{readAtoms, limitsOf, readLines, readMolfile, firstBonds, bondsListed}
 
 -- rule 20 is kept where what it looks at is accepted
 limited :
@@ -46,21 +46,22 @@ limited limit n read e = go (read .answer) (neighboursKept limit n (read .molecu
 -- the rules that an accepted file keeps
 pub record Rules (table : Table) (lines : List (List ℕ)) : Type 0 where
   pub form : formKept lines ≡ true
-  pub few : atomsOf lines ≤ 128
-  pub light : bondsOf lines ≤ 1024
-  pub symbols : symbolsKept (limitsOf table lines) (atomsOf lines) ≡ true
-  pub taken : BondsTaken (atomsOf lines) (bondOf lines) (bondsOf lines)
+  pub few : atomsIn lines ≤ 128
+  pub light : bondsIn lines ≤ 1024
+  pub symbols : symbolsKept (limitsOf table lines) (atomsIn lines) ≡ true
+  pub taken : BondsTaken (atomsIn lines) (bondIn lines) (bondsIn lines)
   pub limits :
-      neighboursKept (limitsOf table lines) (atomsOf lines)
-      (readBonds (atomsOf lines) (bondOf lines) (bondsOf lines) .molecule .rows) ≡ true
-  pub reads : readLines table lines ≡ readBonds (atomsOf lines) (bondOf lines) (bondsOf lines)
+      neighboursKept (limitsOf table lines) (atomsIn lines)
+      (readBonds (atomsIn lines) (bondIn lines) (bondsIn lines) .molecule .rows) ≡ true
+  pub reads : readLines table lines ≡ readBonds (atomsIn lines) (bondIn lines) (bondsIn lines)
 
-pub accepted-rules : (table : Table) (lines : List (List ℕ)) → readLines table lines .answer ≡ Accepted → Rules table lines
+pub accepted-rules :
+    (table : Table) (lines : List (List ℕ)) → readLines table lines .answer ≡ Accepted → Rules table lines
 unfolding readLines readAtoms
 accepted-rules table lines e =
-    let n = atomsOf lines in
-    let m = bondsOf lines in
-    let bonds = readBonds n (bondOf lines) m in
+    let n = atomsIn lines in
+    let m = bondsIn lines in
+    let bonds = readBonds n (bondIn lines) m in
     let r18 = kept-on (formKept lines) _ _ e in
     let r3 = kept-on (fewAtoms n) _ _ (r18 .1) in
     let r4 = kept-on (fewBonds m) _ _ (r3 .1) in
@@ -71,7 +72,7 @@ accepted-rules table lines e =
       few = leb-true n 128 (r3 .0);
       light = leb-true m 1024 (r4 .0);
       symbols = r19 .0;
-      taken = bonds-taken n (bondOf lines) m accepted;
+      taken = bonds-taken n (bondIn lines) m accepted;
       limits = within;
       reads = rw (r18 .0, r3 .0, r4 .0, r19 .0) same;
     }
@@ -99,14 +100,14 @@ module _ (table : Table) (file : List ℕ) (accepted : readMolfile table file .a
   -- It is read as the sheet with the same n and bonds, whatever fills the sheet's fields
   pub accepted-as-sheet :
       (zeros : Fillings) →
-      readMolfile table file ≡ readSheet (sheetText zeros (atomsOf (linesIn file)) (bondsNamed (linesIn file)))
+      readMolfile table file ≡ readSheet (sheetText zeros (atomsIn (linesIn file)) (bondsListed (linesIn file)))
   accepted-as-sheet zeros =
       let lines = linesIn file in
-      let n = atomsOf lines in
-      let m = bondsOf lines in
-      let listed = bondsNamed lines in
-      let size = first-length (bondOf lines) m in
-      let same = bonds-same n (bondAt listed) (bondOf lines) m (first-at (bondOf lines) m) in
+      let n = atomsIn lines in
+      let m = bondsIn lines in
+      let listed = bondsListed lines in
+      let size = first-length (bondIn lines) m in
+      let same = bonds-same n (bondAt listed) (bondIn lines) m (first-at (bondIn lines) m) in
       let taken = rules .taken in
       let answer = ap (λ (x : Reading). x .answer) (same ∙ taken .reads) in
       let again = bonds-taken n (bondAt listed) m answer in

@@ -16,8 +16,8 @@ use Rattle.fields.proofs.Laws.{blanks-fit}
 use Rattle.bonds.specs.Bonds.{Bond}
 use Rattle.molfile.specs.declared.Pair.{Pair}
 use Rattle.molfile.specs.declared.Counts.{Counts}
-use Rattle.molfile.specs.Lines.{stands, lineAt}
-use Rattle.molfile.specs.Molfile.{numberAt, pairKept, pairOf, version, countsKept, bondKept}
+use Rattle.molfile.specs.Lines.{stands, fileLine}
+use Rattle.molfile.specs.Molfile.{numberAt, numbersKept, numbersIn, version, countsLineKept, bondLineKept}
 use Rattle.molfile.specs.Parts.{linesFrom, between, LineFound, LinesPassed, ReadsPair, noCounts, ReadsCounts}
 use Rattle.molfile.proofs.Feeds.{passed-none, passed-more, line-here}
 use Rattle.molfile.proofs.Words.{line-length, word-in, part-in}
@@ -27,7 +27,7 @@ use Rattle.molfile.proofs.Words.{line-length, word-in, part-in}
 abbrev pub noPair : Pair
 noPair = record { ok = false; left = 0; right = 0 }
 
-reads-none : {line : List ℕ} → pairKept line ≡ false → ReadsPair line noPair
+reads-none : {line : List ℕ} → numbersKept line ≡ false → ReadsPair line noPair
 reads-none bad =
     record {
       ok = sym bad;
@@ -87,11 +87,11 @@ module _ {s : List ℕ} {from end next : ℕ} (found : LineFound s from end next
     second-number : take 3 (drop 3 text) ≡ take 3 (drop 3 (drop from s))
     second-number = part-in s from end (found .starts) inside 3 3 (omega arith)
 
-    pub same-kept : pairKept text ≡ pairKept (drop from s)
+    pub same-kept : numbersKept text ≡ numbersKept (drop from s)
     same-kept =
         ap₂ (λ a b. isValue (afterBlanks true a) && isValue (afterBlanks true b)) first-number second-number
 
-    pub same-pair : pairOf text ≡ pairOf (drop from s)
+    pub same-pair : numbersIn text ≡ numbersIn (drop from s)
     same-pair =
         ap₂ {C = Bond} (λ a b. (valueOf (afterBlanks true a), valueOf (afterBlanks true b))) first-number second-number
 
@@ -103,7 +103,7 @@ module _ {s : List ℕ} {from end next : ℕ} (found : LineFound s from end next
 -- ---- the counts line
 
 no-counts :
-    {s : List ℕ} {from : ℕ} {line : List ℕ} → lineAt (linesFrom s from) 0 ≡ line → countsKept line ≡ false →
+    {s : List ℕ} {from : ℕ} {line : List ℕ} → fileLine (linesFrom s from) 0 ≡ line → countsLineKept line ≡ false →
     ReadsCounts s from noCounts
 no-counts is bad =
     record {
@@ -115,23 +115,23 @@ no-counts is bad =
     }
 
 pub counts-missing : {s : List ℕ} {from : ℕ} → linesFrom s from ≡ [] → ReadsCounts s from noCounts
-unfolding countsKept
-counts-missing none = no-counts (ap (λ lines. lineAt lines 0) none) refl
+unfolding countsLineKept
+counts-missing none = no-counts (ap (λ lines. fileLine lines 0) none) refl
 
 module _ {s : List ℕ} {from end next : ℕ} (found : LineFound s from end next) (start : from ≤ length s) where
-  first-is : lineAt (linesFrom s from) 0 ≡ between s from end
+  first-is : fileLine (linesFrom s from) 0 ≡ between s from end
   first-is = line-here (passed-none start) found
 
   pub counts-short : end - from < 39 → ReadsCounts s from noCounts
-  unfolding countsKept
+  unfolding countsLineKept
   counts-short short = no-counts first-is (rw (not-reached found 39 short))
 
   module _ (long : 39 ≤ end - from) {r : Pair} (pair : ReadsPair (drop from s) r) where
-    kept-is : pairKept (between s from end) ≡ r .ok
+    kept-is : numbersKept (between s from end) ≡ r .ok
     kept-is = same-kept found (omega arith) ∙ sym (pair .ok)
 
     pub counts-no-pair : r .ok ≡ false → ReadsCounts s from noCounts
-    unfolding countsKept
+    unfolding countsLineKept
     counts-no-pair bad = no-counts first-is (rw (reached found 39 long, kept-is, bad))
 
     module _ (ok : r .ok ≡ true) {word : Bool} (is : word ≡ stands version 0 (drop (from + 34) s)) where
@@ -139,13 +139,13 @@ module _ {s : List ℕ} {from end next : ℕ} (found : LineFound s from end next
       version-is = same-word found version 34 (omega arith) ∙ sym is
 
       pub counts-no-version : word ≡ false → ReadsCounts s from noCounts
-      unfolding countsKept
+      unfolding countsLineKept
       counts-no-version other = no-counts first-is (rw (reached found 39 long, kept-is, ok, version-is, other))
 
       pub counts-read :
           {n m : ℕ} → word ≡ true → n ≡ r .left → m ≡ r .right →
           ReadsCounts s from (record { ok = true; atoms = n; bonds = m; next = next })
-      unfolding countsKept
+      unfolding countsLineKept
       counts-read there en em =
           record {
             ok = sym (rw (first-is, reached found 39 long, kept-is, ok, version-is, there));

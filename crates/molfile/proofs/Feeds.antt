@@ -15,8 +15,8 @@ use lib.Seq.{getD-drop, drop-drop, drop-nil, getD-take, length-take-le, take-tak
 use borrow.Author.Tests.{eq-eqb, ne-eqb, eqb-false, not-true}
 use Rattle.graph.specs.Every.{allBelow}
 use Rattle.graph.proofs.Below.{allBelow-at}
-use Rattle.molfile.specs.Lines.{inFront, beforeFeeds, textOf, linesIn, lineAt}
-use Rattle.molfile.specs.Parts.{linesFrom, between, noFeedAt, NoFeed, FirstFeed, LineFound, ReadsLine, LinesPassed, noLines, SkipsLines}
+use Rattle.molfile.specs.Lines.{inFront, beforeFeeds, withoutReturn, linesIn, fileLine}
+use Rattle.molfile.specs.Parts.{linesFrom, between, noFeedAt, NoFeed, FirstFeed, LineFound, ReadsFileLine, LinesPassed, noLines, SkipsLines}
 
 -- ---- bytes before the first line feed
 
@@ -61,7 +61,8 @@ module _ {s : List ℕ} {from feed : ℕ} (found : FirstFeed s from feed) where
         let ordered = apart .ordered in
         let size = length-drop from s in
         let at : from + (feed - from) ≡ feed = omega arith in
-        let here : getD (drop from s) (feed - from) 0 ≡ 10 = getD-drop from s (feed - from) 0 ∙ rw at (found .here inside) in
+        let here : getD (drop from s) (feed - from) 0 ≡ 10 =
+        getD-drop from s (feed - from) 0 ∙ rw at (found .here inside) in
         let past : from + suc (feed - from) ≡ feed + 1 = omega arith in
         first-line (feed - from) (drop from s) (omega arith) here none
         ∙ ap (λ rest. between s from feed ∷ beforeFeeds rest) (drop-drop (suc (feed - from)) from s ∙ rw past)
@@ -77,13 +78,13 @@ module _ {s : List ℕ} {from feed : ℕ} (found : FirstFeed s from feed) where
     last-byte more =
         let at : from + (feed - from - 1) ≡ feed - 1 = omega arith in
         rw size (
-          getD-take (feed - from) (drop from s) (feed - from - 1) 0 (omega arith)
-          ∙ getD-drop from s (feed - from - 1) 0
-          ∙ rw at
+        getD-take (feed - from) (drop from s) (feed - from - 1) 0 (omega arith)
+        ∙ getD-drop from s (feed - from - 1) 0
+        ∙ rw at
         )
 
     found-line :
-        {end : ℕ} → from ≤ end → end ≤ feed → textOf (between s from feed) ≡ between s from end →
+        {end : ℕ} → from ≤ end → end ≤ feed → withoutReturn (between s from feed) ≡ between s from end →
         LineFound s from end (feed + 1)
     unfolding linesIn
     found-line low high text =
@@ -91,7 +92,7 @@ module _ {s : List ℕ} {from feed : ℕ} (found : FirstFeed s from feed) where
 
     -- nothing before the line feed, or another byte than a carriage return
     pub line-empty : feed ≤ from → LineFound s from feed (feed + 1)
-    unfolding textOf
+    unfolding withoutReturn
     line-empty none =
         let ordered = apart .ordered in
         let nothing : feed - from ≡ 0 = omega arith in
@@ -99,12 +100,15 @@ module _ {s : List ℕ} {from feed : ℕ} (found : FirstFeed s from feed) where
 
     module _ (more : from < feed) where
       pub line-plain : (getD s (feed - 1) 0 ≡ 13 → ⊥) → LineFound s from feed (feed + 1)
-      unfolding textOf
-      line-plain other = found-line (apart .ordered) (omega arith) (rw (last-byte more, ne-eqb (getD s (feed - 1) 0) 13 other))
+      unfolding withoutReturn
+      line-plain other =
+          found-line (apart .ordered) (omega arith) (rw (last-byte more, ne-eqb (getD s (feed - 1) 0) 13 other))
 
       pub line-returned : getD s (feed - 1) 0 ≡ 13 → LineFound s from (feed - 1) (feed + 1)
-      unfolding textOf
-      line-returned return = found-line (omega arith) (omega arith) (rw (last-byte more, eq-eqb (getD s (feed - 1) 0) 13 return, size) cut)
+      unfolding withoutReturn
+      line-returned return =
+          let last = eq-eqb (getD s (feed - 1) 0) 13 return in
+          found-line (omega arith) (omega arith) (rw (last-byte more, last, size) cut)
         where
           cut : take (feed - from - 1) (between s from feed) ≡ between s from (feed - 1)
           cut =
@@ -159,14 +163,13 @@ sifted-none = record { within = omega arith; is = refl }
 module _ {s : List ℕ} {at j : ℕ} {clear : Bool} (sifted : Sifted s at j clear) where
   pub sifted-feed : j < 16 → getD s (at + j) 0 ≡ 10 → Sifted s at (j + 1) false
   sifted-feed more feed =
-      record { within = omega arith; is = rw (add-one, eq-eqb (getD s (at + j) 0) 10 feed) (sym (and-false (allBelow j (noFeedAt s at)))) }
+      let none = and-false (allBelow j (noFeedAt s at)) in
+      record { within = omega arith; is = rw (add-one, eq-eqb (getD s (at + j) 0) 10 feed) (sym none) }
 
   pub sifted-other : j < 16 → (getD s (at + j) 0 ≡ 10 → ⊥) → Sifted s at (j + 1) clear
   sifted-other more other =
-      record {
-        within = omega arith;
-        is = rw (add-one, ne-eqb (getD s (at + j) 0) 10 other) (sifted .is ∙ sym (and-true (allBelow j (noFeedAt s at))));
-      }
+      let all = and-true (allBelow j (noFeedAt s at)) in
+      record { within = omega arith; is = rw (add-one, ne-eqb (getD s (at + j) 0) 10 other) (sifted .is ∙ sym all) }
 
   pub sifted-all : 16 ≤ j → clear ≡ allBelow 16 (noFeedAt s at)
   sifted-all end =
@@ -180,14 +183,17 @@ pub passed-none : {s : List ℕ} {from : ℕ} → from ≤ length s → LinesPas
 passed-none inside = record { inside = inside; rest = refl }
 
 module _ {s : List ℕ} {from i at : ℕ} (passed : LinesPassed s from i at) where
-  -- line i, where one stands at the place, and where none does
-  pub line-here : {end next : ℕ} → LineFound s at end next → lineAt (linesFrom s from) i ≡ between s at end
-  line-here found =
-      sym (getD-drop i (linesFrom s from) 0 []  ∙ rw (add-zero i)) ∙ ap (λ lines. lineAt lines 0) (sym (passed .rest) ∙ found .first)
+  line-at : fileLine (linesFrom s from) i ≡ fileLine (drop i (linesFrom s from)) 0
+  line-at = sym (getD-drop i (linesFrom s from) 0 [] ∙ rw (add-zero i))
 
-  pub none-here : linesFrom s at ≡ [] → lineAt (linesFrom s from) i ≡ []
+  -- line i, where one stands at the place, and where none does
+  pub line-here : {end next : ℕ} → LineFound s at end next → fileLine (linesFrom s from) i ≡ between s at end
+  line-here found =
+      line-at ∙ ap (λ lines. fileLine lines 0) (sym (passed .rest) ∙ found .first)
+
+  pub none-here : linesFrom s at ≡ [] → fileLine (linesFrom s from) i ≡ []
   none-here none =
-      sym (getD-drop i (linesFrom s from) 0 [] ∙ rw (add-zero i)) ∙ ap (λ lines. lineAt lines 0) (sym (passed .rest) ∙ none)
+      line-at ∙ ap (λ lines. fileLine lines 0) (sym (passed .rest) ∙ none)
 
   pub passed-more : {end next : ℕ} → LineFound s at end next → LinesPassed s from (i + 1) next
   passed-more {next = next} found =
@@ -199,7 +205,7 @@ module _ {s : List ℕ} {from i at : ℕ} (passed : LinesPassed s from i at) whe
 -- a line that is there
 pub line-read :
     {s : List ℕ} {from end next : ℕ} → LineFound s from end next →
-    ReadsLine s from (record { there = true; end = end; next = next })
+    ReadsFileLine s from (record { there = true; end = end; next = next })
 line-read found = record { missing = λ e. absurd (true≢false e); found = λ e. found }
 
 -- lines that are skipped, and one that is missing
@@ -227,8 +233,8 @@ skipped-all {count = count} {i = i} passed most least =
 
 module _ {s : List ℕ} {from i at : ℕ} (passed : LinesPassed s from i at) where
   -- line j from there on
-  pub lines-on : (j : ℕ) → lineAt (linesFrom s at) j ≡ lineAt (linesFrom s from) (i + j)
-  lines-on j = ap (λ lines. lineAt lines j) (passed .rest) ∙ getD-drop i (linesFrom s from) j []
+  pub lines-on : (j : ℕ) → fileLine (linesFrom s at) j ≡ fileLine (linesFrom s from) (i + j)
+  lines-on j = ap (λ lines. fileLine lines j) (passed .rest) ∙ getD-drop i (linesFrom s from) j []
 
   pub passed-on : {j next : ℕ} → LinesPassed s at j next → LinesPassed s from (i + j) next
   passed-on {j} more =

@@ -1,4 +1,4 @@
--- Rules 3, 4, 19 and 20, by the tests that lead to each answer, and that they look at the first n atoms and m bonds alone.
+-- Rules 3, 4, 19 and 20, by the tests that lead to each answer; they look at the first n atoms and m bonds alone.
 -- The definitions go by `cond`, so each answer follows by rewriting the rules.
 use Prim.Native.Nat.{ℕ, _≤_, _<_}
 use native.Mathlib.Omega.{arith}

@@ -16,11 +16,11 @@ use Rattle.bonds.specs.Parts.{storedBond, RoomFor}
 use Rattle.bonds.proofs.Stored.{stored-here, stored-other}
 use Rattle.molfile.specs.declared.Passed.{Passed}
 use Rattle.molfile.specs.declared.Pair.{Pair}
-use Rattle.molfile.specs.Lines.{lineAt}
+use Rattle.molfile.specs.Lines.{fileLine}
 use Rattle.molfile.specs.Elements.{builtIn, limitOf}
-use Rattle.molfile.specs.Molfile.{pairKept, pairOf, atomKept, symbolIn, bondKept}
+use Rattle.molfile.specs.Molfile.{numbersKept, numbersIn, atomLineKept, symbolIn, bondLineKept}
 use Rattle.molfile.specs.Parts.{linesFrom, between, LineFound, LinesPassed, noLines, heldLimit, LimitsStored}
-use Rattle.molfile.specs.Parts.{ReadsPair, ReadsAtoms, BondsStored, ReadsBonds}
+use Rattle.molfile.specs.Parts.{ReadsPair, ReadsAtomLines, BondsStored, ReadsBondLines}
 use Rattle.molfile.proofs.Feeds.{passed-none, passed-more, line-here, none-here}
 use Rattle.molfile.proofs.Words.{three-bytes, part-in}
 use Rattle.molfile.proofs.Columns.{not-reached, reached, same-kept, same-pair}
@@ -30,14 +30,14 @@ use Rattle.molfile.proofs.Columns.{not-reached, reached, same-kept, sam
 -- the first i of n lines were passed, and each of them is kept
 pub record Keeping (kept : List ℕ → Bool) (s : List ℕ) (from n i at : ℕ) : Type 0 where
   pub passed : LinesPassed s from i at
-  pub all : Passing (λ j. kept (lineAt (linesFrom s from) j)) n i
+  pub all : Passing (λ j. kept (fileLine (linesFrom s from) j)) n i
 
 pub keeping-none : {kept : List ℕ → Bool} {s : List ℕ} {from n : ℕ} → from ≤ length s → Keeping kept s from n 0 from
 keeping-none inside = record { passed = passed-none inside; all = passing-none }
 
 module _ {kept : List ℕ → Bool} {s : List ℕ} {from n i at : ℕ} (now : Keeping kept s from n i at) (more : i < n) where
   abbrev AllKept : Bool
-  AllKept = allBelow n (λ j. kept (lineAt (linesFrom s from) j))
+  AllKept = allBelow n (λ j. kept (fileLine (linesFrom s from) j))
 
   -- one is missing
   pub keeping-missing : linesFrom s at ≡ [] → kept [] ≡ false → false ≡ AllKept
@@ -59,13 +59,14 @@ module _ {kept : List ℕ → Bool} {s : List ℕ} {from n i at : ℕ} (now : Ke
 -- ---- atom lines
 
 pub record AtomsRead (s : List ℕ) (from n : ℕ) (start limits : List ℕ) (i at : ℕ) : Type 0 where
-  pub keeping : Keeping atomKept s from n i at
+  pub keeping : Keeping atomLineKept s from n i at
   pub room : n ≤ length start
   pub size : length limits ≡ length start
   pub stored : LimitsStored (linesFrom s from) i limits
 
 pub atoms-none :
-    {s : List ℕ} {from n : ℕ} {start : List ℕ} → from ≤ length s → n ≤ length start → AtomsRead s from n start start 0 from
+    {s : List ℕ} {from n : ℕ} {start : List ℕ} → from ≤ length s → n ≤ length start →
+    AtomsRead s from n start start 0 from
 atoms-none inside room =
     record {
       keeping = keeping-none inside;
@@ -78,7 +79,8 @@ module _ {s : List ℕ} {from n : ℕ} {start limits : List ℕ} {i at : ℕ} (n
   atoms-fit : n ≤ length limits
   atoms-fit = let room = now .room in let size = now .size in omega arith
 
-  atoms-broken : false ≡ allBelow n (λ i. atomKept (lineAt (linesFrom s from) i)) → ReadsAtoms s from n noLines limits
+  atoms-broken :
+      false ≡ allBelow n (λ i. atomLineKept (fileLine (linesFrom s from) i)) → ReadsAtomLines s from n noLines limits
   atoms-broken bad =
       record {
         ok = bad;
@@ -88,11 +90,11 @@ module _ {s : List ℕ} {from n : ℕ} {start limits : List ℕ} {i at : ℕ} (n
       }
 
   module _ (more : i < n) where
-    pub atoms-missing : linesFrom s at ≡ [] → ReadsAtoms s from n noLines limits
+    pub atoms-missing : linesFrom s at ≡ [] → ReadsAtomLines s from n noLines limits
     atoms-missing none = atoms-broken (keeping-missing (now .keeping) more none refl)
 
     module _ {end next : ℕ} (found : LineFound s at end next) where
-      pub atoms-short : end - at < 34 → ReadsAtoms s from n noLines limits
+      pub atoms-short : end - at < 34 → ReadsAtomLines s from n noLines limits
       atoms-short short = atoms-broken (keeping-not (now .keeping) more found (not-reached found 34 short))
 
       module _ (long : 34 ≤ end - at) where
@@ -123,7 +125,7 @@ module _ {s : List ℕ} {from n : ℕ} {start limits : List ℕ} {i at : ℕ} (n
           where
             here :
                 (j : ℕ) → j < i + 1 →
-                heldLimit (set limits i limit) j ≡ limitOf builtIn (symbolIn (lineAt (linesFrom s from) j))
+                heldLimit (set limits i limit) j ≡ limitOf builtIn (symbolIn (fileLine (linesFrom s from) j))
             here j h =
                 ⊎-elim
                 (λ (same : j ≡ i). last same)
@@ -131,7 +133,8 @@ module _ {s : List ℕ} {from n : ℕ} {start limits : List ℕ} {i at : ℕ} (n
                 (eq-or-lt-of-le (omega arith))
               where
                 last :
-                    j ≡ i → heldLimit (set limits i limit) j ≡ limitOf builtIn (symbolIn (lineAt (linesFrom s from) j))
+                    j ≡ i →
+                    heldLimit (set limits i limit) j ≡ limitOf builtIn (symbolIn (fileLine (linesFrom s from) j))
                 last same =
                     let room = now .room in
                     let size = now .size in
@@ -141,7 +144,7 @@ module _ {s : List ℕ} {from n : ℕ} {start limits : List ℕ} {i at : ℕ} (n
                     ∙ is
                     ∙ ap (limitOf builtIn) (sym (ap symbolIn line ∙ symbol-is)))
 
-  pub atoms-all : n ≤ i → ReadsAtoms s from n (record { ok = true; next = at }) limits
+  pub atoms-all : n ≤ i → ReadsAtomLines s from n (record { ok = true; next = at }) limits
   atoms-all end =
       let most = now .keeping .all .within in
       let same : i ≡ n = omega arith in
@@ -155,7 +158,7 @@ module _ {s : List ℕ} {from n : ℕ} {start limits : List ℕ} {i at : ℕ} (n
 -- ---- bond lines
 
 pub record BondsRead (s : List ℕ) (from m : ℕ) (start values : List ℕ) (k at : ℕ) : Type 0 where
-  pub keeping : Keeping bondKept s from m k at
+  pub keeping : Keeping bondLineKept s from m k at
   pub room : RoomFor (m + 1) start
   pub size : length values ≡ length start
   pub stored : BondsStored (linesFrom s from) k values
@@ -175,7 +178,8 @@ module _ {s : List ℕ} {from m : ℕ} {start values : List ℕ} {k at : ℕ} (n
   bonds-fit : RoomFor (m + 1) values
   bonds-fit = let room = now .room in let size = now .size in omega arith
 
-  bonds-broken : false ≡ allBelow m (λ k. bondKept (lineAt (linesFrom s from) k)) → ReadsBonds s from m noLines values
+  bonds-broken :
+      false ≡ allBelow m (λ k. bondLineKept (fileLine (linesFrom s from) k)) → ReadsBondLines s from m noLines values
   bonds-broken bad =
       record {
         ok = bad;
@@ -185,13 +189,13 @@ module _ {s : List ℕ} {from m : ℕ} {start values : List ℕ} {k at : ℕ} (n
       }
 
   module _ (more : k < m) where
-    pub bonds-missing : linesFrom s at ≡ [] → ReadsBonds s from m noLines values
-    unfolding bondKept
+    pub bonds-missing : linesFrom s at ≡ [] → ReadsBondLines s from m noLines values
+    unfolding bondLineKept
     bonds-missing none = bonds-broken (keeping-missing (now .keeping) more none refl)
 
     module _ {end next : ℕ} (found : LineFound s at end next) where
-      pub bonds-short : end - at < 6 → ReadsBonds s from m noLines values
-      unfolding bondKept
+      pub bonds-short : end - at < 6 → ReadsBondLines s from m noLines values
+      unfolding bondLineKept
       bonds-short short = bonds-broken (keeping-not (now .keeping) more found (rw (not-reached found 6 short)))
 
       module _ (long : 6 ≤ end - at) where
@@ -199,18 +203,19 @@ module _ {s : List ℕ} {from m : ℕ} {start values : List ℕ} {k at : ℕ} (n
         pair-room = let ends = found .ends in let inside = found .inside in omega arith
 
         module _ {r : Pair} (pair : ReadsPair (drop at s) r) where
-          kept-is : pairKept (between s at end) ≡ r .ok
+          kept-is : numbersKept (between s at end) ≡ r .ok
           kept-is = same-kept found long ∙ sym (pair .ok)
 
-          pub bonds-no-pair : r .ok ≡ false → ReadsBonds s from m noLines values
-          unfolding bondKept
+          pub bonds-no-pair : r .ok ≡ false → ReadsBondLines s from m noLines values
+          unfolding bondLineKept
           bonds-no-pair bad =
               bonds-broken (keeping-not (now .keeping) more found (rw (reached found 6 long, kept-is, bad)))
 
           pub bonds-more :
               r .ok ≡ true →
-              BondsRead s from m start (set (set values (2 * (k + 1)) (r .left)) (2 * (k + 1) + 1) (r .right)) (k + 1) next
-          unfolding bondKept
+              BondsRead s from m start (set (set values (2 * (k + 1)) (r .left)) (2 * (k + 1) + 1) (r .right)) (k + 1)
+              next
+          unfolding bondLineKept
           bonds-more ok =
               record {
                 keeping = keeping-more (now .keeping) more found (rw (reached found 6 long, kept-is, ok));
@@ -219,27 +224,28 @@ module _ {s : List ℕ} {from m : ℕ} {start values : List ℕ} {k at : ℕ} (n
                 stored = record { at = here };
               }
             where
-              line : lineAt (linesFrom s from) k ≡ between s at end
+              line : fileLine (linesFrom s from) k ≡ between s at end
               line = line-here (now .keeping .passed) found
 
               room : RoomFor (k + 1 + 1) values
               room = let whole = now .room in let size = now .size in omega arith
 
-              new : (r .left, r .right) ≡ pairOf (lineAt (linesFrom s from) k)
-              new = pair .values ok ∙ sym (ap pairOf line ∙ same-pair found long)
+              new : (r .left, r .right) ≡ numbersIn (fileLine (linesFrom s from) k)
+              new = pair .values ok ∙ sym (ap numbersIn line ∙ same-pair found long)
 
               here :
                   (j : ℕ) → j < k + 1 →
                   storedBond (set (set values (2 * (k + 1)) (r .left)) (2 * (k + 1) + 1) (r .right)) j ≡
-                  pairOf (lineAt (linesFrom s from) j)
+                  numbersIn (fileLine (linesFrom s from) j)
               here j h =
                   ⊎-elim
-                  (λ (same : j ≡ k). rw (same, ← add-one k) (stored-here values (k + 1) (r .left) (r .right) room ∙ new))
+                  (λ (same : j ≡ k).
+                  rw (same, ← add-one k) (stored-here values (k + 1) (r .left) (r .right) room ∙ new))
                   (λ (less : j < k).
-                    stored-other values (k + 1) (r .left) (r .right) (suc j) (omega arith) ∙ now .stored .at j less)
+                  stored-other values (k + 1) (r .left) (r .right) (suc j) (omega arith) ∙ now .stored .at j less)
                   (eq-or-lt-of-le (omega arith))
 
-  pub bonds-all : m ≤ k → ReadsBonds s from m (record { ok = true; next = at }) values
+  pub bonds-all : m ≤ k → ReadsBondLines s from m (record { ok = true; next = at }) values
   bonds-all end =
       let most = now .keeping .all .within in
       let same : k ≡ m = omega arith in

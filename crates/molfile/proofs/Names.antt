@@ -12,12 +12,12 @@ use Rattle.graph.specs.Every.{allBelow}
 use Rattle.graph.proofs.Below.{allBelow-of}
 use Rattle.bonds.specs.Bonds.{Bond}
 use Rattle.sheet.specs.Text.{bondAt}
-use Rattle.molfile.specs.Lines.{linesIn, lineAt}
+use Rattle.molfile.specs.Lines.{linesIn, fileLine}
 use Rattle.molfile.specs.Elements.{Table, limitOf}
-use Rattle.molfile.specs.Molfile.{pairOf, countsKept, atomKept, symbolIn, bondKept, isEnd, hasEnd, atomsOf}
-use Rattle.molfile.specs.Molfile.{bondsOf, atomLine, bondLine, bondOf, pastBonds, formKept, limitsOf, readAtoms}
+use Rattle.molfile.specs.Molfile.{numbersIn, countsLineKept, atomLineKept, symbolIn, bondLineKept, isEnd, hasEnd, atomsIn}
+use Rattle.molfile.specs.Molfile.{bondsIn, atomLine, bondLine, bondIn, pastBonds, formKept, limitsOf, readAtoms}
 use Rattle.molfile.specs.Molfile.{readLines, readMolfile}
-use Rattle.molfile.specs.Text.{Written, linesText, texts, allFit, Names}
+use Rattle.molfile.specs.Text.{Written, writtenText, texts, allFit, Names}
 use Rattle.molfile.proofs.Limits.{read-same}
 use Rattle.molfile.proofs.Texts.{written-lines}
 
@@ -28,27 +28,27 @@ limitsIn table symbols i = limitOf table (getD symbols i [])
 -- ---- what lines name is what is read
 
 module _ {symbols : List (List ℕ)} {bonds : List Bond} {lines : List (List ℕ)} (names : Names symbols bonds lines) where
-  atoms-is : atomsOf lines ≡ length symbols
+  atoms-is : atomsIn lines ≡ length symbols
   atoms-is = ap (λ (pair : Bond). pair .0) (names .counts)
 
-  bonds-is : bondsOf lines ≡ length bonds
+  bonds-is : bondsIn lines ≡ length bonds
   bonds-is = ap (λ (pair : Bond). pair .1) (names .counts)
 
-  bond-line : (k : ℕ) → bondLine lines k ≡ lineAt lines (4 + length symbols + k)
-  bond-line k = ap (λ n. lineAt lines (4 + n + k)) atoms-is
+  bond-line : (k : ℕ) → bondLine lines k ≡ fileLine lines (4 + length symbols + k)
+  bond-line k = ap (λ n. fileLine lines (4 + n + k)) atoms-is
 
   form : formKept lines ≡ true
   unfolding formKept
   form = rw (names .counts-kept, atoms, bonds-kept, past)
     where
-      atoms : allBelow (atomsOf lines) (λ i. atomKept (atomLine lines i)) ≡ true
-      atoms = rw atoms-is (allBelow-of (length symbols) (λ i. atomKept (atomLine lines i)) (names .atom-kept))
+      atoms : allBelow (atomsIn lines) (λ i. atomLineKept (atomLine lines i)) ≡ true
+      atoms = rw atoms-is (allBelow-of (length symbols) (λ i. atomLineKept (atomLine lines i)) (names .atom-kept))
 
-      bonds-kept : allBelow (bondsOf lines) (λ k. bondKept (bondLine lines k)) ≡ true
+      bonds-kept : allBelow (bondsIn lines) (λ k. bondLineKept (bondLine lines k)) ≡ true
       bonds-kept =
-          let each : (k : ℕ) → k < length bonds → bondKept (bondLine lines k) ≡ true =
-          λ k h. ap bondKept (bond-line k) ∙ names .bond-kept k h in
-          rw bonds-is (allBelow-of (length bonds) (λ k. bondKept (bondLine lines k)) each)
+          let each : (k : ℕ) → k < length bonds → bondLineKept (bondLine lines k) ≡ true =
+          λ k h. ap bondLineKept (bond-line k) ∙ names .bond-kept k h in
+          rw bonds-is (allBelow-of (length bonds) (λ k. bondLineKept (bondLine lines k)) each)
 
       past : hasEnd (pastBonds lines) ≡ true
       past = rw (atoms-is, bonds-is) (names .ended)
@@ -60,9 +60,9 @@ module _ {symbols : List (List ℕ)} {bonds : List Bond} {lines : List (List ℕ
   unfolding readLines
   names-read table =
       let same =
-      read-same (length symbols) (length bonds) (limitsOf table lines) (limitsIn table symbols) (bondOf lines)
+      read-same (length symbols) (length bonds) (limitsOf table lines) (limitsIn table symbols) (bondIn lines)
       (bondAt bonds) (λ i h. ap (limitOf table) (names .symbol i h))
-      (λ k h. ap pairOf (bond-line k) ∙ names .bond k h) in
+      (λ k h. ap numbersIn (bond-line k) ∙ names .bond k h) in
       rw (form, atoms-is, bonds-is) same
 
 -- ---- lines that follow
@@ -94,7 +94,7 @@ module _ {symbols : List (List ℕ)} {bonds : List Bond} {lines : List (List ℕ
   inside = end-inside (4 + length symbols + length bonds) lines (names .ended)
 
   module _ (more : List (List ℕ)) where
-    same-line : (i : ℕ) → i < length lines → lineAt (lines ++ more) i ≡ lineAt lines i
+    same-line : (i : ℕ) → i < length lines → fileLine (lines ++ more) i ≡ fileLine lines i
     same-line i h = List·getD-append lines more [] i h
 
     -- What lines name they name whatever lines follow
@@ -102,12 +102,12 @@ module _ {symbols : List (List ℕ)} {bonds : List Bond} {lines : List (List ℕ
     names-more =
         let all = inside in
         record {
-          counts-kept = ap countsKept (same-line 3 (omega arith)) ∙ names .counts-kept;
-          counts = ap pairOf (same-line 3 (omega arith)) ∙ names .counts;
-          atom-kept = λ i h. ap atomKept (same-line (4 + i) (omega arith)) ∙ names .atom-kept i h;
+          counts-kept = ap countsLineKept (same-line 3 (omega arith)) ∙ names .counts-kept;
+          counts = ap numbersIn (same-line 3 (omega arith)) ∙ names .counts;
+          atom-kept = λ i h. ap atomLineKept (same-line (4 + i) (omega arith)) ∙ names .atom-kept i h;
           symbol = λ i h. ap symbolIn (same-line (4 + i) (omega arith)) ∙ names .symbol i h;
-          bond-kept = λ k h. ap bondKept (same-line (4 + length symbols + k) (omega arith)) ∙ names .bond-kept k h;
-          bond = λ k h. ap pairOf (same-line (4 + length symbols + k) (omega arith)) ∙ names .bond k h;
+          bond-kept = λ k h. ap bondLineKept (same-line (4 + length symbols + k) (omega arith)) ∙ names .bond-kept k h;
+          bond = λ k h. ap numbersIn (same-line (4 + length symbols + k) (omega arith)) ∙ names .bond k h;
           ended =
               ap hasEnd (drop-append-le (4 + length symbols + length bonds) lines more (omega arith))
               ∙ end-append (drop (4 + length symbols + length bonds) lines) more (names .ended);
@@ -119,7 +119,7 @@ module _ {symbols : List (List ℕ)} {bonds : List Bond} {lines : List (List ℕ
 pub file-read :
     (table : Table) (lines : List Written) (rest : List ℕ) {symbols : List (List ℕ)} {bonds : List Bond} →
     allFit lines ≡ true → Names symbols bonds (texts lines) →
-    readMolfile table (linesText lines rest) ≡
+    readMolfile table (writtenText lines rest) ≡
     readAtoms (length symbols) (length bonds) (limitsIn table symbols) (bondAt bonds)
 file-read table lines rest fit names =
     ap (readLines table) (written-lines lines rest fit) ∙ names-read (names-more names (linesIn rest)) table
@@ -130,6 +130,6 @@ pub names-alone :
     (table : Table) (lines lines′ : List Written) (rest rest′ : List ℕ) {symbols : List (List ℕ)} {bonds : List Bond} →
     allFit lines ≡ true → allFit lines′ ≡ true →
     Names symbols bonds (texts lines) → Names symbols bonds (texts lines′) →
-    readMolfile table (linesText lines rest) ≡ readMolfile table (linesText lines′ rest′)
+    readMolfile table (writtenText lines rest) ≡ readMolfile table (writtenText lines′ rest′)
 names-alone table lines lines′ rest rest′ fit fit′ names names′ =
     file-read table lines rest fit names ∙ sym (file-read table lines′ rest′ fit′ names′)

@@ -24,9 +24,9 @@ use Rattle.bonds.specs.declared.Reading.{Reading}
 use Rattle.bonds.specs.Bonds.{Bond, atomsKept, noneToItself, noneTwice}
 use Rattle.bonds.specs.Reading.{refusedReading, readBonds}
 use Rattle.sheet.specs.Read.{fewAtoms, fewBonds}
-use Rattle.molfile.specs.Lines.{lineAt}
+use Rattle.molfile.specs.Lines.{fileLine}
 use Rattle.molfile.specs.Elements.{Table}
-use Rattle.molfile.specs.Molfile.{numberAt, countsKept, atomsOf, bondsOf, bondOf, formKept, symbolsKept}
+use Rattle.molfile.specs.Molfile.{numberAt, countsLineKept, atomsIn, bondsIn, bondIn, formKept, symbolsKept}
 use Rattle.molfile.specs.Molfile.{neighboursKept, withinLimits, readAtoms, limitsOf, readLines}
 use Rattle.molfile.proofs.Columns.{three-digits}
 
@@ -40,15 +40,15 @@ three-most line at room = go (numberAt line at) refl
     go (Value v zeros) e = three-digits line at v zeros e room
     go Bad e = omega arith
 
-pub few-named : (lines : List (List ℕ)) → formKept lines ≡ true → bondsOf lines ≤ 999
-unfolding formKept countsKept
-few-named lines kept = reached (either (countsKept line)) (either (leb 39 (length line)))
+pub few-named : (lines : List (List ℕ)) → formKept lines ≡ true → bondsIn lines ≤ 999
+unfolding formKept countsLineKept
+few-named lines kept = reached (either (countsLineKept line)) (either (leb 39 (length line)))
   where
     line : List ℕ
-    line = lineAt lines 3
+    line = fileLine lines 3
 
     reached :
-        (countsKept line ≡ true) ⊎ (countsKept line ≡ false) →
+        (countsLineKept line ≡ true) ⊎ (countsLineKept line ≡ false) →
         (leb 39 (length line) ≡ true) ⊎ (leb 39 (length line) ≡ false) → valueOf (numberAt line 3) ≤ 999
     reached counts (inl long) = let reach = leb-true 39 (length line) long in three-most line 3 (omega arith)
     reached (inl counts) (inr short) = absurd (true≢false (sym (rw short at counts)))
@@ -78,21 +78,21 @@ module _ (table : Table) (lines : List (List ℕ)) where
   limit = limitsOf table lines
 
   abbrev read : Reading
-  read = readBonds (atomsOf lines) (bondOf lines) (bondsOf lines)
+  read = readBonds (atomsIn lines) (bondIn lines) (bondsIn lines)
 
-  limited-numbered : Rule (withinLimits limit (atomsOf lines) read)
-  limited-numbered = go (read .answer) (bonds-numbered (atomsOf lines) (bondOf lines) (bondsOf lines))
+  limited-numbered : Rule (withinLimits limit (atomsIn lines) read)
+  limited-numbered = go (read .answer) (bonds-numbered (atomsIn lines) (bondIn lines) (bondsIn lines))
     where
       over : Reading
       over = refusedReading refusal.TooManyNeighbours
 
       kept : Bool
-      kept = neighboursKept limit (atomsOf lines) (read .molecule .rows)
+      kept = neighboursKept limit (atomsIn lines) (read .molecule .rows)
 
       go : (x : Answer) → Numbered x → Rule (unlessRefused x refusedReading (cond kept read over))
       go Accepted told =
           by-test Rule kept read over (inr (inr (omega arith, omega arith)))
-          (bonds-numbered (atomsOf lines) (bondOf lines) (bondsOf lines))
+          (bonds-numbered (atomsIn lines) (bondIn lines) (bondsIn lines))
       go (Refused r) told = told
 
   lines-numbered : Rule (readLines table lines)
@@ -102,11 +102,12 @@ module _ (table : Table) (lines : List (List ℕ)) where
       go : (formKept lines ≡ true) ⊎ (formKept lines ≡ false) → Rule (readLines table lines)
       go (inr broken) = rw broken (inr (inr (omega arith, omega arith)))
       go (inl kept) =
-          let few : fewBonds (bondsOf lines) ≡ true =
-          le-leb (bondsOf lines) 1024 (let named = few-named lines kept in omega arith) in
+          let few : fewBonds (bondsIn lines) ≡ true =
+          le-leb (bondsIn lines) 1024 (let named = few-named lines kept in omega arith) in
           rw (kept, few)
-          (by-test Rule (fewAtoms (atomsOf lines)) _ _ (inl refl)
-          (by-test Rule (symbolsKept limit (atomsOf lines)) _ _ (inr (inr (omega arith, omega arith))) limited-numbered))
+          (by-test Rule (fewAtoms (atomsIn lines)) _ _ (inl refl)
+          (by-test Rule (symbolsKept limit (atomsIn lines)) _ _ (inr (inr (omega arith, omega arith)))
+          limited-numbered))
 
   pub molfile-numbers : (r : Refusal) → readLines table lines .answer ≡ Refused r → MolfileNumber (numberOf r)
   molfile-numbers r e = rw e at lines-numbered

@@ -17,16 +17,16 @@ use Rattle.fields.proofs.Blanks.{text-read}
 use Rattle.fields.proofs.Laws.{field-length}
 use Rattle.bonds.specs.Bonds.{Bond}
 use Rattle.sheet.specs.Text.{bondAt}
-use Rattle.molfile.specs.Lines.{lineAt, stands}
-use Rattle.molfile.specs.Molfile.{numberAt, pairKept, pairOf, version, endWord, countsKept, symbolIn}
-use Rattle.molfile.specs.Molfile.{bondKept, isEnd, hasEnd, atomLine}
-use Rattle.molfile.specs.Text.{lacks, lastByte, fitsLine, allFit, Names, Symbol, Small, blanks, pairText}
+use Rattle.molfile.specs.Lines.{fileLine, stands}
+use Rattle.molfile.specs.Molfile.{numberAt, numbersKept, numbersIn, version, endWord, countsLineKept, symbolIn}
+use Rattle.molfile.specs.Molfile.{bondLineKept, isEnd, hasEnd, atomLine}
+use Rattle.molfile.specs.Text.{lacks, lastByte, fitsLine, allFit, Names, Symbol, Small, blankColumns, pairText}
 use Rattle.molfile.specs.Text.{countsText, atomText, bondText, plainLines, unreturned}
 use Rattle.molfile.proofs.Texts.{lacks-append}
 
 -- ---- a number in three columns
 
--- what is a number filled with blanks is one where leading zeros are allowed
+-- what is a number filled with blankColumns is one where leading zeros are allowed
 digits-zeros :
     (w : ℕ) (bs : List ℕ) (v : ℕ) (filled : Bool) → digits false w bs ≡ Value v filled → digits true w bs ≡ Value v true
 unfolding digits
@@ -68,28 +68,28 @@ module _ {a b : ℕ} (left : a ≤ 999) (right : b ≤ 999) (rest : List ℕ) wh
       let field = take-at (fieldText 3 b) rest 3 (field-length 3 b) in
       rw (skip, field) (number-read b right)
 
-  pair-kept : pairKept (pairText a b rest) ≡ true
+  pair-kept : numbersKept (pairText a b rest) ≡ true
   pair-kept = rw (left-number, right-number)
 
-  pair-is : pairOf (pairText a b rest) ≡ (a, b)
+  pair-is : numbersIn (pairText a b rest) ≡ (a, b)
   pair-is = rw (left-number, right-number)
 
 pair-length : (a b : ℕ) (rest : List ℕ) → length (pairText a b rest) ≡ 6 + length rest
 pair-length a b rest = simp (length-append, field-length) (omega arith)
 
 -- the line of counts
-counts-line-kept : {n m : ℕ} → n ≤ 999 → m ≤ 999 → countsKept (countsText n m) ≡ true
-unfolding countsKept stands
+counts-line-kept : {n m : ℕ} → n ≤ 999 → m ≤ 999 → countsLineKept (countsText n m) ≡ true
+unfolding countsLineKept stands
 counts-line-kept {n} {m} few light =
-    let kept = pair-kept few light (blanks 28 ++ version) in
+    let kept = pair-kept few light (blankColumns 28 ++ version) in
     let word = allBelow-of 5 (λ k. eqb (getD (countsText n m) (34 + k) 0) (getD version k 0)) here in
-    rw (pair-length n m (blanks 28 ++ version), kept, word)
+    rw (pair-length n m (blankColumns 28 ++ version), kept, word)
   where
     front : List ℕ
-    front = pairText n m (blanks 28)
+    front = pairText n m (blankColumns 28)
 
     front-length : length front ≡ 34
-    front-length = pair-length n m (blanks 28)
+    front-length = pair-length n m (blankColumns 28)
 
     here : (k : ℕ) → k < 5 → eqb (getD (countsText n m) (34 + k) 0) (getD version k 0) ≡ true
     here k h =
@@ -98,8 +98,8 @@ counts-line-kept {n} {m} few light =
         eq-eqb _ _ (rw whole at (sym at ∙ getD-append-add front version k 0))
 
 -- a bond line
-bond-line-kept : (bond : Bond) → Small bond → bondKept (bondText bond) ≡ true
-unfolding bondKept
+bond-line-kept : (bond : Bond) → Small bond → bondLineKept (bondText bond) ≡ true
+unfolding bondLineKept
 bond-line-kept bond small =
     rw (pair-length (bond .0) (bond .1) [], pair-kept (small .left) (small .right) [])
 
@@ -207,7 +207,7 @@ module _ (symbols : List (List ℕ)) (bonds : List Bond) where
   heads-length : length heads ≡ 4 + n
   heads-length = let all = length-map symbols atomText in omega arith
 
-  counts-at : lineAt lines 3 ≡ countsText n m
+  counts-at : fileLine lines 3 ≡ countsText n m
   unfolding plainLines
   counts-at = refl
 
@@ -219,11 +219,11 @@ module _ (symbols : List (List ℕ)) (bonds : List Bond) where
       ∙ List·getD-append (map atomText symbols) (bondLines ++ tail) [] i (omega arith)
       ∙ map-at atomText symbols i [] [] h
 
-  bond-at : (k : ℕ) → k < m → lineAt lines (4 + n + k) ≡ bondText (bondAt bonds k)
+  bond-at : (k : ℕ) → k < m → fileLine lines (4 + n + k) ≡ bondText (bondAt bonds k)
   unfolding plainLines
   bond-at k h =
       let all = length-map bonds bondText in
-      ap (λ j. lineAt lines (j + k)) (sym heads-length)
+      ap (λ j. fileLine lines (j + k)) (sym heads-length)
       ∙ getD-append-add heads (bondLines ++ tail) k []
       ∙ List·getD-append bondLines tail [] k (omega arith)
       ∙ map-at bondText bonds k (0, 0) [] h
@@ -243,7 +243,7 @@ module _ (symbols : List (List ℕ)) (bonds : List Bond) where
   plain-names few light symbol small =
       record {
         counts-kept = rw counts-at (counts-line-kept few light);
-        counts = rw counts-at (pair-is few light (blanks 28 ++ version));
+        counts = rw counts-at (pair-is few light (blankColumns 28 ++ version));
         atom-kept = λ i h. rw (atom-at i h, symbol i h .size);
         symbol = λ i h. ap symbolIn (atom-at i h) ∙ take-all 3 (getD symbols i []) (omega (arith, symbol i h .size));
         bond-kept = λ k h. rw (bond-at k h) (bond-line-kept (bondAt bonds k) (small k h));
@@ -260,7 +260,7 @@ module _ (symbols : List (List ℕ)) (bonds : List Bond) where
       fit-then (take 4 heads) (map atomText symbols ++ (bondLines ++ tail)) first named
     where
       first : allFit (unreturned (take 4 heads)) ≡ true
-      first = and-both _ _ (pair-fits n m (blanks 28 ++ version) refl refl) refl
+      first = and-both _ _ (pair-fits n m (blankColumns 28 ++ version) refl refl) refl
 
       atom : (i : ℕ) → i < n → fitsLine (atomText (getD symbols i []), false) ≡ true
       atom i h = unreturned-fits (atomText (getD symbols i [])) (symbol i h .no-feed) (symbol i h .no-return)

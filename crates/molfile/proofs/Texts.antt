@@ -1,5 +1,5 @@
 -- The lines of a text that was written line by line are those lines, and then the lines of what follows.
--- Line by line: the bytes before the first line feed are a text and its carriage return, which `textOf` removes.
+-- Line by line: the bytes before the first line feed are a text and its carriage return, which `withoutReturn` removes.
 use Prim.Native.Nat.{ℕ, _-_}
 use native.Mathlib.Omega.{arith}
 use mathlib.Core.Path.{_≡_, refl, ap}
@@ -10,8 +10,8 @@ use lib.Seq.{take-append-seam, getD-append-seam}
 use lib.Dec.{eqb}
 use borrow.Author.Tests.{not-true}
 use Rattle.graph.proofs.Below.{and-left, and-right, and-parts, and-both}
-use Rattle.molfile.specs.Lines.{inFront, beforeFeeds, textOf, linesIn}
-use Rattle.molfile.specs.Text.{Written, returnOf, linesText, texts, lacks, lastByte, fitsLine, allFit}
+use Rattle.molfile.specs.Lines.{inFront, beforeFeeds, withoutReturn, linesIn}
+use Rattle.molfile.specs.Text.{Written, returnOf, writtenText, texts, lacks, lastByte, fitsLine, allFit}
 
 -- ---- bytes that do not occur
 
@@ -36,8 +36,9 @@ before-feed (x ∷ xs) rest none =
 
 -- the text of a line that was written
 text-back :
-    (text : List ℕ) (returned : Bool) → fitsLine (text, returned) ≡ true → textOf (text ++ returnOf returned) ≡ text
-unfolding textOf fitsLine
+    (text : List ℕ) (returned : Bool) → fitsLine (text, returned) ≡ true →
+    withoutReturn (text ++ returnOf returned) ≡ text
+unfolding withoutReturn fitsLine
 text-back text true fits =
     let last : length (text ++ (13 ∷ [])) - 1 ≡ length text = simp length-append (omega arith) in
     rw (last, getD-append-seam text 13 [] 0, take-append-seam text (13 ∷ []))
@@ -65,10 +66,10 @@ first-written text returned rest fits =
 -- Lines that fit are read back one by one
 pub written-lines :
     (lines : List Written) (rest : List ℕ) → allFit lines ≡ true →
-    linesIn (linesText lines rest) ≡ texts lines ++ linesIn rest
-unfolding linesIn linesText allFit
+    linesIn (writtenText lines rest) ≡ texts lines ++ linesIn rest
+unfolding linesIn writtenText allFit
 written-lines [] rest fit = refl
 written-lines (line ∷ lines) rest fit =
     let (here, more) = and-parts (fitsLine line) (allFit lines) fit in
-    rw (first-written (line .0) (line .1) (linesText lines rest) here, text-back (line .0) (line .1) here)
+    rw (first-written (line .0) (line .1) (writtenText lines rest) here, text-back (line .0) (line .1) here)
     (ap (λ read. line .0 ∷ read) (written-lines lines rest more))

@@ -14,12 +14,12 @@ use Rattle.bonds.specs.Parts.{storedBond}
 use Rattle.bonds.specs.Reading.{refusedReading}
 use Rattle.molfile.specs.declared.Passed.{Passed}
 use Rattle.molfile.specs.declared.Counts.{Counts}
-use Rattle.molfile.specs.Lines.{lineAt}
+use Rattle.molfile.specs.Lines.{fileLine}
 use Rattle.molfile.specs.Elements.{builtIn, limitOf}
-use Rattle.molfile.specs.Molfile.{pairOf, countsKept, atomKept, symbolIn, bondKept, hasEnd, atomsOf, bondsOf}
-use Rattle.molfile.specs.Molfile.{atomLine, bondLine, bondOf, pastBonds, formKept, limitsOf, readAtoms, readLines}
+use Rattle.molfile.specs.Molfile.{numbersIn, countsLineKept, atomLineKept, symbolIn, bondLineKept, hasEnd, atomsIn, bondsIn}
+use Rattle.molfile.specs.Molfile.{atomLine, bondLine, bondIn, pastBonds, formKept, limitsOf, readAtoms, readLines}
 use Rattle.molfile.specs.Molfile.{readMolfile}
-use Rattle.molfile.specs.Parts.{linesFrom, LinesPassed, ReadsCounts, heldLimit, ReadsAtoms, ReadsBonds}
+use Rattle.molfile.specs.Parts.{linesFrom, LinesPassed, ReadsCounts, heldLimit, ReadsAtomLines, ReadsBondLines}
 use Rattle.molfile.proofs.Feeds.{passed-on, lines-on}
 use Rattle.molfile.proofs.Limits.{read-same}
 
@@ -33,27 +33,28 @@ not-read s bad = rw bad
 
 -- no fourth line
 pub no-fourth : (s : List ℕ) → drop 3 (linesFrom s 0) ≡ [] → NotRead s
-unfolding formKept countsKept
+unfolding formKept countsLineKept
 no-fourth s none =
-    let missing : lineAt (linesFrom s 0) 3 ≡ [] = sym (getD-drop 3 (linesFrom s 0) 0 []) ∙ ap (λ l. lineAt l 0) none in
+    let missing : fileLine (linesFrom s 0) 3 ≡ [] =
+    sym (getD-drop 3 (linesFrom s 0) 0 []) ∙ ap (λ l. fileLine l 0) none in
     not-read s (rw missing)
 
 -- ---- the line of counts, past the three header lines
 
 module _ {s : List ℕ} {at : ℕ} {r : Counts} (header : LinesPassed s 0 3 at) (counts : ReadsCounts s at r) where
-  fourth : lineAt (linesFrom s at) 0 ≡ lineAt (linesFrom s 0) 3
+  fourth : fileLine (linesFrom s at) 0 ≡ fileLine (linesFrom s 0) 3
   fourth = lines-on header 0
 
   pub no-counts-line : r .ok ≡ false → NotRead s
   unfolding formKept
   no-counts-line bad =
-      let broken : countsKept (lineAt (linesFrom s 0) 3) ≡ false = rw fourth at (sym (counts .ok) ∙ bad) in
+      let broken : countsLineKept (fileLine (linesFrom s 0) 3) ≡ false = rw fourth at (sym (counts .ok) ∙ bad) in
       not-read s (rw broken)
 
 -- what is known past it: n, m, and where the atom lines begin
 pub record Counted (s : List ℕ) (n m at : ℕ) : Type 0 where
-  pub kept : countsKept (lineAt (linesFrom s 0) 3) ≡ true
-  pub pair : (n, m) ≡ pairOf (lineAt (linesFrom s 0) 3)
+  pub kept : countsLineKept (fileLine (linesFrom s 0) 3) ≡ true
+  pub pair : (n, m) ≡ numbersIn (fileLine (linesFrom s 0) 3)
   pub passed : LinesPassed s 0 4 at
 
 pub counted :
@@ -63,24 +64,24 @@ counted header counts good =
     let fourth = lines-on header 0 in
     record {
       kept = rw fourth at (sym (counts .ok) ∙ good);
-      pair = counts .values good ∙ ap pairOf fourth;
+      pair = counts .values good ∙ ap numbersIn fourth;
       passed = passed-on header (counts .passed good);
     }
 
 -- ---- the atom lines
 
 module _ {s : List ℕ} {n m at : ℕ} (known : Counted s n m at) where
-  atoms-is : atomsOf (linesFrom s 0) ≡ n
+  atoms-is : atomsIn (linesFrom s 0) ≡ n
   atoms-is = sym (ap (λ x. x .0) (known .pair))
 
-  bonds-is : bondsOf (linesFrom s 0) ≡ m
+  bonds-is : bondsIn (linesFrom s 0) ≡ m
   bonds-is = sym (ap (λ x. x .1) (known .pair))
 
-  module _ {r : Passed} {limits : List ℕ} (atoms : ReadsAtoms s at n r limits) where
-    atoms-kept : allBelow (atomsOf (linesFrom s 0)) (λ i. atomKept (atomLine (linesFrom s 0) i)) ≡ r .ok
+  module _ {r : Passed} {limits : List ℕ} (atoms : ReadsAtomLines s at n r limits) where
+    atoms-kept : allBelow (atomsIn (linesFrom s 0)) (λ i. atomLineKept (atomLine (linesFrom s 0) i)) ≡ r .ok
     atoms-kept =
-        ap (λ k. allBelow k (λ i. atomKept (atomLine (linesFrom s 0) i))) atoms-is
-        ∙ all-same n _ _ (λ i h. ap atomKept (sym (lines-on (known .passed) i)))
+        ap (λ k. allBelow k (λ i. atomLineKept (atomLine (linesFrom s 0) i))) atoms-is
+        ∙ all-same n _ _ (λ i h. ap atomLineKept (sym (lines-on (known .passed) i)))
         ∙ sym (atoms .ok)
 
     pub no-atom-lines : r .ok ≡ false → NotRead s
@@ -91,12 +92,12 @@ module _ {s : List ℕ} {n m at : ℕ} (known : Counted s n m at) where
 pub record Named (s : List ℕ) (n m : ℕ) (limits : List ℕ) (at : ℕ) : Type 0 where
   pub start : ℕ
   pub known : Counted s n m start
-  pub kept : allBelow (atomsOf (linesFrom s 0)) (λ i. atomKept (atomLine (linesFrom s 0) i)) ≡ true
+  pub kept : allBelow (atomsIn (linesFrom s 0)) (λ i. atomLineKept (atomLine (linesFrom s 0) i)) ≡ true
   pub stored : (i : ℕ) → i < n → heldLimit limits i ≡ limitsOf builtIn (linesFrom s 0) i
   pub passed : LinesPassed s 0 (4 + n) at
 
 pub named :
-    {s : List ℕ} {n m at : ℕ} {r : Passed} {limits : List ℕ} → Counted s n m at → ReadsAtoms s at n r limits →
+    {s : List ℕ} {n m at : ℕ} {r : Passed} {limits : List ℕ} → Counted s n m at → ReadsAtomLines s at n r limits →
     r .ok ≡ true → Named s n m limits (r .next)
 named {at = at} known atoms good =
     record {
@@ -113,15 +114,15 @@ named {at = at} known atoms good =
 -- ---- the bond lines
 
 module _ {s : List ℕ} {n m at : ℕ} {limits : List ℕ} (names : Named s n m limits at) where
-  bond-line : (k : ℕ) → lineAt (linesFrom s at) k ≡ bondLine (linesFrom s 0) k
+  bond-line : (k : ℕ) → fileLine (linesFrom s at) k ≡ bondLine (linesFrom s 0) k
   bond-line k =
-      lines-on (names .passed) k ∙ ap (λ j. lineAt (linesFrom s 0) (4 + j + k)) (sym (atoms-is (names .known)))
+      lines-on (names .passed) k ∙ ap (λ j. fileLine (linesFrom s 0) (4 + j + k)) (sym (atoms-is (names .known)))
 
-  module _ {r : Passed} {values : List ℕ} (bonds : ReadsBonds s at m r values) where
-    bonds-kept : allBelow (bondsOf (linesFrom s 0)) (λ k. bondKept (bondLine (linesFrom s 0) k)) ≡ r .ok
+  module _ {r : Passed} {values : List ℕ} (bonds : ReadsBondLines s at m r values) where
+    bonds-kept : allBelow (bondsIn (linesFrom s 0)) (λ k. bondLineKept (bondLine (linesFrom s 0) k)) ≡ r .ok
     bonds-kept =
-        ap (λ j. allBelow j (λ k. bondKept (bondLine (linesFrom s 0) k))) (bonds-is (names .known))
-        ∙ all-same m _ _ (λ k h. ap bondKept (sym (bond-line k)))
+        ap (λ j. allBelow j (λ k. bondLineKept (bondLine (linesFrom s 0) k))) (bonds-is (names .known))
+        ∙ all-same m _ _ (λ k h. ap bondLineKept (sym (bond-line k)))
         ∙ sym (bonds .ok)
 
     pub no-bond-lines : r .ok ≡ false → NotRead s
@@ -149,6 +150,8 @@ module _ {s : List ℕ} {n m at : ℕ} {limits : List ℕ} (names : Named s n m 
           let stored = bonds .values-are good in
           let lines = linesFrom s 0 in
           let same =
-          read-same n m (heldLimit limits) (limitsOf builtIn lines) (storedBond values) (bondOf lines) (names .stored)
-          (λ k h. stored .at k h ∙ ap pairOf (bond-line k)) in
-          same ∙ rw (names .known .kept, names .kept, bonds-kept, good, ended, atoms-is (names .known), bonds-is (names .known))
+          read-same n m (heldLimit limits) (limitsOf builtIn lines) (storedBond values) (bondIn lines) (names .stored)
+          (λ k h. stored .at k h ∙ ap numbersIn (bond-line k)) in
+          let n-is = atoms-is (names .known) in
+          let m-is = bonds-is (names .known) in
+          same ∙ rw (names .known .kept, names .kept, bonds-kept, good, ended, n-is, m-is)

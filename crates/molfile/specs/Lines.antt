@@ -17,16 +17,16 @@ beforeFeeds [] = []
 beforeFeeds (b ∷ bytes) = cond (eqb b 10) ([] ∷ beforeFeeds bytes) (inFront b (beforeFeeds bytes))
 
 -- the text of a line: without the carriage return that may stand before its line feed
-unfoldable pub textOf : List ℕ → List ℕ
-textOf line = cond (eqb (getD line (length line - 1) 0) 13) (take (length line - 1) line) line
+unfoldable pub withoutReturn : List ℕ → List ℕ
+withoutReturn line = cond (eqb (getD line (length line - 1) 0) 13) (take (length line - 1) line) line
 
 -- The lines of some bytes
 unfoldable pub linesIn : List ℕ → List (List ℕ)
-linesIn bytes = map textOf (beforeFeeds bytes)
+linesIn bytes = map withoutReturn (beforeFeeds bytes)
 
 -- line i, counted from 0; a line that is missing has no bytes
-abbrev pub lineAt : List (List ℕ) → ℕ → List ℕ
-lineAt lines i = getD lines i []
+abbrev pub fileLine : List (List ℕ) → ℕ → List ℕ
+fileLine lines i = getD lines i []
 
 -- a line reaches a column, counted from 1
 abbrev pub reaches : ℕ → List ℕ → Bool

@@ -15,19 +15,19 @@ use Rattle.bonds.specs.declared.Reading.{Reading}
 use Rattle.bonds.specs.Bonds.{Bond}
 use Rattle.bonds.specs.Reading.{refusedReading, readBonds}
 use Rattle.sheet.specs.Read.{fewAtoms, fewBonds}
-use Rattle.molfile.specs.Lines.{linesIn, lineAt, reaches, stands}
+use Rattle.molfile.specs.Lines.{linesIn, fileLine, reaches, stands}
 use Rattle.molfile.specs.Elements.{Table, limitOf}
 
--- A number of three columns: blanks, then one or more digits, leading zeros allowed, right-justified
+-- A number of three columns: blankColumns, then one or more digits, leading zeros allowed, right-justified
 abbrev pub numberAt : List ℕ → ℕ → Number
 numberAt line at = afterBlanks true (take 3 (drop at line))
 
 -- the two numbers in columns 1 to 3 and 4 to 6 of a line, and whether they are numbers
-abbrev pub pairKept : List ℕ → Bool
-pairKept line = isValue (numberAt line 0) && isValue (numberAt line 3)
+abbrev pub numbersKept : List ℕ → Bool
+numbersKept line = isValue (numberAt line 0) && isValue (numberAt line 3)
 
-abbrev pub pairOf : List ℕ → Bond
-pairOf line = (valueOf (numberAt line 0), valueOf (numberAt line 3))
+abbrev pub numbersIn : List ℕ → Bond
+numbersIn line = (valueOf (numberAt line 0), valueOf (numberAt line 3))
 
 -- "V2000" and "M  END"
 abbrev pub version : List ℕ
@@ -39,19 +39,19 @@ endWord = 77 ∷ 32 ∷ 32 ∷ 69 ∷ 78 ∷ 68 ∷ []
 -- ---- the lines
 
 -- The fourth has atoms in columns 1 to 3, bonds in 4 to 6 and V2000 in 35 to 39
-unfoldable pub countsKept : List ℕ → Bool
-countsKept line = reaches 39 line && pairKept line && stands version 34 line
+unfoldable pub countsLineKept : List ℕ → Bool
+countsLineKept line = reaches 39 line && numbersKept line && stands version 34 line
 
 -- Atom lines have the symbol in columns 32 to 34
-abbrev pub atomKept : List ℕ → Bool
-atomKept line = reaches 34 line
+abbrev pub atomLineKept : List ℕ → Bool
+atomLineKept line = reaches 34 line
 
 abbrev pub symbolIn : List ℕ → List ℕ
 symbolIn line = take 3 (drop 31 line)
 
 -- Bond lines have the two atoms in columns 1 to 3 and 4 to 6
-unfoldable pub bondKept : List ℕ → Bool
-bondKept line = reaches 6 line && pairKept line
+unfoldable pub bondLineKept : List ℕ → Bool
+bondLineKept line = reaches 6 line && numbersKept line
 
 -- A line that is exactly M  END
 unfoldable pub isEnd : List ℕ → Bool
@@ -65,32 +65,32 @@ hasEnd (line ∷ lines) = isEnd line || hasEnd lines
 -- ---- what they name
 
 -- Three header lines are skipped; the fourth names n and m
-abbrev pub atomsOf : List (List ℕ) → ℕ
-atomsOf lines = pairOf (lineAt lines 3) .0
+abbrev pub atomsIn : List (List ℕ) → ℕ
+atomsIn lines = numbersIn (fileLine lines 3) .0
 
-abbrev pub bondsOf : List (List ℕ) → ℕ
-bondsOf lines = pairOf (lineAt lines 3) .1
+abbrev pub bondsIn : List (List ℕ) → ℕ
+bondsIn lines = numbersIn (fileLine lines 3) .1
 
 -- then n atom lines, m bond lines, and what follows them
 abbrev pub atomLine : List (List ℕ) → ℕ → List ℕ
-atomLine lines i = lineAt lines (4 + i)
+atomLine lines i = fileLine lines (4 + i)
 
 abbrev pub bondLine : List (List ℕ) → ℕ → List ℕ
-bondLine lines k = lineAt lines (4 + atomsOf lines + k)
+bondLine lines k = fileLine lines (4 + atomsIn lines + k)
 
 abbrev pub pastBonds : List (List ℕ) → List (List ℕ)
-pastBonds lines = drop (4 + atomsOf lines + bondsOf lines) lines
+pastBonds lines = drop (4 + atomsIn lines + bondsIn lines) lines
 
-abbrev pub bondOf : List (List ℕ) → ℕ → Bond
-bondOf lines k = pairOf (bondLine lines k)
+abbrev pub bondIn : List (List ℕ) → ℕ → Bond
+bondIn lines k = numbersIn (bondLine lines k)
 
 -- Rule 18 kept: no line (M  END too) or line feed is missing, each line reaches the last column named for it, V2000 is
 -- in its columns, and every number is one
 unfoldable pub formKept : List (List ℕ) → Bool
 formKept lines =
-    countsKept (lineAt lines 3)
-    && allBelow (atomsOf lines) (λ i. atomKept (atomLine lines i))
-    && allBelow (bondsOf lines) (λ k. bondKept (bondLine lines k))
+    countsLineKept (fileLine lines 3)
+    && allBelow (atomsIn lines) (λ i. atomLineKept (atomLine lines i))
+    && allBelow (bondsIn lines) (λ k. bondLineKept (bondLine lines k))
     && hasEnd (pastBonds lines)
 
 -- ---- the rules on n, m, the most neighbours of each atom (0: its symbol is not in the table), and the bonds
@@ -125,7 +125,7 @@ limitsOf table lines i = limitOf table (symbolIn (atomLine lines i))
 -- What lines are read as: rule 18 first
 unfoldable pub readLines : Table → List (List ℕ) → Reading
 readLines table lines =
-    cond (formKept lines) (readAtoms (atomsOf lines) (bondsOf lines) (limitsOf table lines) (bondOf lines))
+    cond (formKept lines) (readAtoms (atomsIn lines) (bondsIn lines) (limitsOf table lines) (bondIn lines))
     (refusedReading refusal.MolfileLines)
 
 -- What a molfile is read as with a table
@@ -139,5 +139,5 @@ unfoldable pub firstBonds : (ℕ → Bond) → ℕ → List Bond
 firstBonds bond zero = []
 firstBonds bond (suc m) = bond 0 ∷ firstBonds (λ k. bond (suc k)) m
 
-abbrev pub bondsNamed : List (List ℕ) → List Bond
-bondsNamed lines = firstBonds (bondOf lines) (bondsOf lines)
+abbrev pub bondsListed : List (List ℕ) → List Bond
+bondsListed lines = firstBonds (bondIn lines) (bondsIn lines)

@@ -11,9 +11,9 @@ use Rattle.molfile.specs.declared.Line.{Line}
 use Rattle.molfile.specs.declared.Passed.{Passed}
 use Rattle.molfile.specs.declared.Pair.{Pair}
 use Rattle.molfile.specs.declared.Counts.{Counts}
-use Rattle.molfile.specs.Lines.{linesIn, lineAt}
+use Rattle.molfile.specs.Lines.{linesIn, fileLine}
 use Rattle.molfile.specs.Elements.{builtIn, limitOf}
-use Rattle.molfile.specs.Molfile.{pairKept, pairOf, countsKept, atomKept, symbolIn, bondKept}
+use Rattle.molfile.specs.Molfile.{numbersKept, numbersIn, countsLineKept, atomLineKept, symbolIn, bondLineKept}
 
 -- the lines from a place on, and the bytes between two places
 abbrev pub linesFrom : List ℕ → ℕ → List (List ℕ)
@@ -45,7 +45,7 @@ pub record LineFound (s : List ℕ) (from end next : ℕ) : Type 0 where
   pub first : linesFrom s from ≡ between s from end ∷ linesFrom s next
 
 -- a line that was read
-pub record ReadsLine (s : List ℕ) (from : ℕ) (r : Line) : Type 0 where
+pub record ReadsFileLine (s : List ℕ) (from : ℕ) (r : Line) : Type 0 where
   pub missing : r .there ≡ false → linesFrom s from ≡ []
   pub found : r .there ≡ true → LineFound s from (r .end) (r .next)
 
@@ -68,15 +68,15 @@ pub record SkipsLines (s : List ℕ) (count : ℕ) (r : Passed) : Type 0 where
 
 -- two numbers of a line, of at most three digits
 pub record ReadsPair (line : List ℕ) (r : Pair) : Type 0 where
-  pub ok : r .ok ≡ pairKept line
-  pub values : r .ok ≡ true → (r .left, r .right) ≡ pairOf line
+  pub ok : r .ok ≡ numbersKept line
+  pub values : r .ok ≡ true → (r .left, r .right) ≡ numbersIn line
   pub small-left : r .left ≤ 999
   pub small-right : r .right ≤ 999
 
 -- the counts line, first of the lines from a place on
 pub record ReadsCounts (s : List ℕ) (from : ℕ) (r : Counts) : Type 0 where
-  pub ok : r .ok ≡ countsKept (lineAt (linesFrom s from) 0)
-  pub values : r .ok ≡ true → (r .atoms, r .bonds) ≡ pairOf (lineAt (linesFrom s from) 0)
+  pub ok : r .ok ≡ countsLineKept (fileLine (linesFrom s from) 0)
+  pub values : r .ok ≡ true → (r .atoms, r .bonds) ≡ numbersIn (fileLine (linesFrom s from) 0)
   pub passed : r .ok ≡ true → LinesPassed s from 1 (r .next)
   pub few-atoms : r .atoms ≤ 999
   pub few-bonds : r .bonds ≤ 999
@@ -87,27 +87,27 @@ heldLimit limits i = getD limits i 0
 
 -- those of the first n atoms are there
 pub record LimitsStored (lines : List (List ℕ)) (n : ℕ) (limits : List ℕ) : Type 0 where
-  pub at : (i : ℕ) → i < n → heldLimit limits i ≡ limitOf builtIn (symbolIn (lineAt lines i))
+  pub at : (i : ℕ) → i < n → heldLimit limits i ≡ limitOf builtIn (symbolIn (fileLine lines i))
 
 -- n atom lines from a place on
-pub record ReadsAtoms (s : List ℕ) (from n : ℕ) (r : Passed) (limits : List ℕ) : Type 0 where
-  pub ok : r .ok ≡ allBelow n (λ i. atomKept (lineAt (linesFrom s from) i))
+pub record ReadsAtomLines (s : List ℕ) (from n : ℕ) (r : Passed) (limits : List ℕ) : Type 0 where
+  pub ok : r .ok ≡ allBelow n (λ i. atomLineKept (fileLine (linesFrom s from) i))
   pub passed : r .ok ≡ true → LinesPassed s from n (r .next)
   pub limits-are : r .ok ≡ true → LimitsStored (linesFrom s from) n limits
   pub limits-fit : n ≤ length limits
 
 -- the atoms of the first m bonds are stored
 pub record BondsStored (lines : List (List ℕ)) (m : ℕ) (values : List ℕ) : Type 0 where
-  pub at : (k : ℕ) → k < m → storedBond values k ≡ pairOf (lineAt lines k)
+  pub at : (k : ℕ) → k < m → storedBond values k ≡ numbersIn (fileLine lines k)
 
 -- m bond lines from a place on
-pub record ReadsBonds (s : List ℕ) (from m : ℕ) (r : Passed) (values : List ℕ) : Type 0 where
-  pub ok : r .ok ≡ allBelow m (λ k. bondKept (lineAt (linesFrom s from) k))
+pub record ReadsBondLines (s : List ℕ) (from m : ℕ) (r : Passed) (values : List ℕ) : Type 0 where
+  pub ok : r .ok ≡ allBelow m (λ k. bondLineKept (fileLine (linesFrom s from) k))
   pub passed : r .ok ≡ true → LinesPassed s from m (r .next)
   pub values-are : r .ok ≡ true → BondsStored (linesFrom s from) m values
   pub values-fit : RoomFor (m + 1) values
 
 -- the lists have a place for each atom, and for each bond
-pub record Held (n m : ℕ) (limits values : List ℕ) : Type 0 where
+pub record ListsFit (n m : ℕ) (limits values : List ℕ) : Type 0 where
   pub limits-fit : n ≤ length limits
   pub values-fit : RoomFor (m + 1) values

@@ -11,9 +11,9 @@ use Rattle.molecule.specs.declared.Molecule.{Molecule}
 use Rattle.molecule.specs.Record.{neighbours}
 use Rattle.bonds.specs.Bonds.{Bond}
 use Rattle.sheet.specs.Text.{bondAt}
-use Rattle.molfile.specs.Lines.{lineAt}
+use Rattle.molfile.specs.Lines.{fileLine}
 use Rattle.molfile.specs.Elements.{Table, limitOf}
-use Rattle.molfile.specs.Molfile.{pairOf, version, endWord, countsKept, atomKept, symbolIn, bondKept, hasEnd}
+use Rattle.molfile.specs.Molfile.{numbersIn, version, endWord, countsLineKept, atomLineKept, symbolIn, bondLineKept, hasEnd}
 use Rattle.molfile.specs.Molfile.{atomLine}
 
 -- ---- lines as they are written
@@ -27,9 +27,9 @@ returnOf true = 13 ∷ []
 returnOf false = []
 
 -- Each line's text and its end, and after the last line the bytes `rest`
-unfoldable pub linesText : List Written → List ℕ → List ℕ
-linesText [] rest = rest
-linesText (line ∷ lines) rest = line .0 ++ (returnOf (line .1) ++ (10 ∷ linesText lines rest))
+unfoldable pub writtenText : List Written → List ℕ → List ℕ
+writtenText [] rest = rest
+writtenText (line ∷ lines) rest = line .0 ++ (returnOf (line .1) ++ (10 ∷ writtenText lines rest))
 
 -- the texts
 abbrev pub texts : List Written → List (List ℕ)
@@ -56,12 +56,12 @@ allFit (line ∷ lines) = fitsLine line && allFit lines
 -- The line of counts names the number of symbols and of bonds, then each line names its symbol or its bond, and
 -- M  END follows. Of each line no more is said than that it is kept and what its columns hold
 pub record Names (symbols : List (List ℕ)) (bonds : List Bond) (lines : List (List ℕ)) : Type 0 where
-  pub counts-kept : countsKept (lineAt lines 3) ≡ true
-  pub counts : pairOf (lineAt lines 3) ≡ (length symbols, length bonds)
-  pub atom-kept : (i : ℕ) → i < length symbols → atomKept (atomLine lines i) ≡ true
+  pub counts-kept : countsLineKept (fileLine lines 3) ≡ true
+  pub counts : numbersIn (fileLine lines 3) ≡ (length symbols, length bonds)
+  pub atom-kept : (i : ℕ) → i < length symbols → atomLineKept (atomLine lines i) ≡ true
   pub symbol : (i : ℕ) → i < length symbols → symbolIn (atomLine lines i) ≡ getD symbols i []
-  pub bond-kept : (k : ℕ) → k < length bonds → bondKept (lineAt lines (4 + length symbols + k)) ≡ true
-  pub bond : (k : ℕ) → k < length bonds → pairOf (lineAt lines (4 + length symbols + k)) ≡ bondAt bonds k
+  pub bond-kept : (k : ℕ) → k < length bonds → bondLineKept (fileLine lines (4 + length symbols + k)) ≡ true
+  pub bond : (k : ℕ) → k < length bonds → numbersIn (fileLine lines (4 + length symbols + k)) ≡ bondAt bonds k
   pub ended : hasEnd (drop (4 + length symbols + length bonds) lines) ≡ true
 
 -- ---- the plain molfile of some symbols and bonds
@@ -84,18 +84,18 @@ pub record Suits (table : Table) (mol : Molecule) (symbols : List (List ℕ)) : 
   pub known : (i : ℕ) → i < mol .atoms → 1 ≤ limitOf table (getD symbols i [])
   pub room : (i : ℕ) → i < mol .atoms → neighbours (mol .rows) i ≤ limitOf table (getD symbols i [])
 
-abbrev pub blanks : ℕ → List ℕ
-blanks k = replicate k 32
+abbrev pub blankColumns : ℕ → List ℕ
+blankColumns k = replicate k 32
 
 -- two numbers of three columns, and what follows them
 abbrev pub pairText : ℕ → ℕ → List ℕ → List ℕ
 pairText a b rest = fieldText 3 a ++ (fieldText 3 b ++ rest)
 
 abbrev pub countsText : ℕ → ℕ → List ℕ
-countsText n m = pairText n m (blanks 28 ++ version)
+countsText n m = pairText n m (blankColumns 28 ++ version)
 
 abbrev pub atomText : List ℕ → List ℕ
-atomText symbol = blanks 31 ++ symbol
+atomText symbol = blankColumns 31 ++ symbol
 
 abbrev pub bondText : Bond → List ℕ
 bondText bond = pairText (bond .0) (bond .1) []
@@ -111,4 +111,4 @@ abbrev pub unreturned : List (List ℕ) → List Written
 unreturned lines = map (λ (line : List ℕ). (line, false)) lines
 
 unfoldable pub plainFile : List (List ℕ) → List Bond → List ℕ
-plainFile symbols bonds = linesText (unreturned (plainLines symbols bonds)) []
+plainFile symbols bonds = writtenText (unreturned (plainLines symbols bonds)) []

@@ -11,14 +11,14 @@ ghost use Rattle.molfile.specs.Elements.{builtIn, limitOf};
 ghost use Rattle.bonds.specs.Reading.{readBonds};
 ghost use Rattle.molfile.specs.Molfile.{isEnd, hasEnd, symbolsKept, neighboursKept, withinLimits};
 ghost use Rattle.molfile.specs.Molfile.{readAtoms, readMolfile};
-ghost use Rattle.molfile.specs.Parts.{linesFrom, between, noFeedAt, NoFeed, FirstFeed, ReadsLine, SkipsLines};
-ghost use Rattle.molfile.specs.Parts.{noLines, noCounts, heldLimit, ReadsPair, ReadsCounts, ReadsAtoms, ReadsBonds, Held};
+ghost use Rattle.molfile.specs.Parts.{linesFrom, between, noFeedAt, NoFeed, FirstFeed, ReadsFileLine, SkipsLines};
+ghost use Rattle.molfile.specs.Parts.{noLines, noCounts, heldLimit, ReadsPair, ReadsCounts, ReadsAtomLines, ReadsBondLines, ListsFit};
 use bonds::Reading;
 use fields::Number;
 use refusal::Answer;
 use refusal::Refusal;
-use widen::u16_usize;
 use widen::u8_usize;
+use widen::u16_usize;
 
 // A line: whether it is there, where its text ends, and where the next one begins.
 struct Line {
@@ -97,7 +97,7 @@ fn feed_from(s: &[u8], from: usize) -> usize
 // The line that begins at a place; its text ends before its line feed, or before the carriage return there.
 fn line_at(s: &[u8], from: usize) -> Line
     requires { ⌜ from ≤ length (now s) ⌝ }
-    ensures { λ r. ⌜ ReadsLine (now (s .entry)) from r ⌝ }
+    ensures { λ r. ⌜ ReadsFileLine (now (s .entry)) from r ⌝ }
 {
     let feed = feed_from(s, from);
     if s.len() <= feed {
@@ -128,10 +128,7 @@ fn line_at(s: &[u8], from: usize) -> Line
 fn broken() -> Passed
     ensures { λ r. ⌜ r ≡ noLines ⌝ }
 {
-    Passed {
-        ok: false,
-        next: 0,
-    }
+    Passed { ok: false, next: 0 }
 }
 
 // The first lines of the bytes, so many, are skipped.
@@ -148,10 +145,7 @@ fn skip_lines(s: &[u8], count: usize) -> Passed
         at = line.next;
         i += 1;
     }
-    Passed {
-        ok: true,
-        next: at,
-    }
+    Passed { ok: true, next: at }
 }
 
 // Whether a word stands in the bytes from a place on.
@@ -276,7 +270,7 @@ fn limit_of(a: u8, b: u8, c: u8) -> u8
 // n atom lines from a place on; `limits` takes the most neighbours of each.
 fn atom_lines(s: &[u8], from: usize, n: usize, limits: &mut [u8]) -> Passed
     requires { ⌜ (from ≤ length (now s)) × (n ≤ length (now limits)) ⌝ }
-    ensures { λ r. ⌜ ReadsAtoms (now (s .entry)) from n r (now (limits .exit)) ⌝ }
+    ensures { λ r. ⌜ ReadsAtomLines (now (s .entry)) from n r (now (limits .exit)) ⌝ }
 {
     let mut at = from;
     let mut i: usize = 0;
@@ -292,16 +286,13 @@ fn atom_lines(s: &[u8], from: usize, n: usize, limits: &mut [u8]) -> Passed
         at = line.next;
         i += 1;
     }
-    Passed {
-        ok: true,
-        next: at,
-    }
+    Passed { ok: true, next: at }
 }
 
 // m bond lines from a place on; `values` takes the two atoms of each, after its first two places.
 fn bond_lines(s: &[u8], from: usize, m: usize, values: &mut [u16]) -> Passed
     requires { ⌜ (from ≤ length (now s)) × RoomFor (m + 1) (now values) ⌝ }
-    ensures { λ r. ⌜ ReadsBonds (now (s .entry)) from m r (now (values .exit)) ⌝ }
+    ensures { λ r. ⌜ ReadsBondLines (now (s .entry)) from m r (now (values .exit)) ⌝ }
 {
     let mut at = from;
     let mut k: usize = 0;
@@ -322,10 +313,7 @@ fn bond_lines(s: &[u8], from: usize, m: usize, values: &mut [u16]) -> Passed
         at = line.next;
         k += 1;
     }
-    Passed {
-        ok: true,
-        next: at,
-    }
+    Passed { ok: true, next: at }
 }
 
 // Whether the bytes between two places are exactly M  END.
@@ -390,7 +378,7 @@ fn neighbours_kept(limits: &[u8], n: usize, rows: &[u8]) -> bool
 
 // Rules 6, 7 and 8 on the bonds of few atoms, then rule 20.
 fn read_limited(n: usize, m: usize, limits: &[u8], values: &[u16]) -> Reading
-    requires { ⌜ Held n m (now limits) (now values) × (n ≤ 128) ⌝ }
+    requires { ⌜ ListsFit n m (now limits) (now values) × (n ≤ 128) ⌝ }
     ensures { λ r. ⌜
         r ≡ withinLimits (heldLimit (now (limits .entry))) n (readBonds n (storedBond (now (values .entry))) m) ⌝ }
 {
@@ -410,7 +398,7 @@ fn read_limited(n: usize, m: usize, limits: &[u8], values: &[u16]) -> Reading
 
 // Rules 3, 4, 19, 6, 7, 8 and 20 on what the lines name.
 fn read_atoms(n: usize, m: usize, limits: &[u8], values: &[u16]) -> Reading
-    requires { ⌜ Held n m (now limits) (now values) ⌝ }
+    requires { ⌜ ListsFit n m (now limits) (now values) ⌝ }
     ensures { λ r. ⌜ r ≡ readAtoms n m (heldLimit (now (limits .entry))) (storedBond (now (values .entry))) ⌝ }
 {
     if 128 < n {

@@ -16,15 +16,15 @@ use Rattle.listing.specs.Sound.{Sound}
 use Rattle.listing.specs.Text.{readingText}
 use Rattle.listing.specs.Turns.{Prints}
 use Rattle.listing.proofs.Joined.{reading-sound, reading-prints}
-use Rattle.molrings.specs.Text.{firstBytes, printedText, opened}
+use Rattle.molrings.specs.Text.{firstBytes, molringsText, molringsListing}
 
-pub opened-sound : (bytes : List ℕ) → Sound (opened bytes)
+pub opened-sound : (bytes : List ℕ) → Sound (molringsListing bytes)
 opened-sound bytes = reading-sound (readMolfile builtIn bytes) (accepted-well-formed builtIn bytes)
 
 -- The turns from the listing of an input come to a last one, and their texts, joined, are the text of the input
 pub turns-joined :
     (buffer : List ℕ) → 65536 ≤ length buffer → (input : List ℕ) →
-    Prints (opened (firstBytes input)) buffer (printedText input)
+    Prints (molringsListing (firstBytes input)) buffer (molringsText input)
 turns-joined buffer room input =
     let bytes = firstBytes input in
     reading-prints buffer room (readMolfile builtIn bytes) (accepted-well-formed builtIn bytes)
@@ -33,7 +33,7 @@ turns-joined buffer room input =
 pub prints-its-sheet :
     (input : List ℕ) →
     let read = readMolfile builtIn (firstBytes input) in
-    read .answer ≡ Accepted → printedText input ≡ readingText (readSheet (recordSheet (read .molecule)))
+    read .answer ≡ Accepted → molringsText input ≡ readingText (readSheet (recordSheet (read .molecule)))
 prints-its-sheet input e =
     let read = readMolfile builtIn (firstBytes input) in
     let sheet = record-sheet-reads (read .molecule) (accepted-well-formed builtIn (firstBytes input) e) in

@@ -13,9 +13,9 @@ abbrev pub firstBytes : List ℕ → List ℕ
 firstBytes input = take 262144 input
 
 -- The text of an input: what is listed for its molfile, or the line of the refusal
-abbrev pub printedText : List ℕ → List ℕ
-printedText input = readingText (readMolfile builtIn (firstBytes input))
+abbrev pub molringsText : List ℕ → List ℕ
+molringsText input = readingText (readMolfile builtIn (firstBytes input))
 
 -- The listing of the bytes that were read, before the first piece
-abbrev pub opened : List ℕ → Listing
-opened bytes = begunReading (readMolfile builtIn bytes)
+abbrev pub molringsListing : List ℕ → Listing
+molringsListing bytes = begunReading (readMolfile builtIn bytes)

@@ -80,7 +80,9 @@ module _ (table : Table) (file out : List ℕ) where
           reads-same = ap readSheet start ∙ record-sheet-reads mol formed ∙ sym (whole read told);
         }
       where
-        whole : (x : Reading) → x .answer ≡ answer.Accepted → x ≡ record { answer = answer.Accepted; molecule = x .molecule }
+        whole :
+            (x : Reading) → x .answer ≡ answer.Accepted →
+            x ≡ record { answer = answer.Accepted; molecule = x .molecule }
         whole x is = ap (λ a. record { answer = a; molecule = x .molecule }) is
 
   -- It stands at the start of the output, the bytes past it are kept, and it is read as the record of the file
@@ -95,7 +97,8 @@ module _ (table : Table) (file out : List ℕ) where
       ]
 
   -- It is refused by a rule of the file, or by rule 13
-  pub sheet-numbers : (r : Refusal) → sheetAnswer table file out ≡ Refused r → MolfileNumber (numberOf r) ⊎ (numberOf r ≡ 13)
+  pub sheet-numbers :
+      (r : Refusal) → sheetAnswer table file out ≡ Refused r → MolfileNumber (numberOf r) ⊎ (numberOf r ≡ 13)
   sheet-numbers r e = go (read .answer) refl
     where
       same : {a b : Refusal} → Refused a ≡ Refused b → a ≡ b

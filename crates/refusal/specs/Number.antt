@@ -28,8 +28,8 @@ numberOf PathEnd = 10
 numberOf SameEnds = 11
 -- a search handed to a run or a save could not be restored from any mark on this molecule
 numberOf Search = 12
--- the mark output is shorter than the mark (`ringlist_resume` and `ringlist_start`: than 9,815; document 02, F-5), or the
--- sheet output than the sheet (`ringlist_molfile`)
+-- the mark output is shorter than the mark (`ringlist_resume` and `ringlist_start`: than 9,815; document 02, F-5), or
+-- the sheet output than the sheet (`ringlist_molfile`)
 numberOf MarkRoom = 13
 -- the mark's bytes do not follow the layout
 numberOf MarkBytes = 14
@@ -40,8 +40,8 @@ numberOf MarkMolecule = 15
 numberOf MarkKind = 16
 -- p is not open, or c is 0 or above n; p empty with c = n + 1 is allowed
 numberOf MarkPlace = 17
--- a line of a molfile (M  END too) or its line feed is missing, a line does not reach the last column named for it, V2000
--- is not in its columns, or a number is bad (document 02, F-1)
+-- a line of a molfile (M  END too) or its line feed is missing, a line does not reach the last column named for it,
+-- V2000 is not in its columns, or a number is bad (document 02, F-1)
 numberOf MolfileLines = 18
 -- a symbol is not in the table of elements (document 02, F-1)
 numberOf UnknownSymbol = 19

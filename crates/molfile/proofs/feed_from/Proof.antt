@@ -37,4 +37,5 @@ pub feed-from-spec : {M : Type 1} → statement M
 feed-from-spec =
     tie.close
     (tie.spec
-    Inv-loop μ-loop (λ c κs. let start : Place tie.Start = search in start .pre) loop-holds (λ c. omega arith) returns (λ c. omega arith) (λ c. omega arith) loop-again returns-2)
+    Inv-loop μ-loop (λ c κs. let start : Place tie.Start = search in start .pre) loop-holds (λ c. omega arith) returns
+    (λ c. omega arith) (λ c. omega arith) loop-again returns-2)

@@ -4,7 +4,7 @@ use mathlib.Core.Path.{_≡_, sym}
 use mathlib.Core.Bool.{true≢false}
 use borrow.Author.Needs.{needs}
 use Rattle.molfile.specs.declared.Line.{Line}
-use Rattle.molfile.specs.Parts.{LineFound, ReadsLine}
+use Rattle.molfile.specs.Parts.{LineFound, ReadsFileLine}
 use Rattle.molfile.proofs.Feeds.{line-missing, line-empty, line-plain, line-returned, line-read}
 use Rattle.molfile.proofs.line_at.Statement.{statement}
 use Rattle.molfile.proofs.line_at.Tie as tie

@@ -1,5 +1,5 @@
 -- Two numbers of three columns each.
--- Each return by the case of `pairKept` that it met.
+-- Each return by the case of `numbersKept` that it met.
 use Prim.Native.Nat.{ℕ, _+_, _-_, _≤_}
 use native.Mathlib.Omega.{arith}
 use mathlib.Core.Path.{_≡_, ap, sym, _∙_}

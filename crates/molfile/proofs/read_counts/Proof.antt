@@ -1,5 +1,5 @@
 -- The line of counts.
--- Each return by the part of `countsKept` that it met.
+-- Each return by the part of `countsLineKept` that it met.
 use Prim.Native.Nat.{_-_, _≤_}
 use native.Mathlib.Omega.{arith}
 use mathlib.Core.Path.{_≡_, sym, _∙_}

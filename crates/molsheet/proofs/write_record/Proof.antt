@@ -13,7 +13,9 @@ mul-size : tie.Need-mul-size
 mul-size c = let start : tie.Start = search in let few = few-bonds (start .args .m) (start .pre) in omega arith
 
 returns : tie.Need-returns
-returns c = let start : tie.Start = search in no-room (start .args .m) (start .pre) (start .args .out .now) (c .if1 .taken)
+returns c =
+    let start : tie.Start = search in
+    no-room (start .args .m) (start .pre) (start .args .out .now) (c .if1 .taken)
 
 put-bonds-requires : tie.Need-put-bonds-requires
 put-bonds-requires c κs =
