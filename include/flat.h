@@ -12,8 +12,7 @@ extern "C" {
 /* Reads a bond sheet, each of its fields filled by blanks or by zeros. `record`
    is 2,052 bytes: atoms and bonds as 2 bytes each, low byte first, then 2,048
    bytes of rows. Returns 0 (accepted, record written) or the refusal 1 to 8
-   (record unchanged); 10000 when record_len is not 2,052 (nothing
-   written). */
+   (record unchanged); 10000 when record_len is not 2,052 (nothing written). */
 uint32_t flat_read_sheet(const uint8_t *sheet, size_t sheet_len,
                          uint8_t *record, size_t record_len);
 

@@ -321,7 +321,7 @@ uint32_t ringlist_carry_back(const uint8_t *sheet, size_t sheet_len,
    A refused call writes nothing, and leaves *length.
       18  a line (M  END too) or its line feed is missing, a line does not reach
           the last column named for it, V2000 is not in its columns, or a number
-          is none; so for each of the n atom lines and m bond lines that the
+          is bad; so for each of the n atom lines and m bond lines that the
           fourth line names, up to 999 each
        3  n is above 128
       19  a symbol is not one of the elements: " C " and "c  " are none

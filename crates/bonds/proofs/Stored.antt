@@ -1,4 +1,4 @@
--- Rules 6 and 7 bond by bond, over the values that the decoder stored.
+-- Rules 6 and 7 bond by bond, over the values that a reader stored.
 -- The tests of one bond have names, so that the loops' laws can be cited.
 use Prim.Native.Nat.{ℕ, _+_, _*_, _≤_, _<_}
 use native.Mathlib.Numerals.{add-one}

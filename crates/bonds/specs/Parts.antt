@@ -7,7 +7,7 @@ use lib.ListN.{length, getD}
 use Rattle.bonds.specs.declared.BondsKept.{BondsKept}
 use Rattle.bonds.specs.Bonds.{Bond, atomsKept, noneToItself}
 
--- the two numbers of line i in the list of values that the decoder fills
+-- the two numbers at place i of the list of values that a reader fills; at place 0 a sheet has n and m
 unfoldable pub stored : List ℕ → ℕ → Bond
 stored values i = (getD values (2 * i) 0, getD values (2 * i + 1) 0)
 

@@ -108,7 +108,8 @@ fn fill(values: &[u16], n: usize, m: usize) -> Reading
     }
 }
 
-// Rules 6, 7 and 8 on the bonds stored after the first two of some values, and the record of n atoms with them.
+// Rules 6, 7 and 8 on the bonds stored in some values, after the two numbers of place 0, and the record of n atoms with
+// them.
 pub fn read_bonds(values: &[u16], n: usize, m: usize) -> Reading
     requires { ⌜ FitsRecord n (now values) m ⌝ }
     ensures { λ r. ⌜ r ≡ readBonds n (storedBond (now (values .entry))) m ⌝ }

@@ -18,7 +18,7 @@ limit = 9999999999999999999
 abbrev pub isDigit : ℕ → Bool
 isDigit b = leb 48 b && leb b 57
 
--- whether a digit may follow digits worth v: unless zeros fill the field, a 0 stands alone
+-- whether a digit may follow digits worth v: unless leading zeros are allowed, a 0 stands alone
 abbrev pub mayFollow : Bool → ℕ → Bool
 mayFollow zeros v = zeros || ltb 0 v
 
@@ -28,7 +28,7 @@ digits zeros v [] = Value v zeros
 digits zeros v (b ∷ bs) =
     cond (isDigit b && mayFollow zeros v && leb (v * 10 + (b - 48)) limit) (digits zeros (v * 10 + (b - 48)) bs) Bad
 
--- blanks, then one digit or more
+-- blanks, then one digit or more; leading zeros where they are allowed, which is handed on with the value
 unfoldable pub afterBlanks : Bool → List ℕ → Number
 afterBlanks zeros [] = Bad
 afterBlanks zeros (b ∷ bs) =

@@ -12,7 +12,7 @@ pub enum Number {
     Bad,
 }
 
-// Whether a digit may follow digits worth v: unless zeros fill the field, a 0 stands alone.
+// Whether a digit may follow digits worth v: unless leading zeros are allowed, a 0 stands alone.
 fn may_follow(v: u64, zeros: bool) -> bool
     ensures { λ r. ⌜ r ≡ mayFollow zeros v ⌝ }
 {
@@ -58,7 +58,8 @@ fn zero_first(s: &[u8]) -> bool
     s[0] == 48
 }
 
-// Reads a whole slice as blanks and then one digit or more; `zeros` says whether leading zeros are allowed.
+// Reads a whole slice as blanks and then one digit or more; `zeros` says whether leading zeros are allowed, and is
+// handed on with the value.
 pub fn after_blanks(s: &[u8], zeros: bool) -> Number
     ensures { λ r. ⌜ r ≡ afterBlanks zeros (now (s .entry)) ⌝ }
 {

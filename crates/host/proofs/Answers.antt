@@ -3,6 +3,7 @@
 use Prim.Native.Nat.{ℕ, _≤_, _<_}
 use mathlib.Core.Path.{_≡_, refl, ap, ap₂, sym, _∙_}
 use mathlib.Core.Bool.{Bool, true, false, _&&_, cond}
+use mathlib.Core.Logic.{_⊎_, inl, inr}
 use mathlib.Core.List.{List}
 use lib.ListN.{length}
 use lib.Dec.{leb}
@@ -17,8 +18,8 @@ use Rattle.sheet.specs.Read.{readSheet}
 use Rattle.sheet.proofs.Accepted.{SheetTaken}
 use Rattle.search.specs.declared.Search.{Search}
 use Rattle.search.specs.declared.Ran.{Ran}
-use Rattle.search.specs.declared.Form.{Form}
 use Rattle.search.specs.declared.Saved.{Saved}
+use Rattle.search.specs.declared.Saved.the-variants.{Written, Refused}
 use Rattle.search.specs.Place.{freshSearch}
 use Rattle.search.specs.Entries.{acceptedSearch, runSearch, runOutput, endedNumber}
 use Rattle.search.specs.Mark.{fieldKept, valueAt, markBonds, markLength, markText, saveOutput, restoreMark}
@@ -27,7 +28,6 @@ use Rattle.bond_writer.specs.Parts.{spliced}
 use Rattle.bond_writer.proofs.Splices.{splice-start}
 use Rattle.counter.specs.declared.Counted.{Counted}
 use Rattle.counter.specs.Count.{countShortest}
-use Rattle.carry.specs.Carry.{carryAnswer, carryOutput}
 use Rattle.host.specs.Resume.{Resumed, searchFor, runAndSave, namedSize, markSize, listedIn}
 use Rattle.host.specs.Start.{Started, wroteMark}
 use Rattle.host.specs.Count.{CountedSheet, refusedCount, wroteCount, countSheet}
@@ -101,6 +101,11 @@ module _ (sheet : List ℕ) {read : Reading} (s t count : ℕ) where
 -- the same of an entry that writes bytes and puts their number down
 abbrev pub LeavesWritten : ℕ → List ℕ → ℕ → WrittenOut → Type 0
 LeavesWritten number bytes length x = (number ≡ x .number) × (bytes ≡ x .bytes) × (length ≡ x .length)
+
+-- an answer is either of the two
+pub saved-ways : (x : Saved) → ((k : ℕ) × (x ≡ Written k)) ⊎ ((r : Refusal) × (x ≡ Refused r))
+saved-ways (Written k) = inl (k, refl)
+saved-ways (Refused r) = inr (r, refl)
 
 -- an answer in numbers
 pub written :

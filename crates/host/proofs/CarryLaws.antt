@@ -34,31 +34,19 @@ use Rattle.carry.proofs.Laws.{CarryNumber}
 use Rattle.host.specs.Calls.{HostCall, keeping, keptBy, HostHistory, allCallsIn, HostFromMark}
 use Rattle.host.specs.Written.{WrittenOut, savedNumber, savedLength}
 use Rattle.host.specs.Carry.{carrySheet, GoesOnWith}
+use Rattle.host.proofs.Answers.{saved-ways}
 use Rattle.host.proofs.History.{host-from-mark, host-mark-done}
 
 module _ (from to : Form) (sheet mark out : List ℕ) (before : ℕ) where
   abbrev pub call : WrittenOut
   call = carrySheet from to sheet mark out before
 
-  -- what the carrying answered
-  either :
-      ((k : ℕ) × (carryAnswer from to sheet mark out ≡ Written k)) ⊎
-      ((r : Refusal) × (carryAnswer from to sheet mark out ≡ Refused r))
-  either = go (carryAnswer from to sheet mark out) refl
-    where
-      go :
-          (x : Saved) → carryAnswer from to sheet mark out ≡ x →
-          ((k : ℕ) × (carryAnswer from to sheet mark out ≡ Written k)) ⊎
-          ((r : Refusal) × (carryAnswer from to sheet mark out ≡ Refused r))
-      go (Written k) e = inl (k, e)
-      go (Refused r) e = inr (r, e)
-
   refused-number : (r : Refusal) → carryAnswer from to sheet mark out ≡ Refused r → CarryNumber (call .number)
   refused-number r e = rw e (carry.carry-numbers from to sheet mark out r e)
 
   -- It returns 0, or for a refusal 1 to 8 or 13 to 17
   pub carry-returns : (call .number ≡ 0) ⊎ CarryNumber (call .number)
-  carry-returns = elim either [
+  carry-returns = elim (saved-ways (carryAnswer from to sheet mark out)) [
     | inl (k, e) ↦ inl (ap savedNumber e)
     | inr (r, e) ↦ inr (refused-number r e)
   ]
@@ -69,7 +57,7 @@ module _ (from to : Form) (sheet mark out : List ℕ) (before : ℕ) where
 
   -- A refusal, which has another number than 0, leaves every byte and the length
   pub carry-refused-keeps : (call .number ≡ 0 → ⊥) → (call .bytes ≡ out) × (call .length ≡ before)
-  carry-refused-keeps other = elim either [
+  carry-refused-keeps other = elim (saved-ways (carryAnswer from to sheet mark out)) [
     | inl (k, e) ↦ absurd (other (ap savedNumber e))
     | inr (r, e) ↦
         (carry.carry-refused from to sheet mark out r e, ap (λ (x : Saved). savedLength x before) e)
@@ -77,7 +65,7 @@ module _ (from to : Form) (sheet mark out : List ℕ) (before : ℕ) where
 
   -- 0 means that as many bytes are written as the length says
   carry-written : call .number ≡ 0 → carryAnswer from to sheet mark out ≡ Written (call .length)
-  carry-written zero = elim either [
+  carry-written zero = elim (saved-ways (carryAnswer from to sheet mark out)) [
     | inl (k, e) ↦ e ∙ ap Written (sym (ap (λ (x : Saved). savedLength x before) e))
     | inr (r, e) ↦ absurd (not-zero (call .number) (refused-number r e) zero)
   ]

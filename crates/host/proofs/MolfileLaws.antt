@@ -1,6 +1,6 @@
 -- The laws of the sheet of a molfile from C: its numbers, what a refusal leaves, and that the sheet written is read as
 -- the record of the file. By the laws of `molsheet`.
-use Prim.Native.Nat.{ℕ, _+_, _*_, _≤_}
+use Prim.Native.Nat.{ℕ, _≤_}
 use native.Mathlib.Omega.{arith}
 use mathlib.Core.Path.{_≡_, refl, sym, ap, _∙_}
 use mathlib.Core.Logic.{_⊎_, inl, inr}
@@ -17,23 +17,11 @@ use Rattle.molsheet.specs.Sheet.{sheetAnswer}
 use Rattle.molsheet.proofs.Laws.{sheet-refused, SheetFacts, sheet-written, sheet-numbers, sheet-roomy}
 use Rattle.host.specs.Written.{WrittenOut, savedNumber, savedLength}
 use Rattle.host.specs.Molfile.{molfileSheet}
+use Rattle.host.proofs.Answers.{saved-ways}
 
 module _ (file out : List ℕ) (before : ℕ) where
   abbrev pub call : WrittenOut
   call = molfileSheet file out before
-
-  -- what was answered
-  either :
-      ((k : ℕ) × (sheetAnswer builtIn file out ≡ Written k)) ⊎
-      ((r : Refusal) × (sheetAnswer builtIn file out ≡ Refused r))
-  either = go (sheetAnswer builtIn file out) refl
-    where
-      go :
-          (x : Saved) → sheetAnswer builtIn file out ≡ x →
-          ((k : ℕ) × (sheetAnswer builtIn file out ≡ Written k)) ⊎
-          ((r : Refusal) × (sheetAnswer builtIn file out ≡ Refused r))
-      go (Written k) e = inl (k, e)
-      go (Refused r) e = inr (r, e)
 
   -- 3, 6 to 8, 18 to 20, or 13
   abbrev pub SheetNumber : ℕ → Type 0
@@ -44,7 +32,7 @@ module _ (file out : List ℕ) (before : ℕ) where
 
   -- It returns 0, or for a refusal one of these
   pub molfile-returns : (call .number ≡ 0) ⊎ SheetNumber (call .number)
-  molfile-returns = elim either [
+  molfile-returns = elim (saved-ways (sheetAnswer builtIn file out)) [
     | inl (k, e) ↦ inl (ap savedNumber e)
     | inr (r, e) ↦ inr (refused-number r e)
   ]
@@ -57,14 +45,14 @@ module _ (file out : List ℕ) (before : ℕ) where
 
   -- A refusal leaves every byte and the length
   pub molfile-refused-keeps : (call .number ≡ 0 → ⊥) → (call .bytes ≡ out) × (call .length ≡ before)
-  molfile-refused-keeps other = elim either [
+  molfile-refused-keeps other = elim (saved-ways (sheetAnswer builtIn file out)) [
     | inl (k, e) ↦ absurd (other (ap savedNumber e))
     | inr (r, e) ↦ (sheet-refused builtIn file out r e, ap (λ (x : Saved). savedLength x before) e)
   ]
 
   -- 0 means that the sheet of the file is written, as many bytes as the length says, and is read as its record
   pub molfile-zero : call .number ≡ 0 → SheetFacts builtIn file out (call .length)
-  molfile-zero zero = elim either [
+  molfile-zero zero = elim (saved-ways (sheetAnswer builtIn file out)) [
     | inl (k, e) ↦ sheet-written builtIn file out _ (e ∙ ap Written (sym (ap (λ (x : Saved). savedLength x before) e)))
     | inr (r, e) ↦ absurd (not-zero (call .number) (refused-number r e) zero)
   ]

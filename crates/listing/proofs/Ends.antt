@@ -26,7 +26,7 @@ use Rattle.search.specs.Place.{family, stateOf, searchAt, freshSearch, restorab
 use Rattle.search.specs.Entries.{outcome, ran, runSearch, runOutput}
 use Rattle.search.proofs.Views.{state-search}
 use Rattle.search.proofs.Readings.{family-atoms}
-use Rattle.history.specs.Calls.{Call, runs, Standing, start, refused, afterAccepted, afterCall, standing, History}
+use Rattle.history.specs.Calls.{Call, runs, Standing, start, refused, afterAccepted, afterCall, standing}
 use Rattle.history.specs.Demand.{Progress, Demand}
 use Rattle.molecule.proofs.Bonds.{rule9}
 use Rattle.history.proofs.Each.{rings-demand3, rings-kept}

@@ -1,5 +1,4 @@
 -- A listing that `print` may be handed: with rings to come, its search stands as demand 3 speaks of it.
-use Prim.Native.Nat.{ℕ}
 use mathlib.Core.Path.{_≡_}
 use mathlib.Core.Bool.{true}
 use mathlib.Core.List.{List}

@@ -1,31 +1,26 @@
 -- The lines of a molfile, by their columns: the pairs of numbers, and the line of counts.
 -- What stands in columns that a line reaches are the bytes from its place on (Words).
-use Prim.Native.Nat.{ℕ, _+_, _-_, _*_, _^_, _≤_, _<_}
+use Prim.Native.Nat.{ℕ, _+_, _-_, _≤_, _<_}
 use native.Mathlib.Omega.{arith}
 use mathlib.Core.Path.{_≡_, refl, ap, ap₂, sym, _∙_}
 use mathlib.Core.Bool.{Bool, true, false, _&&_, true≢false}
 use mathlib.Core.List.{List, []}
-use lib.ListN.{length, take, drop, length-take, length-drop}
+use lib.ListN.{length, take, drop, length-drop}
 use lib.Dec.{leb}
-use lib.Seq.{length-take-le, drop-drop}
+use lib.Seq.{length-take-le}
 use borrow.Author.Tests.{le-leb, lt-leb}
-use Rattle.fields.specs.declared.Number.{Number}
 use Rattle.fields.specs.declared.Number.the-variants.{Value, Bad}
 use Rattle.fields.specs.Field.{afterBlanks, isValue, valueOf}
 use Rattle.fields.proofs.Laws.{blanks-fit}
 use Rattle.bonds.specs.Bonds.{Bond}
 use Rattle.molfile.specs.declared.Pair.{Pair}
-use Rattle.molfile.specs.declared.Counts.{Counts}
 use Rattle.molfile.specs.Lines.{stands, fileLine}
-use Rattle.molfile.specs.Molfile.{numberAt, numbersKept, numbersIn, version, countsLineKept, bondLineKept}
-use Rattle.molfile.specs.Parts.{linesFrom, between, LineFound, LinesPassed, ReadsPair, noCounts, ReadsCounts}
+use Rattle.molfile.specs.Molfile.{numberAt, numbersKept, numbersIn, version, countsLineKept}
+use Rattle.molfile.specs.Parts.{linesFrom, between, LineFound, noPair, ReadsPair, noCounts, ReadsCounts}
 use Rattle.molfile.proofs.Feeds.{passed-none, passed-more, line-here}
 use Rattle.molfile.proofs.Words.{line-length, word-in, part-in}
 
 -- ---- a pair of numbers
-
-abbrev pub noPair : Pair
-noPair = record { ok = false; left = 0; right = 0 }
 
 reads-none : {line : List ℕ} → numbersKept line ≡ false → ReadsPair line noPair
 reads-none bad =

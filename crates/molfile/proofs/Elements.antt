@@ -1,14 +1,14 @@
--- The built-in table, by the three bytes of a symbol: it has one capital letter and two blankColumns.
+-- The built-in table, by the three bytes of a symbol: it has one capital letter and two blanks.
 -- The definition computes, byte by byte.
 use Prim.Native.Nat.{ℕ}
-use mathlib.Core.Path.{_≡_, refl}
+use mathlib.Core.Path.{_≡_}
 use mathlib.Core.Bool.{and-false}
 use mathlib.Core.List.{[], _∷_}
 use borrow.Author.Tests.{ne-eqb}
 use Rattle.molfile.specs.Lines.{stands}
 use Rattle.molfile.specs.Elements.{builtIn, limitOf}
 
--- a symbol without blankColumns in its second and third column is in no row
+-- a symbol without a blank in its second column, or in its third, is in no row
 pub second-other : (a b c : ℕ) → (b ≡ 32 → ⊥) → 0 ≡ limitOf builtIn (a ∷ b ∷ c ∷ [])
 unfolding limitOf stands
 second-other a b c other = simp (ne-eqb b 32 other, and-false)

@@ -7,7 +7,7 @@ use native.Mathlib.Omega.{arith}
 use mathlib.Core.Path.{_≡_, refl, ap, sym, _∙_}
 use mathlib.Core.Bool.{Bool, true, false, cond}
 use mathlib.Core.List.{List, [], _∷_}
-use lib.ListN.{length, getD}
+use lib.ListN.{length, getD, replicate, length-replicate, getD-replicate}
 use lib.Dec.{leb}
 use borrow.Author.Tests.{le-leb, eqb-true}
 use Rattle.graph.proofs.Below.{false-of, allBelow-of}
@@ -28,7 +28,7 @@ use Rattle.sheet.proofs.EveryRecord.{record-reads}
 use Rattle.molfile.specs.Lines.{stands}
 use Rattle.molfile.specs.Elements.{oneLetter, Table, builtIn, limitOf}
 use Rattle.molfile.specs.Molfile.{symbolsKept, neighboursKept, readAtoms, readMolfile}
-use Rattle.molfile.specs.Text.{texts, unreturned, Names, Symbol, Small, Suits, plainLines, plainFile}
+use Rattle.molfile.specs.Text.{texts, lacks, unreturned, Names, Symbol, Small, Suits, plainLines, plainFile}
 use Rattle.molfile.proofs.Limits.{limited-within, symbols-known}
 use Rattle.molfile.proofs.Names.{limitsIn, file-read}
 use Rattle.molfile.proofs.Plain.{plain-names, plain-fit}
@@ -96,6 +96,15 @@ module _ (mol : Molecule) (formed : wellFormed mol ≡ true) where
 
 -- ---- the built-in table
 
+-- Its seven values: H 1, C 4, N 4, O 3, F 1, P 6, S 6
+pub built-in-limits :
+    (limitOf builtIn (oneLetter 72) ≡ 1) × (limitOf builtIn (oneLetter 67) ≡ 4) ×
+    (limitOf builtIn (oneLetter 78) ≡ 4) × (limitOf builtIn (oneLetter 79) ≡ 3) ×
+    (limitOf builtIn (oneLetter 70) ≡ 1) × (limitOf builtIn (oneLetter 80) ≡ 6) ×
+    (limitOf builtIn (oneLetter 83) ≡ 6)
+unfolding limitOf stands
+built-in-limits = (refl, refl, refl, refl, refl, refl, refl)
+
 -- it allows no atom more than six neighbours
 cond-most : {a b c : ℕ} (t : Bool) → a ≤ c → b ≤ c → cond t a b ≤ c
 cond-most true left right = left
@@ -156,3 +165,36 @@ module _ (mol : Molecule) (formed : wellFormed mol ≡ true) where
   every-molecule-has-a-molfile-built-in {symbols} suits =
       let range = built-in-range (λ i h. omega (arith, suits .room i h, built-in-most (getD symbols i []))) in
       every-molecule-has-a-molfile mol formed suits (omega arith)
+
+-- ---- sulfurs, which the built-in table allows six neighbours
+
+abbrev sulfur : List ℕ
+sulfur = oneLetter 83
+
+sulfur-limit : limitOf builtIn sulfur ≡ 6
+unfolding limitOf stands
+sulfur-limit = refl
+
+sulfur-symbol : Symbol sulfur
+unfolding lacks
+sulfur-symbol = record { size = refl; no-feed = refl; no-return = refl }
+
+module _ (mol : Molecule) (most : (i : ℕ) → i < mol .atoms → neighbours (mol .rows) i ≤ 6) where
+  -- Atoms of at most six neighbours can all be sulfurs
+  pub sulfurs-suit : Suits builtIn mol (replicate (mol .atoms) (oneLetter 83))
+  sulfurs-suit = record {
+    as-many = length-replicate (mol .atoms) sulfur;
+    symbol = λ i h. rw (each i h) sulfur-symbol;
+    known = λ i h. rw (each i h, sulfur-limit) (omega arith);
+    room = λ i h. rw (each i h, sulfur-limit) (most i h);
+  }
+    where
+      each : (i : ℕ) → i < mol .atoms → getD (replicate (mol .atoms) sulfur) i [] ≡ sulfur
+      each i h = getD-replicate (mol .atoms) i sulfur [] h
+
+  -- so every molecule of such atoms is read from a molfile
+  pub sulfurs-read :
+      wellFormed mol ≡ true →
+      readMolfile builtIn (plainFile (replicate (mol .atoms) (oneLetter 83)) (bondList (mol .rows))) ≡
+      record { answer = Accepted; molecule = mol }
+  sulfurs-read formed = every-molecule-has-a-molfile-built-in mol formed sulfurs-suit

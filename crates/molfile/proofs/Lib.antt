@@ -11,4 +11,5 @@ pub mod Numbers
 pub mod Plain
 pub mod Texts
 pub mod Whole
+pub mod Within
 pub mod Words

@@ -18,7 +18,6 @@ use Rattle.bonds.specs.Bonds.{Bond}
 use Rattle.bonds.specs.Reading.{refusedReading, readBonds}
 use Rattle.bonds.proofs.Same.{bonds-same}
 use Rattle.bonds.proofs.Record.{bonds-taken, taken-size}
-use Rattle.sheet.specs.Read.{fewAtoms, fewBonds}
 use Rattle.molfile.specs.Molfile.{symbolsKept, neighboursKept, withinLimits, readAtoms}
 
 -- ---- one atom

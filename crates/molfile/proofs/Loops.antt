@@ -14,7 +14,6 @@ use Rattle.graph.specs.Every.{allBelow}
 use Rattle.graph.proofs.Loops.{Passing, passing-none, passing-more, passing-not, passing-all}
 use Rattle.bonds.specs.Parts.{storedBond, RoomFor}
 use Rattle.bonds.proofs.Stored.{stored-here, stored-other}
-use Rattle.molfile.specs.declared.Passed.{Passed}
 use Rattle.molfile.specs.declared.Pair.{Pair}
 use Rattle.molfile.specs.Lines.{fileLine}
 use Rattle.molfile.specs.Elements.{builtIn, limitOf}

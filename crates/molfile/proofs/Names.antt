@@ -67,7 +67,7 @@ module _ {symbols : List (List ℕ)} {bonds : List Bond} {lines : List (List ℕ
 
 -- ---- lines that follow
 
-end-append : (lines more : List (List ℕ)) → hasEnd lines ≡ true → hasEnd (lines ++ more) ≡ true
+pub end-append : (lines more : List (List ℕ)) → hasEnd lines ≡ true → hasEnd (lines ++ more) ≡ true
 unfolding hasEnd
 end-append [] more there = absurd (true≢false (sym there))
 end-append (line ∷ lines) more there = go (end-append lines more) (isEnd line) there
@@ -79,7 +79,7 @@ end-append (line ∷ lines) more there = go (end-append lines more) (isEnd line)
     go later false e = later e
 
 -- lines that are followed by M  END are there
-end-inside : (k : ℕ) (lines : List (List ℕ)) → hasEnd (drop k lines) ≡ true → k < length lines
+pub end-inside : (k : ℕ) (lines : List (List ℕ)) → hasEnd (drop k lines) ≡ true → k < length lines
 unfolding hasEnd
 end-inside k lines there = go (decLt k (length lines))
   where

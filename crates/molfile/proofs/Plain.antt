@@ -26,7 +26,7 @@ use Rattle.molfile.proofs.Texts.{lacks-append}
 
 -- ---- a number in three columns
 
--- what is a number filled with blankColumns is one where leading zeros are allowed
+-- what is a number filled with blanks is one where leading zeros are allowed
 digits-zeros :
     (w : ℕ) (bs : List ℕ) (v : ℕ) (filled : Bool) → digits false w bs ≡ Value v filled → digits true w bs ≡ Value v true
 unfolding digits

@@ -1,7 +1,7 @@
 -- The parts of a molfile, read one after another, are read as the definition says: rule 18 part by part, then the rest.
 -- Where lines were passed, the lines from there on are those of the file, counted on.
-use Prim.Native.Nat.{ℕ, _+_, _≤_, _<_}
-use mathlib.Core.Path.{_≡_, refl, ap, sym, _∙_}
+use Prim.Native.Nat.{ℕ, _+_, _<_}
+use mathlib.Core.Path.{_≡_, ap, sym, _∙_}
 use mathlib.Core.Bool.{true, false}
 use mathlib.Core.List.{List, []}
 use lib.ListN.{drop}
@@ -9,7 +9,6 @@ use lib.Seq.{getD-drop}
 use Rattle.graph.specs.Every.{allBelow}
 use Rattle.graph.proofs.Places.{all-same}
 use Rattle.refusal.specs.declared.Refusal.the-variants as refusal
-use Rattle.bonds.specs.declared.Reading.{Reading}
 use Rattle.bonds.specs.Parts.{storedBond}
 use Rattle.bonds.specs.Reading.{refusedReading}
 use Rattle.molfile.specs.declared.Passed.{Passed}

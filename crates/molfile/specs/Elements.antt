@@ -8,7 +8,7 @@ use Rattle.molfile.specs.Lines.{stands}
 abbrev pub oneLetter : ℕ → List ℕ
 oneLetter letter = letter ∷ 32 ∷ 32 ∷ []
 
--- A table: a symbol and its most neighbours, 1 or more, for each element
+-- A table: a symbol, three bytes, and its most neighbours, 1 or more, for each element
 abbrev pub Table : Type 0
 Table = List (List ℕ × ℕ)
 

@@ -18,7 +18,8 @@ use Rattle.sheet.specs.Read.{fewAtoms, fewBonds}
 use Rattle.molfile.specs.Lines.{linesIn, fileLine, reaches, stands}
 use Rattle.molfile.specs.Elements.{Table, limitOf}
 
--- A number of three columns: blankColumns, then one or more digits, leading zeros allowed, right-justified
+-- A number of three columns: blanks, then one or more digits, leading zeros allowed, right-justified (what it says of
+-- zeros is not used)
 abbrev pub numberAt : List ℕ → ℕ → Number
 numberAt line at = afterBlanks true (take 3 (drop at line))
 

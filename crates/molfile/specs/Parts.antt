@@ -58,6 +58,9 @@ pub record LinesPassed (s : List ℕ) (from i at : ℕ) : Type 0 where
 abbrev pub noLines : Passed
 noLines = record { ok = false; next = 0 }
 
+abbrev pub noPair : Pair
+noPair = record { ok = false; left = 0; right = 0 }
+
 abbrev pub noCounts : Counts
 noCounts = record { ok = false; atoms = 0; bonds = 0; next = 0 }
 

@@ -12,7 +12,7 @@ ghost use Rattle.bonds.specs.Reading.{readBonds};
 ghost use Rattle.molfile.specs.Molfile.{isEnd, hasEnd, symbolsKept, neighboursKept, withinLimits};
 ghost use Rattle.molfile.specs.Molfile.{readAtoms, readMolfile};
 ghost use Rattle.molfile.specs.Parts.{linesFrom, between, noFeedAt, NoFeed, FirstFeed, ReadsFileLine, SkipsLines};
-ghost use Rattle.molfile.specs.Parts.{noLines, noCounts, heldLimit, ReadsPair, ReadsCounts, ReadsAtomLines, ReadsBondLines, ListsFit};
+ghost use Rattle.molfile.specs.Parts.{noLines, noPair, noCounts, heldLimit, ReadsPair, ReadsCounts, ReadsAtomLines, ReadsBondLines, ListsFit};
 use bonds::Reading;
 use fields::Number;
 use refusal::Answer;
@@ -48,7 +48,7 @@ struct Counts {
     pub next: usize,
 }
 
-// Whether none of 16 bytes is a line feed. The loop looks at all of them, so that the machine can compare them at once.
+// Whether none of 16 bytes is a line feed. The loop looks at each, so that the compiler can compare them at once.
 fn block_clear(s: &[u8], at: usize) -> bool
     requires { ⌜ at + 16 ≤ length (now s) ⌝ }
     ensures { λ r. ⌜ r ≡ allBelow 16 (noFeedAt (now (s .entry)) at) ⌝ }
@@ -163,6 +163,17 @@ fn word_at(s: &[u8], at: usize, word: &[u8]) -> bool
     true
 }
 
+// What is read where one of two numbers is none.
+fn no_pair() -> Pair
+    ensures { λ r. ⌜ r ≡ noPair ⌝ }
+{
+    Pair {
+        ok: false,
+        left: 0,
+        right: 0,
+    }
+}
+
 // The numbers of three columns each that begin at a place.
 fn pair_at(s: &[u8], at: usize) -> Pair
     requires { ⌜ at + 6 ≤ length (now s) ⌝ }
@@ -172,19 +183,11 @@ fn pair_at(s: &[u8], at: usize) -> Pair
     let end = at + 6;
     let left = fields::after_blanks(&s[at..second], true);
     let Number::Value(a, _) = left else {
-        return Pair {
-            ok: false,
-            left: 0,
-            right: 0,
-        };
+        return no_pair();
     };
     let right = fields::after_blanks(&s[second..end], true);
     let Number::Value(b, _) = right else {
-        return Pair {
-            ok: false,
-            left: 0,
-            right: 0,
-        };
+        return no_pair();
     };
     Pair {
         ok: true,
@@ -289,7 +292,7 @@ fn atom_lines(s: &[u8], from: usize, n: usize, limits: &mut [u8]) -> Passed
     Passed { ok: true, next: at }
 }
 
-// m bond lines from a place on; `values` takes the two atoms of each, after its first two places.
+// m bond lines from a place on; `values` takes the two atoms of each from place 1 on, where `bonds` looks for them.
 fn bond_lines(s: &[u8], from: usize, m: usize, values: &mut [u16]) -> Passed
     requires { ⌜ (from ≤ length (now s)) × RoomFor (m + 1) (now values) ⌝ }
     ensures { λ r. ⌜ ReadsBondLines (now (s .entry)) from m r (now (values .exit)) ⌝ }

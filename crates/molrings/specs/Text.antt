@@ -8,7 +8,8 @@ use Rattle.listing.specs.Turns.{begunReading}
 use Rattle.molfile.specs.Elements.{builtIn}
 use Rattle.molfile.specs.Molfile.{readMolfile}
 
--- The bytes that are read: at most so many, and what follows them is not looked at
+-- The bytes that are read: the first 262,144. The request names no limit; a file whose M  END comes later is refused by
+-- rule 18, as one that has none
 abbrev pub firstBytes : List ℕ → List ℕ
 firstBytes input = take 262144 input
 

@@ -15,11 +15,9 @@ use Rattle.refusal.specs.Number.{numberOf}
 use Rattle.molecule.specs.declared.Molecule.{Molecule}
 use Rattle.molecule.specs.Record.{wellFormed}
 use Rattle.bonds.specs.declared.Reading.{Reading}
-use Rattle.bonds.proofs.Record.{BondsTaken}
 use Rattle.sheet.specs.Read.{readSheet}
 use Rattle.sheet.specs.Text.{recordSheet}
 use Rattle.sheet.proofs.EveryRecord.{record-sheet-reads}
-use Rattle.search.specs.declared.Saved.{Saved}
 use Rattle.search.specs.declared.Saved.the-variants.{Written, Refused}
 use Rattle.search.specs.Mark.{writeAnswer}
 use Rattle.search.proofs.FormLaws.{write-fits, write-ways, written-refused, written-same}

@@ -5,7 +5,7 @@ use native.Mathlib.Omega.{arith}
 use mathlib.Core.Path.{_≡_, refl, ap, sym, _∙_}
 use mathlib.Core.Bool.{true}
 use mathlib.Core.List.{List, [], _∷_, _++_, append-assoc, append-nil}
-use lib.ListN.{length, length-append}
+use lib.ListN.{length}
 use Rattle.molecule.specs.declared.Molecule.{Molecule}
 use Rattle.molecule.specs.Record.{wellFormed}
 use Rattle.molecule.specs.BondList.{Bond, bondList}
@@ -13,7 +13,7 @@ use Rattle.molecule.proofs.BondCount.{bonds-count}
 use Rattle.molecule.proofs.Bonds.{rule9}
 use Rattle.refusal.specs.declared.Refusal.the-variants as refusal
 use Rattle.sheet.specs.Text.{later, linesText, sheetText, blanks, recordSheet}
-use Rattle.search.specs.declared.Saved.{Saved}
+use Rattle.sheet.proofs.EveryRecord.{record-sheet-size}
 use Rattle.search.specs.declared.Saved.the-variants.{Written, Refused}
 use Rattle.search.specs.Mark.{fieldsText, bondLines, writeAnswer, writtenBytes}
 use Rattle.search.proofs.BondLines.{bond-lines-length}
@@ -49,11 +49,7 @@ module _ (mol : Molecule) (formed : wellFormed mol ≡ true) where
   first-size = bond-lines-length ((mol .atoms, mol .bonds) ∷ [])
 
   pub sheet-size : length (recordSheet mol) ≡ 9 * (mol .bonds + 1)
-  sheet-size =
-      let count = bonds-count mol formed in
-      let size = bond-lines-length (bondList (mol .rows)) in
-      let front = first-size in
-      rw (sheet-lines, length-append) (omega arith)
+  sheet-size = record-sheet-size mol formed
 
   pub few-bonds : mol .bonds ≤ 1024
   few-bonds = rule9 mol formed .bonds-high

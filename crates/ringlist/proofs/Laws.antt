@@ -2,7 +2,7 @@
 -- 65,536 bytes decide it. By the laws of a listing, since the record of an accepted input keeps rule 9.
 use Prim.Native.Nat.{ℕ, _≤_, _<_}
 use native.Mathlib.Omega.{arith}
-use mathlib.Core.Path.{_≡_, refl, ap, sym, _∙_}
+use mathlib.Core.Path.{_≡_, refl, ap, sym}
 use mathlib.Core.Logic.{inl, inr}
 use mathlib.Core.Bool.{Bool, true, false, cond}
 use mathlib.Core.List.{List}
@@ -16,7 +16,6 @@ use Rattle.refusal.specs.declared.Answer.the-variants.{Accepted}
 use Rattle.molecule.specs.Record.{wellFormed}
 use Rattle.bonds.specs.declared.Reading.{Reading}
 use Rattle.bonds.specs.Reading.{refusedReading}
-use Rattle.bonds.proofs.Record.{kept-on}
 use Rattle.sheet.specs.Read.{readSheet}
 use Rattle.sheet.proofs.Accepted.{accepted-well-formed}
 use Rattle.listing.specs.Sound.{Sound}
@@ -33,6 +32,10 @@ read-long input h = rw (lt-ltb 65529 (length input) h)
 pub read-short : (input : List ℕ) → length input ≤ 65529 → readSheet input ≡ inputRead input
 unfolding inputRead
 read-short input h = rw (le-ltb 65529 (length input) h)
+
+-- The text of an input of at most 65,529 bytes is that of the sheet
+pub short-input : (input : List ℕ) → length input ≤ 65529 → printedText input ≡ readingText (readSheet input)
+short-input input h = ap (λ (x : Reading). readingText x) (sym (read-short input h))
 
 -- The record of an accepted input keeps rule 9
 input-formed : (input : List ℕ) → inputRead input .answer ≡ Accepted → wellFormed (inputRead input .molecule) ≡ true

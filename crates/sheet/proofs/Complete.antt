@@ -28,7 +28,7 @@ use Rattle.sheet.proofs.Answers.{Lined, sheet-read}
 use Rattle.bonds.proofs.Same.{bonds-same}
 use Rattle.bonds.proofs.Stored.{within, atoms-kept-is}
 
-lines-length : (zeros : Fillings) (xs : List Bond) → length (linesText zeros xs) ≡ 9 * length xs
+pub lines-length : (zeros : Fillings) (xs : List Bond) → length (linesText zeros xs) ≡ 9 * length xs
 unfolding linesText
 lines-length zeros [] = refl
 lines-length zeros (x ∷ xs) =

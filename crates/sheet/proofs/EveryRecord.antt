@@ -1,10 +1,10 @@
 -- Every record that rule 9 allows is read from some sheet: the one of its list of bonds.
 -- The list keeps the rules of a sheet, and the record read from that sheet has the same list, so it is the same record.
-use Prim.Native.Nat.{ℕ, _-_, _≤_, _<_}
+use Prim.Native.Nat.{ℕ, _+_, _-_, _*_, _≤_, _<_}
 use native.Mathlib.Omega.{arith}
 use mathlib.Core.Path.{_≡_, refl, sym, _∙_}
 use mathlib.Core.Bool.{true, false, _&&_, not}
-use mathlib.Core.List.{List}
+use mathlib.Core.List.{List, _∷_}
 use mathlib.Core.Logic.{inl, inr}
 use lib.ListN.{length}
 use lib.Dec.{eqb}
@@ -23,12 +23,12 @@ use Rattle.molecule.proofs.BondLaws.{all-bonded-of, listed-is-bonded, same-ther
 use Rattle.bonds.specs.Bonds.{Bond, atomsKept, noneToItself, samePair, noneTwice, rowsOf}
 use Rattle.bonds.specs.Reading.{acceptedReading, readBonds}
 use Rattle.sheet.specs.Read.{readSheet}
-use Rattle.sheet.specs.Text.{bondAt, blanks, recordSheet}
+use Rattle.sheet.specs.Text.{bondAt, sheetText, blanks, recordSheet}
 use Rattle.bonds.proofs.Answers.{bonds-read}
 use Rattle.bonds.proofs.Stored.{within, differs, atoms-kept-is, none-to-itself-is}
 use Rattle.bonds.proofs.Tables.{Joins, Kept, kept-of, isNew}
 use Rattle.bonds.proofs.Record.{same-pair-cases, record-bonds, record-well-formed}
-use Rattle.sheet.proofs.Complete.{every-molecule-has-a-sheet}
+use Rattle.sheet.proofs.Complete.{lines-length, every-molecule-has-a-sheet}
 
 -- two bonds with the lower atom first, one before the other, join different atoms
 ordered-differ : (x y : Bond) → x .0 < x .1 → y .0 < y .1 → Before x y → samePair x y ≡ false
@@ -130,6 +130,14 @@ module _ (mol : Molecule) (formed : wellFormed mol ≡ true) where
   unfolding recordSheet
   record-sheet-reads =
       every-molecule-has-a-sheet blanks n bonds few light atoms-kept none-to-itself none-twice ∙ accepted
+
+  -- and is 9 × (m + 1) bytes long
+  pub record-sheet-size : length (recordSheet mol) ≡ 9 * (mol .bonds + 1)
+  unfolding recordSheet sheetText
+  record-sheet-size =
+      let count = bonds-count mol formed in
+      let size = lines-length blanks ((n, m) ∷ bonds) in
+      size ∙ omega arith
 
 -- Every record that rule 9 allows is read from a sheet
 pub every-record-has-a-sheet :

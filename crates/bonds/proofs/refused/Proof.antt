@@ -1,4 +1,4 @@
--- What a refused sheet returns.
+-- What a refused text is read as.
 -- The molecule is the fresh one.
 use borrow.Author.Needs.{needs}
 use Rattle.bonds.proofs.refused.Statement.{statement}

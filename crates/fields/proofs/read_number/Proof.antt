@@ -1,7 +1,6 @@
 -- A whole slice as one number field, by `readField`.
 -- Leading zeros are allowed where zeros fill the field.
 use borrow.Author.Needs.{needs}
-use mathlib.Core.Path.{_≡_}
 use Rattle.fields.specs.Field.{readField}
 use Rattle.fields.proofs.read_number.Statement.{statement}
 use Rattle.fields.proofs.read_number.Tie as tie

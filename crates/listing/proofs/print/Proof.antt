@@ -1,7 +1,7 @@
 -- `print` is safe and its loop ends. The invariant is `Looping`: the listing stands as demand 3 speaks of it, or no run
 -- follows. The measure is the rings not listed yet; each turn that another follows lists one or is the last run.
 use Prim.Native.Nat.{_≤_, _<_}
-use mathlib.Core.Path.{_≡_, sym}
+use mathlib.Core.Path.{sym}
 use lib.ListN.{length}
 use lib.Seq.{length-take-le}
 use borrow.Author.Needs.{needs}

@@ -2,7 +2,7 @@
 -- Invariant: none stands between the place and the block that is looked at.
 use Prim.Native.Nat.{_-_}
 use native.Mathlib.Omega.{arith}
-use mathlib.Core.Path.{_≡_, sym, _∙_}
+use mathlib.Core.Path.{sym, _∙_}
 use lib.ListN.{length}
 use borrow.Author.Tests.{not-false}
 use Rattle.molfile.specs.Parts.{NoFeed}

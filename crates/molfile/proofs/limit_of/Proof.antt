@@ -7,7 +7,7 @@ use Rattle.molfile.proofs.Elements.{second-other, third-other, letter, 
 use Rattle.molfile.proofs.limit_of.Statement.{statement}
 use Rattle.molfile.proofs.limit_of.Tie as tie
 
--- the second and the third byte are blankColumns
+-- the second and the third byte are blanks
 second : (c : tie.Else2) → c .before .before .args .b ≡ 32
 second c = c .before .if1 .left
 

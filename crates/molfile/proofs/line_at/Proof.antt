@@ -1,10 +1,8 @@
 -- The line that begins at a place.
 -- Each return by what stands before the first line feed.
-use mathlib.Core.Path.{_≡_, sym}
+use mathlib.Core.Path.{sym}
 use mathlib.Core.Bool.{true≢false}
 use borrow.Author.Needs.{needs}
-use Rattle.molfile.specs.declared.Line.{Line}
-use Rattle.molfile.specs.Parts.{LineFound, ReadsFileLine}
 use Rattle.molfile.proofs.Feeds.{line-missing, line-empty, line-plain, line-returned, line-read}
 use Rattle.molfile.proofs.line_at.Statement.{statement}
 use Rattle.molfile.proofs.line_at.Tie as tie

@@ -1,6 +1,6 @@
 -- Rule 20.
 -- Invariant: the atoms passed have no more neighbours than their elements allow.
-use Prim.Native.Nat.{ℕ, _-_}
+use Prim.Native.Nat.{_-_}
 use native.Mathlib.Omega.{arith}
 use lib.Dec.{leb}
 use Rattle.graph.proofs.Loops.{Passing, passing-none, passing-more, passing-not, passing-all}

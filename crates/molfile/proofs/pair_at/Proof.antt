@@ -79,14 +79,17 @@ returns c =
     let start : tie.Start = search in
     let read : tie.After-after-blanks = search in
     let part = ap (afterBlanks true) (sym (first-part (start .args .s .now) (start .args .at))) in
-    left-bad (part ∙ sym (read .after-blanks .ensures) ∙ c .enum-told .given .1)
+    let told : tie.After-enum-told = search in
+    rw (c .no-pair .ensures) (left-bad (part ∙ sym (read .after-blanks .ensures) ∙ told .enum-told .given .1))
 
 returns-2 : tie.Need-returns-2
 returns-2 c =
     let start : tie.Start = search in
     let read : tie.After-after-blanks2 = search in
     let part = ap (afterBlanks true) (sym (second-part (start .args .s .now) (start .args .at))) in
-    right-bad (left-read (search)) (part ∙ sym (read .after-blanks2 .ensures) ∙ c .enum-told2 .given .1)
+    let told : tie.After-enum-told2 = search in
+    rw (c .no-pair2 .ensures)
+    (right-bad (left-read (search)) (part ∙ sym (read .after-blanks2 .ensures) ∙ told .enum-told2 .given .1))
 
 cast-left : tie.Need-cast-t16
 cast-left c = record { fits = let small = small-left (search) in omega arith }
@@ -103,6 +106,6 @@ pair-at-spec =
     tie.close
     (tie.spec
     (λ c. search needs) (λ c. search needs) (λ c. search needs) (λ c. search needs) (λ c. search needs)
-    (λ c κs. search needs) (λ c. search needs) (λ c. search needs) returns (λ c. search needs) (λ c. search needs)
-    (λ c. search needs) (λ c κs. search needs) (λ c. search needs) (λ c. search needs) returns-2 cast-left cast-right
-    returns-3)
+    (λ c κs. search needs) (λ c. search needs) (λ c. search needs) (λ c κs. search needs) returns (λ c. search needs)
+    (λ c. search needs) (λ c. search needs) (λ c κs. search needs) (λ c. search needs) (λ c. search needs)
+    (λ c κs. search needs) returns-2 cast-left cast-right returns-3)

@@ -1,6 +1,6 @@
 -- Rules 3, 4, 19, 6, 7, 8 and 20.
 -- Each return by the rule that was broken first.
-use mathlib.Core.Path.{_≡_, sym, _∙_}
+use mathlib.Core.Path.{sym, _∙_}
 use borrow.Author.Tests.{not-true, not-false}
 use borrow.Author.Needs.{needs}
 use Rattle.molfile.proofs.Limits.{atoms-many, bonds-many, symbol-unknown, symbols-known}

@@ -1,8 +1,7 @@
 -- The line of counts.
 -- Each return by the part of `countsLineKept` that it met.
-use Prim.Native.Nat.{_-_, _≤_}
+use Prim.Native.Nat.{_-_}
 use native.Mathlib.Omega.{arith}
-use mathlib.Core.Path.{_≡_, sym, _∙_}
 use borrow.Author.Tests.{not-true, not-false}
 use borrow.Author.Needs.{needs}
 use Rattle.molfile.specs.Parts.{LineFound}

@@ -1,7 +1,7 @@
 -- Rules 6, 7 and 8, then rule 20.
 -- Each return by what the bonds are read as, and by the neighbours.
 use native.Mathlib.Omega.{arith}
-use mathlib.Core.Path.{_≡_, sym, _∙_}
+use mathlib.Core.Path.{sym, _∙_}
 use borrow.Author.Tests.{not-true, not-false}
 use borrow.Author.Needs.{needs}
 use Rattle.molfile.proofs.Limits.{limited-rows, limited-refused, limited-over, limited-within}

@@ -1,7 +1,7 @@
 -- The molfile reader, part by part.
 -- Each return by the part that breaks rule 18, or by the rules on what the lines name.
 use native.Mathlib.Omega.{arith}
-use mathlib.Core.Path.{_≡_, sym, _∙_}
+use mathlib.Core.Path.{sym, _∙_}
 use borrow.Author.Tests.{not-true, not-false}
 use borrow.Author.Needs.{needs}
 use Rattle.molfile.specs.Parts.{LinesPassed}

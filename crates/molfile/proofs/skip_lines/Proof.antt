@@ -2,7 +2,6 @@
 -- Invariant: so many lines were passed.
 use Prim.Native.Nat.{_-_, _≤_}
 use native.Mathlib.Omega.{arith}
-use mathlib.Core.Path.{_≡_, refl}
 use borrow.Author.Tests.{not-true, not-false}
 use Rattle.molfile.specs.Parts.{LinesPassed}
 use Rattle.molfile.proofs.Feeds.{passed-none, passed-more, skipped-none, skipped-all}

@@ -1,6 +1,6 @@
 -- Rule 19.
 -- Invariant: the symbols passed are in the table.
-use Prim.Native.Nat.{ℕ, _-_}
+use Prim.Native.Nat.{_-_}
 use native.Mathlib.Omega.{arith}
 use lib.Dec.{leb}
 use Rattle.graph.proofs.Loops.{Passing, passing-none, passing-more, passing-not, passing-all}
