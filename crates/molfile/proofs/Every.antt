@@ -96,15 +96,6 @@ module _ (mol : Molecule) (formed : wellFormed mol ≡ true) where
 
 -- ---- the built-in table
 
--- Its seven values: H 1, C 4, N 4, O 3, F 1, P 6, S 6
-pub built-in-limits :
-    (limitOf builtIn (oneLetter 72) ≡ 1) × (limitOf builtIn (oneLetter 67) ≡ 4) ×
-    (limitOf builtIn (oneLetter 78) ≡ 4) × (limitOf builtIn (oneLetter 79) ≡ 3) ×
-    (limitOf builtIn (oneLetter 70) ≡ 1) × (limitOf builtIn (oneLetter 80) ≡ 6) ×
-    (limitOf builtIn (oneLetter 83) ≡ 6)
-unfolding limitOf stands
-built-in-limits = (refl, refl, refl, refl, refl, refl, refl)
-
 -- it allows no atom more than six neighbours
 cond-most : {a b c : ℕ} (t : Bool) → a ≤ c → b ≤ c → cond t a b ≤ c
 cond-most true left right = left

@@ -1,9 +1,10 @@
 -- The most neighbours of an element, by its symbol.
 -- Each return by the letter that it met.
+use Prim.Native.Nat.{ℕ}
 use mathlib.Core.Path.{_≡_}
-use Rattle.molfile.specs.Lines.{stands}
-use Rattle.molfile.specs.Elements.{limitOf}
-use Rattle.molfile.proofs.Elements.{second-other, third-other, letter, no-letter}
+use mathlib.Core.List.{[], _∷_}
+use Rattle.molfile.specs.Elements.{builtIn, limitOf}
+use Rattle.molfile.proofs.Elements.{built-in-limits, second-other, third-other, letter, no-letter}
 use Rattle.molfile.proofs.limit_of.Statement.{statement}
 use Rattle.molfile.proofs.limit_of.Tie as tie
 
@@ -14,33 +15,12 @@ second c = c .before .if1 .left
 third : (c : tie.Else2) → c .before .before .args .c ≡ 32
 third c = c .if2 .left
 
-returns-3 : tie.Need-returns-3
-unfolding limitOf stands
-returns-3 c = letter (second (search)) (third (search)) 72 (c .if3 .taken)
-
-returns-4 : tie.Need-returns-4
-unfolding limitOf stands
-returns-4 c = letter (second (search)) (third (search)) 67 (c .if4 .taken)
-
-returns-5 : tie.Need-returns-5
-unfolding limitOf stands
-returns-5 c = letter (second (search)) (third (search)) 78 (c .if5 .taken)
-
-returns-6 : tie.Need-returns-6
-unfolding limitOf stands
-returns-6 c = letter (second (search)) (third (search)) 79 (c .if6 .taken)
-
-returns-7 : tie.Need-returns-7
-unfolding limitOf stands
-returns-7 c = letter (second (search)) (third (search)) 70 (c .if7 .taken)
-
-returns-8 : tie.Need-returns-8
-unfolding limitOf stands
-returns-8 c = letter (second (search)) (third (search)) 80 (c .if8 .taken)
-
-returns-9 : tie.Need-returns-9
-unfolding limitOf stands
-returns-9 c = letter (second (search)) (third (search)) 83 (c .if9 .taken)
+-- so a letter of the table has its limit
+known :
+    (c : tie.Else2) {a k v : ℕ} → limitOf builtIn (k ∷ 32 ∷ 32 ∷ []) ≡ v → a ≡ k →
+    let args = c .before .before .args in
+    v ≡ limitOf builtIn (a ∷ args .b ∷ args .c ∷ [])
+known c = letter (second c) (third c)
 
 returns-10 : tie.Need-returns-10
 returns-10 c =
@@ -57,5 +37,11 @@ pub limit-of-spec : {M : Type 1} → statement M
 limit-of-spec =
     tie.close
     (tie.spec
-    (λ c. second-other _ _ _ (c .if1 .taken)) (λ c. third-other _ _ _ (c .if2 .taken)) returns-3 returns-4 returns-5
-    returns-6 returns-7 returns-8 returns-9 returns-10)
+    (λ c. second-other _ _ _ (c .if1 .taken)) (λ c. third-other _ _ _ (c .if2 .taken))
+    (λ c. known (search) (built-in-limits .0) (c .if3 .taken))
+    (λ c. known (search) (built-in-limits .1) (c .if4 .taken))
+    (λ c. known (search) (built-in-limits .2) (c .if5 .taken))
+    (λ c. known (search) (built-in-limits .3) (c .if6 .taken))
+    (λ c. known (search) (built-in-limits .4) (c .if7 .taken))
+    (λ c. known (search) (built-in-limits .5) (c .if8 .taken))
+    (λ c. known (search) (built-in-limits .6) (c .if9 .taken)) returns-10)

@@ -1,7 +1,8 @@
 -- The line of counts.
 -- Each return by the part of `countsLineKept` that it met.
-use Prim.Native.Nat.{_-_}
+use Prim.Native.Nat.{_+_, _-_, _≤_}
 use native.Mathlib.Omega.{arith}
+use lib.ListN.{length}
 use borrow.Author.Tests.{not-true, not-false}
 use borrow.Author.Needs.{needs}
 use Rattle.molfile.specs.Parts.{LineFound}
@@ -38,14 +39,20 @@ returns-2 c =
     let short : tie.Then2 = search in
     rw (c .no-counts2 .ensures) (counts-short (found (search)) (start .pre) (short .if2 .taken))
 
-pair-at-requires : tie.Need-pair-at-requires
-pair-at-requires c κs =
-    let here = found (search) in
-    let long : tie.Else2 = search in
-    let reach = long .if2 .left in
+-- its columns are in the bytes
+room :
+    (c : tie.Else2) →
+    let args = start (line (c .before .before)) .args in
+    args .from + 39 ≤ length (args .s .now)
+room c =
+    let here = found (c .before .before) in
+    let reach = c .if2 .left in
     let ends = here .ends in
     let inside = here .inside in
     omega arith
+
+pair-at-requires : tie.Need-pair-at-requires
+pair-at-requires c κs = omega (arith, room (search))
 
 returns-3 : tie.Need-returns-3
 returns-3 c =
@@ -58,13 +65,7 @@ returns-3 c =
     (not-true _ (bad .if3 .taken)))
 
 word-at-requires : tie.Need-word-at-requires
-word-at-requires c κs =
-    let here = found (search) in
-    let long : tie.Else2 = search in
-    let reach = long .if2 .left in
-    let ends = here .ends in
-    let inside = here .inside in
-    omega arith
+word-at-requires c κs = omega (arith, room (search))
 
 returns-4 : tie.Need-returns-4
 returns-4 c =
