@@ -6,7 +6,8 @@
 
 A skeleton is a list of pairs of names, as in make_sheets.py, and its atoms have
 the numbers of its bond sheet there. The hydrogens follow, in the order of the
-atoms that they are bonded to. Atoms are carbons unless they are named otherwise.
+atoms that they are bonded to; gonane has none, so that its molfile has the bonds
+of its sheet. Atoms are carbons unless they are named otherwise.
 The coordinates are those of a plain drawing: the skeleton around a circle, and
 the hydrogens outside of it.
 """
@@ -24,11 +25,11 @@ LENGTH = 1.4  # between neighbours on the circle, and from an atom to its hydrog
 class Molecule:
     """Symbols and places of the atoms, and bonds as (atom, atom, order)."""
 
-    def __init__(self, skeleton, elements={}, double=(), hydrogens=True):
+    def __init__(self, skeleton, elements=(), double=(), hydrogens=True):
         names, pairs = make_sheets.numbered(skeleton)
         number = {name: i for i, name in enumerate(names, 1)}
         twice = {tuple(sorted((number[a], number[b]))) for a, b in double}
-        self.symbols = [elements.get(name, "C") for name in names]
+        self.symbols = [dict(elements).get(name, "C") for name in names]
         self.bonds = [pair + (2 if pair in twice else 1,) for pair in pairs]
         self.radius = LENGTH / 2 / math.sin(math.pi / len(names))
         self.places = [on_circle(i / len(names), self.radius) for i in range(len(names))]

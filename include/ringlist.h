@@ -140,10 +140,10 @@ extern "C" {
    They take no memory from the heap and use less than 32 kilobytes of stack.
    This paragraph is not proved: no Rattle function has a heap, or variables
    that outlive a call; the stack is measured on starts, resumes, a count,
-   carried marks and molfiles (tests/c/host_test.c). That the prototypes in this header are
-   those of the code is tested (tests/prototypes.py). The proofs of these
-   functions assume nothing of the C library; only those of the programs ringlist
-   and molrings do, of their read and write. */
+   carried marks and molfiles (tests/c/host_test.c). That the prototypes in this
+   header are those of the code is tested (tests/prototypes.py). The proofs of
+   these functions assume nothing of the C library; only those of the programs
+   ringlist and molrings do, of their read and write. */
 uint32_t ringlist_resume(const uint8_t *sheet, size_t sheet_len,
                          const uint8_t *mark, size_t mark_len,
                          uint64_t budget,
@@ -317,8 +317,8 @@ uint32_t ringlist_carry_back(const uint8_t *sheet, size_t sheet_len,
    the same molecule.
 
    Returned when it was refused, by the first rule that is broken in the order
-   18, 3, 4, 19, 6, 7, 8, 20, 13, each tried over the whole file before the next.
-   A refused call writes nothing, and leaves *length.
+   18, 3, 4, 19, 6, 7, 8, 20, 13, each tried over the whole file before the
+   next. A refused call writes nothing, and leaves *length.
       18  a line (M  END too) or its line feed is missing, a line does not reach
           the last column named for it, V2000 is not in its columns, or a number
           is bad; so for each of the n atom lines and m bond lines that the

@@ -11,7 +11,8 @@ has an element that is not in the table; the same with a carriage return before
 each line feed. Of an SD file, which has several molecules, the first counts.
 
 What obabel writes differs from version to version: what is expected is worked
-out from the file itself. Where there is no obabel the test is skipped.
+out from the file itself. No molecule here breaks rule 20. Where there is no
+obabel the test is skipped.
 """
 import os
 import shutil

@@ -65,7 +65,7 @@ for molfile in examples/*.mol; do
     "$ringlist" <"$out/molfile.sheet" >"$out/sheet.text"
     "$molrings" <"$molfile" >"$out/molfile.text" || die "molrings on $molfile: exit code $?"
     cmp "$out/sheet.text" "$out/molfile.text" || die "molrings on $molfile: not what ringlist prints for its sheet"
-    # The carbons have the numbers of the example sheet, and hydrogens are in no ring.
+    # Where there is an example sheet, the skeleton has its numbers, and hydrogens are in no ring.
     sheet=${molfile%.mol}.sheet
     [ ! -f "$sheet" ] || "$ringlist" <"$sheet" | sed '$d' | cmp - <(sed '$d' "$out/molfile.text") ||
         die "molrings on $molfile: not the rings of $sheet"
