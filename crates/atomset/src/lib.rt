@@ -1,4 +1,6 @@
 // Sets of atoms as two words, and the rows of a molecule as sets.
+#![tactic(auto)]
+
 ghost use Rattle.std.specs.Prelude.{◌≡◌, false, ◌&&◌, ◌||◌, not, ℕ, ◌+◌, ◌-◌, ◌*◌, ◌/◌, ◌%◌, ◌^◌, ◌≤◌, ◌<◌, leb, ltb, eqb};
 ghost use Rattle.atomset.specs.Set.{has, holds_none, linked_by, Emptiness, Lowest, LowestBit, LowestLeft};
 ghost use Rattle.atomset.specs.Set.{AtMostOne, Reads, Half, WordsOf};

@@ -1,5 +1,7 @@
 // Number fields, line feeds and bond lines (document 01, "Bond sheet"; request F-5) written over a buffer from a place
 // on.
+#![tactic(auto)]
+
 ghost use Rattle.std.specs.Prelude.{◌≡◌, [], ◌∷◌, ◌+◌, ◌≤◌, ◌<◌, length};
 ghost use Rattle.fields.specs.Field.{field_text};
 ghost use Rattle.molecule.specs.BondList.{bond_list};

@@ -1,4 +1,6 @@
 // Listed bonds (document 01, "Turned back by number", rules 6, 7 and 8), and the molecule record that has just these.
+#![tactic(auto)]
+
 ghost use Rattle.std.specs.Prelude.{◌≡◌, ◌+◌};
 ghost use Rattle.bonds.specs.Bonds.{with_cell};
 ghost use Rattle.bonds.specs.Reading.{refused_reading, read_bonds};
@@ -9,14 +11,14 @@ use refusal::{Answer, Refusal};
 use widen::u16_usize;
 
 // What a text is read as: its molecule, or a refusal with the fresh one.
-#[derive(Drop)]
+#[derive(Clone, Copy)]
 pub struct Reading {
     pub answer: Answer,
     pub molecule: Molecule,
 }
 
 // Whether the bonds keep rule 6, and rule 7.
-#[derive(Drop)]
+#[derive(Clone, Copy)]
 struct BondsKept {
     pub atoms: bool,
     pub apart: bool,

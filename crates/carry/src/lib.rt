@@ -1,5 +1,7 @@
 // Carrying a mark from one form to the other (document 02, F-6): an old mark, of the form before request F-5, with its
 // sheet gives the new mark of the same search, and the other way. Rules 1 to 8, 14 to 17, 13.
+#![tactic(auto)]
+
 ghost use Rattle.std.specs.Prelude.{◌≡◌, true};
 ghost use Rattle.molecule.specs.Record.{well_formed};
 ghost use Rattle.search.specs.Mark.{written_bytes};

@@ -1,4 +1,6 @@
 // The number of shortest paths between two atoms (document 02, F-14).
+#![tactic(auto)]
+
 ghost use Rattle.std.specs.Prelude.{◌≡◌};
 ghost use Rattle.counter.specs.Count.{count_shortest};
 

@@ -1,4 +1,6 @@
 // The number of shortest paths between two atoms past rule 9 (document 02, F-14): rules 10, 11 and 26.
+#![tactic(auto)]
+
 ghost use Rattle.std.specs.Prelude.{◌≡◌, true};
 ghost use Rattle.molecule.specs.Record.{well_formed};
 ghost use Rattle.counter.specs.Count.{count_shortest};
@@ -6,7 +8,7 @@ ghost use Rattle.counter.specs.Count.{count_shortest};
 use molecule::Molecule;
 use refusal::{Answer, Refusal};
 
-#[derive(Drop)]
+#[derive(Clone, Copy)]
 pub enum Counted {
     Number(u64),
     Refused(Refusal),

@@ -1,5 +1,7 @@
 // Distances over bonds, layer by layer from an atom: which bonds lead one nearer to it, and how many lists of as few
 // bonds as can be join it to another.
+#![tactic(auto)]
+
 ghost use Rattle.std.specs.Prelude.{◌+◌, ◌≡◌, length};
 ghost use Rattle.chordless.specs.Distance.{Nearing};
 ghost use Rattle.atomset.specs.Set.{has, linked_by};

@@ -1,5 +1,7 @@
 // The fast loop of a run (document 02, F-3): trials below an open beginning of which none can stop the run. The sets of
 // each beginning on the way are kept by its length, so that a shorter one finds its own again.
+#![tactic(auto)]
+
 ghost use Rattle.std.specs.Prelude.{◌≡◌, true, suc, ◌-◌, ◌≤◌, length};
 ghost use Rattle.enumeration.specs.Run.{limit};
 ghost use Rattle.atomset.specs.Set.{linked_by};
@@ -14,7 +16,7 @@ use trial::Spot;
 use widen::u8_usize;
 
 // Where the fast loop has left the search, and the bytes used.
-#[derive(Drop)]
+#[derive(Clone, Copy)]
 pub struct Dived {
     pub at: Spot,
     pub used: usize,
@@ -77,7 +79,8 @@ fn plan_level(
     x: usize,
     steps: usize,
 )
-    requires { BothWays kind (linked_by table.now) × (len ≤ 127) × (1 ≤ x) × (x ≤ 128) × LevelRoom (suc len) levels.old }
+    requires { BothWays kind (linked_by table.now) × (len ≤ 127) × (1 ≤ x) × (x ≤ 128) ×
+        LevelRoom (suc len) levels.old }
     ensures { LevelPlanned (linked_by table.now) kind x len steps levels.old levels.new }
 {
     let aim = aim_in(levels, len);

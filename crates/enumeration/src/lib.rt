@@ -1,8 +1,10 @@
 // Why a run stopped; a run is defined in specs/Run.antt.
+#![tactic(auto)]
+
 ghost use Rattle.std.specs.Prelude.{◌≡◌};
 ghost use Rattle.enumeration.specs.Run.{stop_number};
 
-#[derive(Drop)]
+#[derive(Clone, Copy)]
 pub enum Stop {
     Done,
     Limit,

@@ -1,4 +1,6 @@
 // Number fields (document 01, "Bond sheet" and "Marks"), of any number of columns.
+#![tactic(auto)]
+
 ghost use Rattle.std.specs.Prelude.{◌≡◌, ◌+◌, ◌≤◌, length, drop};
 ghost use Rattle.fields.specs.Field.{may_follow, digits, after_blanks, zero_first, read_field};
 ghost use Rattle.fields.specs.Field.{column, field_text, field_at, blanks_only, value_at};
@@ -6,7 +8,7 @@ ghost use Rattle.fields.specs.Field.{column, field_text, field_at, blanks_only, 
 use widen::u8_u64;
 
 // What a field holds: a value, and whether zeros fill the field.
-#[derive(Drop)]
+#[derive(Clone, Copy)]
 pub enum Number {
     Value(u64, bool),
     Bad,

@@ -1,4 +1,6 @@
 // A test-only boundary: the entries on flat byte buffers, for tests in C and Rust. Declared in include/flat.h.
+#![tactic(auto)]
+
 ghost use Rattle.std.specs.Prelude.{◌≡◌, ◌≤◌, ◌++◌, length, drop};
 ghost use Rattle.fields.specs.Field.{read_field, field_text};
 ghost use Rattle.sheet.specs.Read.{read_sheet};
@@ -36,7 +38,7 @@ fn assemble(atoms: usize, bonds: usize, rows: &[u8]) -> Molecule
     ensures { result ≡ molecule atoms bonds rows.now }
 {
     let mut local = [0u8; 2048];
-    bytes::copy(rows, &mut local);
+    local.copy_from_slice(rows);
     Molecule {
         atoms: atoms,
         bonds: bonds,
@@ -62,7 +64,7 @@ fn flatten(m: Molecule, out: &mut [u8])
 {
     let rows = m.rows;
     head(out, m.atoms, m.bonds);
-    bytes::copy(&rows, &mut out[4..]);
+    out[4..].copy_from_slice(&rows);
 }
 
 // Puts what a text was read as into a record of 2,052 bytes.
@@ -244,7 +246,7 @@ fn unpack(numbers: &[u64], prefix: &[u8]) -> Search
     ensures { result ≡ search_from numbers.now prefix.now }
 {
     let mut local = [0u8; 128];
-    bytes::copy(prefix, &mut local);
+    local.copy_from_slice(prefix);
     Search {
         kind: size(numbers[0]),
         s: size(numbers[1]),
@@ -277,7 +279,7 @@ fn pack(q: Search, used: usize, made: u64, numbers: &mut [u64], prefix: &mut [u8
         made,
     ];
     copy_words(&all, numbers);
-    bytes::copy(&local, prefix);
+    prefix.copy_from_slice(&local);
 }
 
 // Writes a made search where it was accepted.

@@ -1,6 +1,6 @@
 -- Lists of runs, saves and restores (document 01, "Marks"): which calls are refused, what stands after a list of them,
--- which lists demand 3 speaks of. What a call answers is `run_search`, `save_answer` or `restore_mark`, as the contracts
--- of the entries say.
+-- which lists demand 3 speaks of. What a call answers is `run_search`, `save_answer` or `restore_mark`, as the
+-- contracts of the entries say.
 use Rattle.std.specs.Prelude.{ℕ, ◌+◌, ◌≡◌, ◌⊎◌, Bool, true, false, ◌||◌, cond, List, [], ◌∷◌, ◌++◌, take}
 use Rattle.enumeration.specs.declared.Stop.{Stop}
 use Rattle.enumeration.specs.declared.Stop.TheVariants.{Done, Limit, Spent, Full}

@@ -1,4 +1,6 @@
 // The entries for the C host, declared in include/ringlist.h.
+#![tactic(auto)]
+
 ghost use Rattle.std.specs.Prelude.{◌≡◌, true, leb};
 ghost use Rattle.molecule.specs.Record.{well_formed};
 ghost use Rattle.search.specs.Place.{restorable};

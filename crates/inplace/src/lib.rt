@@ -1,5 +1,7 @@
 // The entry on a search that is kept in place (document 01, "The instrument keeps one search and each run moves it
 // forward").
+#![tactic(auto)]
+
 ghost use Rattle.std.specs.Prelude.{◌≡◌};
 ghost use Rattle.search.specs.Entries.{run_search, run_output};
 ghost use Rattle.inplace.specs.Answer.{answer_of};
@@ -8,7 +10,7 @@ use molecule::Molecule;
 use search::{Ended, Search};
 
 // What a run in place returns; the search is stored where it stood.
-#[derive(Drop)]
+#[derive(Clone, Copy)]
 pub struct Advanced {
     pub ended: Ended,
     pub used: usize,

@@ -1,4 +1,6 @@
 // The judge of document 01: whether an atom list is a ring, or a path from s to t.
+#![tactic(auto)]
+
 ghost use Rattle.std.specs.Prelude.{◌≡◌, ◌≤◌, ◌<◌, length};
 ghost use Rattle.graph.specs.Chordless.{in_range, induces, along_ring, is_path};
 ghost use Rattle.molecule.specs.Record.{bonded};
@@ -9,7 +11,7 @@ use molecule::Molecule;
 use refusal::{Answer, Refusal};
 use widen::u8_usize;
 
-#[derive(Drop)]
+#[derive(Clone, Copy)]
 pub enum Verdict {
     Yes,
     No,

@@ -1,3 +1,4 @@
+pub mod Printing
 pub mod Sound
 pub mod Text
 pub mod Turns

@@ -69,7 +69,8 @@ turn_of next size last = record { listing = next; size = size; last = last }
 -- the lines of a run, which have room in 4 bytes for each byte of its records
 abbrev pub rings_turn : Molecule → Search → List ℕ → Turn
 rings_turn m q buffer =
-    let next : Listing = record { part = part_after (one_run m q).ended; molecule = m; search = (one_run m q).search } in
+    let ran = one_run m q in
+    let next : Listing = record { part = part_after ran.ended; molecule = m; search = ran.search } in
     turn_of next (printed (4 * length (run_records m q)) (ring_lines (run_records m q)) buffer) false
 
 abbrev pub rings_on : Molecule → Search → List ℕ → List ℕ

@@ -2,22 +2,27 @@
 // molfile (document 02, F-1), piece by piece: each turn writes the next piece into a buffer, so that the text needs no
 // more memory than one run of the search. The texts of the turns, joined, are `reading_text` (specs/Text.antt), by
 // `reading-prints` (proofs/Joined.antt).
-// No contract speaks of writing, so one sentence rests on reading `print`: it takes turns from the listing on and hands
-// the text of each to `io::write_all`, once and in order, until one is the last or a write fails.
-ghost use Rattle.std.specs.Prelude.{◌≡◌};
+// `print` hands the texts to a writer, and `read_full` takes the input from a reader; what a reader gives and a writer
+// holds is known by their own contracts, and of standard input and output no contract says it.
+#![tactic(auto)]
+
+ghost use Rattle.std.specs.Prelude.{◌≡◌, ◌<◌, ◌≤◌, length, take, OnOk};
+ghost use Rattle.std.specs.Io.KnownBytes.{Appends, Consumes, IsAtEnd};
 ghost use Rattle.listing.specs.Turns.{begun, begun_reading, output, part_after_stop, part_after};
 ghost use Rattle.listing.specs.Sound.{Sound};
+ghost use Rattle.listing.specs.Printing.{piece, AppendsPart, PrintsOn, PrintsPart};
 ghost use Rattle.listing.specs.Turns.{turn_of, rings_turn, rings_on, turned, turned_text};
 
 use bonds::Reading;
 use enumeration::Stop;
-use libc::STDOUT_FILENO;
 use molecule::Molecule;
 use refusal::{Answer, Refusal};
 use search::{Ended, Search};
+use std::io;
+use std::io::{Read, Write};
 
 // What comes next: the line of a refusal, the lines of the rings of one more run, or the line of counts.
-#[derive(Drop)]
+#[derive(Clone, Copy)]
 pub enum Part {
     Refused(Refusal),
     Rings,
@@ -25,7 +30,7 @@ pub enum Part {
 }
 
 // A listing as it stands: what comes next, the molecule, and its search.
-#[derive(Drop)]
+#[derive(Clone, Copy)]
 pub struct Listing {
     part: Part,
     molecule: Molecule,
@@ -33,7 +38,7 @@ pub struct Listing {
 }
 
 // What a turn leaves: the listing, the bytes of the piece, and whether it is the last one.
-#[derive(Drop)]
+#[derive(Clone, Copy)]
 pub struct Turn {
     pub listing: Listing,
     pub size: usize,
@@ -145,21 +150,61 @@ pub fn take_turn(listing: Listing, text: &mut [u8]) -> Turn
     }
 }
 
-// Prints the text of a listing that stands, on standard output.
-pub fn print(begun: Listing)
+// 65,536 bytes for a piece.
+fn piece() -> [u8; 65536]
+    ensures { result ≡ piece }
+{
+    [0; 65536]
+}
+
+// Writes all of `text`, or stops at the first write that takes nothing or fails, when some of it may be written.
+fn write_all<W: Write>(out: &mut W, text: &[u8]) -> io::Result<()>
+    ensures all { OnOk result (Appends (W.contents out.old) (W.contents out.new) text.now) }
+    ensures some { AppendsPart (W.contents out.old) (W.contents out.new) text.now }
+{
+    let mut done = 0;
+    while done < text.len() {
+        match out.write(&text[done..]) {
+            Ok(0) => return Err(io::Error::from(io::ErrorKind::WriteZero)),
+            Ok(n) => done += n,
+            Err(e) => return Err(e),
+        }
+    }
+    Ok(())
+}
+
+// Prints the text of a listing that stands: all of it, or its beginning where a write fails.
+pub fn print<W: Write>(begun: Listing, out: &mut W) -> io::Result<()>
     requires { Sound begun }
+    ensures all { OnOk result (PrintsOn begun (W.contents out.old) (W.contents out.new)) }
+    ensures some { PrintsPart begun (W.contents out.old) (W.contents out.new) }
 {
     let mut listing = begun;
-    let mut piece = io::large_buffer();
+    let mut piece = piece();
     loop {
         let turn = take_turn(listing, &mut piece);
         let size = turn.size;
-        if !io::write_all(STDOUT_FILENO, &piece[..size]) {
-            return;
-        }
+        write_all(out, &piece[..size])?;
         if turn.last {
-            return;
+            return Ok(());
         }
         listing = turn.listing;
     }
+}
+
+// Reads until `input` is full, the reader ends or a read fails: the bytes read, and that failure.
+pub fn read_full<R: Read>(reader: &mut R, input: &mut [u8]) -> (usize, io::Result<()>)
+    ensures within { result.0 ≤ length input.new }
+    ensures bytes { Consumes (R.remaining reader.old) (R.remaining reader.new) (take result.0 input.new) }
+    ensures end { OnOk result.1 (result.0 < length input.new → IsAtEnd (R.remaining reader.new)) }
+{
+    let mut done = 0;
+    while done < input.len() {
+        match reader.read(&mut input[done..]) {
+            Ok(0) => return (done, Ok(())),
+            Ok(n) => done += n,
+            Err(e) => return (done, Err(e)),
+        }
+    }
+    (done, Ok(()))
 }

@@ -1,5 +1,7 @@
 // Reading a mark (document 01, "Marks", and requests F-5 and F-6): what bytes restore to on a molecule that rule 9
 // allows, rules 14 to 17, in the new form or in the old one from before F-5.
+#![tactic(auto)]
+
 ghost use Rattle.std.specs.Prelude.{◌≡◌, true, ◌&&◌, map, ◌+◌, ◌*◌, ◌≤◌, length, eqb};
 ghost use Rattle.fields.specs.Field.{blanks_only, value_of, value_at};
 ghost use Rattle.molecule.specs.Record.{bonded, well_formed};
@@ -16,7 +18,7 @@ use refusal::{Answer, Refusal};
 use search::{Form, Made, Search};
 
 // A bond line: whether its bytes are right, and its two atoms.
-#[derive(Drop)]
+#[derive(Clone, Copy)]
 struct BondLine {
     pub kept: bool,
     pub left: usize,
@@ -24,7 +26,7 @@ struct BondLine {
 }
 
 // Bond lines: whether they are right and in order, and whether each is a bond of the molecule.
-#[derive(Drop)]
+#[derive(Clone, Copy)]
 struct BondsRead {
     pub kept: bool,
     pub own: bool,

@@ -1,5 +1,7 @@
 // The text of a mark (document 01, "Marks", and requests F-5 and F-6), and saving a search that rules 9 and 12 allow:
 // rule 13, in the new form or in the old one from before F-5.
+#![tactic(auto)]
+
 ghost use Rattle.std.specs.Prelude.{◌≡◌, true, ◌+◌, ◌*◌, ◌≤◌, length, drop};
 ghost use Rattle.molecule.specs.Record.{well_formed};
 ghost use Rattle.search.specs.Place.{restorable};
@@ -50,7 +52,7 @@ fn copy_bonds(out: &mut [u8], at: usize, mark: &[u8])
 {
     let from = 91 + 4 * (fields::value_at(mark, 4, 20) as usize);
     let end = at + (mark.len() - from);
-    bytes::copy(&mark[from..], &mut out[at..end]);
+    out[at..end].copy_from_slice(&mark[from..]);
 }
 
 // The three lines of a mark, of a search that need not keep rule 12.

@@ -1,5 +1,7 @@
 // Marks (document 01): a search is saved as bytes, rules 9, 12, 13;
 // bytes restore a search, rules 9, 14, 15, 16, 17.
+#![tactic(auto)]
+
 ghost use Rattle.std.specs.Prelude.{◌≡◌};
 ghost use Rattle.search.specs.Mark.{save_answer, save_output, restore_mark};
 

@@ -1,4 +1,6 @@
 // The molecule record of document 01 and its check, rule 9; rules 10 and 11 on the ends of a path.
+#![tactic(auto)]
+
 ghost use Rattle.std.specs.Prelude.{◌≡◌, ◌+◌, ◌*◌, ◌/◌, ◌%◌, ◌≤◌, ◌<◌, length};
 ghost use Rattle.molecule.specs.Record.{is_atom, cell, fresh_molecule, neighbours, well_formed};
 ghost use Rattle.molecule.specs.Ends.{ends_answer};
@@ -7,7 +9,7 @@ ghost use Rattle.molecule.specs.Parts.{mirrored, bit_sound, byte_sound, rows_sou
 use refusal::{Answer, Refusal};
 
 // Atoms, bonds, and for each of 128 atoms a row of 16 bytes.
-#[derive(Drop)]
+#[derive(Clone, Copy)]
 pub struct Molecule {
     pub atoms: usize,
     pub bonds: usize,

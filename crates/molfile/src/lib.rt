@@ -1,5 +1,7 @@
 // The molfile reader of request F-1 (document 02): bytes of a V2000 connection table to a molecule record, or one
 // refusal. Rules 18, 3, 4, 19, 6, 7, 8, 20.
+#![tactic(auto)]
+
 ghost use Rattle.std.specs.Prelude.{◌≡◌, ◌+◌, ◌-◌, ◌*◌, ◌≤◌, [], ◌∷◌, length, drop};
 ghost use Rattle.graph.specs.Every.{all_below};
 ghost use Rattle.bonds.specs.Parts.{stored_bond, RoomFor};
@@ -17,7 +19,7 @@ use refusal::{Answer, Refusal};
 use widen::{u8_usize, u16_usize};
 
 // A line: whether it is there, where its text ends, and where the next one begins.
-#[derive(Drop)]
+#[derive(Clone, Copy)]
 struct Line {
     pub there: bool,
     pub end: usize,
@@ -25,14 +27,14 @@ struct Line {
 }
 
 // Lines that were read: whether they keep rule 18, and where the next one begins.
-#[derive(Drop)]
+#[derive(Clone, Copy)]
 struct Passed {
     pub ok: bool,
     pub next: usize,
 }
 
 // Two numbers of three columns: whether they are numbers, and their values.
-#[derive(Drop)]
+#[derive(Clone, Copy)]
 struct Pair {
     pub ok: bool,
     pub left: u16,
@@ -40,7 +42,7 @@ struct Pair {
 }
 
 // The fourth line: whether it keeps rule 18, n, m, and where the next one begins.
-#[derive(Drop)]
+#[derive(Clone, Copy)]
 struct Counts {
     pub ok: bool,
     pub atoms: usize,

@@ -1,5 +1,7 @@
 // The sheet of a molfile (document 02, F-1): the blank-filled sheet of its record, its bonds lower atom first, in
 // dictionary order. Rules 18, 3, 4, 19, 6, 7, 8, 20, and 13.
+#![tactic(auto)]
+
 ghost use Rattle.std.specs.Prelude.{◌≡◌, true};
 ghost use Rattle.molecule.specs.Record.{well_formed};
 ghost use Rattle.sheet.specs.Text.{record_sheet};

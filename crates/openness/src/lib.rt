@@ -1,6 +1,8 @@
 // Members and open beginnings by sets of atoms (lemma 2 of document 003). Two sets steer a search below a beginning,
 // and are handed on to each longer one; a kind of search supplies the first two, and the most atoms of a member, which
 // leaves so many steps past an atom added.
+#![tactic(auto)]
+
 ghost use Rattle.std.specs.Prelude.{ℕ, ◌-◌, ◌≤◌, ◌<◌, ◌≡◌, true, ◌&&◌, List, [], ◌∷◌, ◌++◌, length, take, get_or, leb, eqb};
 ghost use Rattle.enumeration.specs.Words.{Family, is_open};
 ghost use Rattle.chordless.specs.Reach.{Symmetric};
@@ -16,21 +18,21 @@ ghost use Rattle.openness.specs.Parts.{OneAtom, TwoAtoms, TwoEnds, BesideLast, S
 use widen::u8_usize;
 
 // The atoms that make a member of a beginning, and those that open it.
-#[derive(Drop)]
+#[derive(Clone, Copy)]
 pub struct Plan {
     pub members: [u64; 2],
     pub opens: [u64; 2],
 }
 
 // The plan of a beginning of one atom, and that atom; 0 where there is none.
-#[derive(Drop)]
+#[derive(Clone, Copy)]
 pub struct FirstPlan {
     pub plan: Plan,
     pub atom: u8,
 }
 
 // What a trial finds at a beginning, and the plan of a beginning of one atom that is kept.
-#[derive(Drop)]
+#[derive(Clone, Copy)]
 pub struct Found {
     pub plan: Plan,
     pub first: FirstPlan,
@@ -38,14 +40,14 @@ pub struct Found {
 
 // The two sets that steer a search below a beginning, but for what is bonded to its last atom: the atoms that may close
 // a member, and those that may stand between.
-#[derive(Drop)]
+#[derive(Clone, Copy)]
 pub struct Aim {
     pub goal: [u64; 2],
     pub free: [u64; 2],
 }
 
 // The atoms beside the last one of a beginning that make a member, and those that may open it.
-#[derive(Drop)]
+#[derive(Clone, Copy)]
 struct Beside {
     pub members: [u64; 2],
     pub want: [u64; 2],

@@ -1,8 +1,10 @@
 // The refusals of document 01 ("Turned back by number") and of the requests of document 02, one variant a rule.
+#![tactic(auto)]
+
 ghost use Rattle.std.specs.Prelude.{◌≡◌};
 ghost use Rattle.refusal.specs.Number.{number_of};
 
-#[derive(Drop)]
+#[derive(Clone, Copy)]
 pub enum Refusal {
     SheetLength,
     SheetBytes,
@@ -29,7 +31,7 @@ pub enum Refusal {
 }
 
 // The answer of an entry that makes a record or a search, and of rules 10 and 11.
-#[derive(Drop)]
+#[derive(Clone, Copy)]
 pub enum Answer {
     Accepted,
     Refused(Refusal),

@@ -1,4 +1,6 @@
 // The text that `ringlist` prints (document 01, "Judge, host entry and `ringlist`"), written at the start of a buffer.
+#![tactic(auto)]
+
 ghost use Rattle.std.specs.Prelude.{◌≡◌, ◌+◌, ◌*◌, length};
 ghost use Rattle.report.specs.Lines.{ring_line, count_line, refusal_line, ring_lines, PrintedInto};
 

@@ -1,10 +1,14 @@
 // The listing of an input that `ringlist` reads as a sheet (document 01, "Judge, host entry and `ringlist`").
-ghost use Rattle.std.specs.Prelude.{◌≡◌};
-ghost use Rattle.ringlist.specs.Text.{input_read, opened};
+ghost use Rattle.std.specs.Prelude.{◌≡◌, length, IfSome, OnOk};
+ghost use Rattle.std.specs.Io.KnownBytes.{Appends};
+ghost use Rattle.listing.specs.Printing.{ListsPart};
+ghost use Rattle.ringlist.specs.Text.{input_read, printed_text, opened};
 
 use bonds::Reading;
 use listing::Listing;
 use refusal::Refusal;
+use std::io;
+use std::io::{Read, Write};
 
 // What an input is read as; one above 65,529 bytes is refused by rule 1.
 fn read(input: &[u8]) -> Reading
@@ -21,4 +25,24 @@ pub fn open(input: &[u8]) -> Listing
     ensures { result ≡ opened input.now }
 {
     listing::open(read(input))
+}
+
+// 65,536 bytes for the input.
+pub fn buffer() -> [u8; 65536]
+    ensures { length result ≡ 65536 }
+{
+    [0; 65536]
+}
+
+// Prints the text of what the reader gives, and then returns a failure of the reader's, if there was one.
+pub fn list<R: Read, W: Write>(reader: &mut R, out: &mut W) -> io::Result<()>
+    ensures all { OnOk result (IfSome (R.remaining reader.old)
+        (λ input. Appends (W.contents out.old) (W.contents out.new) (printed_text input))) }
+    ensures some { ListsPart printed_text (R.remaining reader.old) (R.remaining reader.new)
+        (W.contents out.old) (W.contents out.new) }
+{
+    let mut input = buffer();
+    let (size, read) = listing::read_full(reader, &mut input);
+    listing::print(open(&input[..size]), out)?;
+    read
 }

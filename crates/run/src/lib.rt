@@ -1,5 +1,7 @@
 // The resumable run of a search (document 01, "The search, trial by trial"): trials up to a budget, records into an
 // output.
+#![tactic(auto)]
+
 ghost use Rattle.std.specs.Prelude.{◌≡◌};
 ghost use Rattle.search.specs.Entries.{refused_run, run_search, run_output};
 

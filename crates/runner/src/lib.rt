@@ -1,5 +1,7 @@
 // The run of a search past rules 9 and 12 (document 01, "The search, trial by trial"): trials until done, limit, spent
 // or full.
+#![tactic(auto)]
+
 ghost use Rattle.std.specs.Prelude.{◌≡◌, true, ◌≤◌};
 ghost use Rattle.atomset.specs.Set.{has};
 ghost use Rattle.molecule.specs.Record.{well_formed};

@@ -93,7 +93,8 @@ three_lines_kept per_bond bytes =
 -- k bond lines from a place on: two fields that zeros do not fill and a line feed each
 unfoldable pub bond_lines_kept : List ℕ → ℕ → ℕ → Bool
 bond_lines_kept bytes at zero = true
-bond_lines_kept bytes at (suc k) = fields_kept 4 bytes at 2 && is_feed bytes (at + 8) && bond_lines_kept bytes (at + 9) k
+bond_lines_kept bytes at (suc k) = fields_kept 4 bytes at 2 && is_feed bytes (at + 8) &&
+    bond_lines_kept bytes (at + 9) k
 
 -- the bonds of k bond lines from a place on
 unfoldable pub bonds_at : List ℕ → ℕ → ℕ → List Bond
@@ -144,7 +145,8 @@ belongs mol bytes = eqb (value_at 4 bytes 12) mol.atoms && same_bonds (bonds_nam
 unfoldable pub placed_search : Molecule → List ℕ → Made
 placed_search mol bytes =
     cond (kind_kept mol.atoms (value_at 4 bytes 0) (value_at 4 bytes 4) (value_at 4 bytes 8))
-    (cond (place_kept (family_of mol (value_at 4 bytes 0) (value_at 4 bytes 4) (value_at 4 bytes 8)) (mark_beginning bytes)
+    (cond (place_kept (family_of mol (value_at 4 bytes 0) (value_at 4 bytes 4) (value_at 4 bytes 8))
+    (mark_beginning bytes)
     (value_at 4 bytes 24))
     (accepted_search (mark_search bytes))
     (refused_search refusal.MarkPlace))

@@ -1,4 +1,6 @@
 // The search of document 01 and the answers of the entries on it. What they mean is in specs/.
+#![tactic(auto)]
+
 ghost use Rattle.std.specs.Prelude.{◌≡◌};
 ghost use Rattle.search.specs.Place.{lists_paths, fresh_search, bound_kept};
 ghost use Rattle.search.specs.Entries.{accepted_search, refused_search, ended_number};
@@ -8,7 +10,7 @@ use refusal::{Answer, Refusal};
 
 // Kind 0 lists rings, kind 1 paths from s to t, kind 2 rings of at most s atoms, kind 3 shortest paths from s to t.
 // The present beginning is the first `len` places of `prefix`; the places past it hold 0.
-#[derive(Drop)]
+#[derive(Clone, Copy)]
 pub struct Search {
     pub kind: usize,
     pub s: usize,
@@ -22,20 +24,20 @@ pub struct Search {
 }
 
 // What an entry that makes a search returns.
-#[derive(Drop)]
+#[derive(Clone, Copy)]
 pub struct Made {
     pub answer: Answer,
     pub search: Search,
 }
 
 // The answer of a run.
-#[derive(Drop)]
+#[derive(Clone, Copy)]
 pub enum Ended {
     Stopped(Stop),
     Refused(Refusal),
 }
 
-#[derive(Drop)]
+#[derive(Clone, Copy)]
 pub struct Ran {
     pub ended: Ended,
     pub search: Search,
@@ -44,14 +46,14 @@ pub struct Ran {
 }
 
 // The answer of a save: the number of bytes written.
-#[derive(Drop)]
+#[derive(Clone, Copy)]
 pub enum Saved {
     Written(usize),
     Refused(Refusal),
 }
 
 // The form of a mark: old, without bond lines, as it was before request F-5, or new.
-#[derive(Drop)]
+#[derive(Clone, Copy)]
 pub enum Form {
     Old,
     New,

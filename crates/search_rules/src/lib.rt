@@ -1,4 +1,6 @@
 // Rules 12, 16 and 17 on a search (document 01, "Turned back by number"), on a molecule that rule 9 allows.
+#![tactic(auto)]
+
 ghost use Rattle.std.specs.Prelude.{◌≡◌, true, ◌≤◌, length};
 ghost use Rattle.molecule.specs.Record.{well_formed};
 ghost use Rattle.search.specs.Place.{family, beginning, ends_kept, kind_kept, place_kept, restorable};

@@ -14,7 +14,8 @@ length_kept s = leb 9 (length s) && eqb (length s % 9) 0
 
 -- line i, counted from 0: two fields of 4 columns, each filled with blanks or with zeros, and a line feed
 unfoldable pub line_kept : List ℕ → ℕ → Bool
-line_kept s i = is_value (field_at 4 s (9 * i)) && is_value (field_at 4 s (9 * i + 4)) && eqb (get_or s (9 * i + 8) 0) 10
+line_kept s i = is_value (field_at 4 s (9 * i)) && is_value (field_at 4 s (9 * i + 4)) &&
+    eqb (get_or s (9 * i + 8) 0) 10
 
 -- Rule 2 kept by every line
 unfoldable pub lines_kept : List ℕ → Bool

@@ -1,4 +1,6 @@
 // The bond sheet reader of document 01: bytes to a molecule record, or one refusal.
+#![tactic(auto)]
+
 ghost use Rattle.std.specs.Prelude.{◌≡◌, min, ◌+◌, ◌*◌, ◌≤◌, length};
 ghost use Rattle.sheet.specs.Read.{read_sheet};
 ghost use Rattle.sheet.specs.Parts.{ReadsLine, Decodable, ReadsLines, WholeLines};
@@ -9,7 +11,7 @@ use refusal::Refusal;
 use widen::u16_usize;
 
 // One line: whether its bytes are right, and its two numbers.
-#[derive(Drop)]
+#[derive(Clone, Copy)]
 struct Entry {
     pub ok: bool,
     pub left: u16,

@@ -1,5 +1,7 @@
 // Starting a search (document 01, "The search, trial by trial"; document 02, F-4 and F-14): a fresh search of any
 // kind, rule 9 and then those of its kind, s and t. A start of one kind is one of any kind.
+#![tactic(auto)]
+
 ghost use Rattle.std.specs.Prelude.{◌≡◌};
 ghost use Rattle.search.specs.Entries.{fresh_paths, fresh_rings_up_to, fresh_of_kind};
 ghost use Rattle.search.specs.Entries.{start_rings, start_paths, start_shortest, start_rings_up_to, start_search};

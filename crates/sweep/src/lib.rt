@@ -1,4 +1,6 @@
 // Reachability by one backward sweep: from the targets, over bonds, through free atoms, a round at a time.
+#![tactic(auto)]
+
 ghost use Rattle.std.specs.Prelude.{◌<◌};
 ghost use Rattle.atomset.specs.Set.{has, linked_by};
 ghost use Rattle.chordless.specs.Reach.{Symmetric};

@@ -1,5 +1,7 @@
 // One trial of a search and its unwinding, trials that only raise the next atom, and the record of a listed member
 // (document 01, "The search, trial by trial").
+#![tactic(auto)]
+
 ghost use Rattle.std.specs.Prelude.{◌≡◌, ◌&&◌, ◌||◌, [], ◌∷◌, ◌++◌, suc, ◌+◌, ◌≤◌, length, take, drop, eqb};
 ghost use Rattle.enumeration.specs.Run.{limit, record_of};
 ghost use Rattle.trial.specs.Parts.{HeldWithRoom, Counting, Acted, ToUnwind, Unwound, Stale, AtomAhead, Gap, Idle};
@@ -9,7 +11,7 @@ use openness::Plan;
 use search::Search;
 
 // The place of a search but for its beginning's atoms, and its counts.
-#[derive(Drop)]
+#[derive(Clone, Copy)]
 pub struct Spot {
     pub len: usize,
     pub next: usize,
@@ -19,7 +21,7 @@ pub struct Spot {
 }
 
 // The length of a beginning and the next atom.
-#[derive(Drop)]
+#[derive(Clone, Copy)]
 pub struct Place {
     pub len: usize,
     pub next: usize,

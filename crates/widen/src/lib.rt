@@ -1,4 +1,6 @@
 // A number in a wider type: the same number. A byte of a slice is widened by a call, which asks for its index alone.
+#![tactic(auto)]
+
 ghost use Rattle.widen.specs.Widened.{Widened};
 
 pub fn u8_u64(x: u8) -> u64
