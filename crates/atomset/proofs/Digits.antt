@@ -146,7 +146,8 @@ trailing-set (suc k) n h = split (low_digit n) h (λ q. trailing-set k (n / 2) q
     split (inl e) b rest =
         let below : suc (count_trailing_zeros k (n / 2)) < suc k = rw e at b in
         let set : bit (n / 2) (count_trailing_zeros k (n / 2)) ≡ true = rest (omega arith) in
-        ap (λ (d : ℕ). bit n (under d (count_trailing_zeros k (n / 2)))) e ∙ bit-half n (count_trailing_zeros k (n / 2)) ∙ set
+        ap (λ (d : ℕ). bit n (under d (count_trailing_zeros k (n / 2)))) e ∙
+        bit-half n (count_trailing_zeros k (n / 2)) ∙ set
     split (inr e) b rest =
         ap (λ (d : ℕ). bit n (under d (count_trailing_zeros k (n / 2)))) e ∙ bit-first n ∙ ap (λ (d : ℕ). eqb d 1) e
 
@@ -157,7 +158,8 @@ trailing-least (suc k) n zero b =
     let odd : n % 2 ≡ 1 = eqb-true (n % 2) 1 (sym (bit-first n) ∙ b) in rw odd (omega arith)
 trailing-least (suc k) n (suc j) b = split (low_digit n) (trailing-least k (n / 2) j (sym (bit-half n j) ∙ b))
   where
-    split : (n % 2 ≡ 0) ⊎ (n % 2 ≡ 1) → count_trailing_zeros k (n / 2) ≤ j → under (n % 2) (count_trailing_zeros k (n / 2)) ≤ suc j
+    split : (n % 2 ≡ 0) ⊎ (n % 2 ≡ 1) → count_trailing_zeros k (n / 2) ≤ j →
+        under (n % 2) (count_trailing_zeros k (n / 2)) ≤ suc j
     split (inl e) h = rw e (omega arith)
     split (inr e) h = rw e (omega arith)
 

@@ -275,7 +275,8 @@ lowest-first words j b =
     let same : 64 * 0 + j + 1 ≡ j + 1 = omega arith in
     rw same at (lowest-word words 0 j (omega arith) (λ w h. absurd (omega arith)) b)
 
-pub lowest-second : (words : List ℕ) (j : ℕ) → get_or words 0 0 ≡ 0 → LowestBit (get_or words 1 0) j → Lowest words (j + 65)
+pub lowest-second : (words : List ℕ) (j : ℕ) → get_or words 0 0 ≡ 0 → LowestBit (get_or words 1 0) j →
+    Lowest words (j + 65)
 lowest-second words j z b =
     let same : 64 * 1 + j + 1 ≡ j + 65 = omega arith in
     rw same at (lowest-word words 1 j (omega arith) (λ w h. let first : w ≡ 0 = omega arith in rw first z) b)

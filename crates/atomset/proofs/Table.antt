@@ -50,7 +50,8 @@ byte-read : (bytes : List ℕ) (at x : ℕ) → Widened 256 (get_or bytes at 0) 
 byte-read bytes at x w = rw w.same (reads_byte bytes at)
 
 pub four_bytes :
-    {bytes : List ℕ} {at x0 x1 x2 x3 : ℕ} → Widened 256 (get_or bytes at 0) x0 → Widened 256 (get_or bytes (at + 1) 0) x1 →
+    {bytes : List ℕ} {at x0 x1 x2 x3 : ℕ} → Widened 256 (get_or bytes at 0) x0 →
+    Widened 256 (get_or bytes (at + 1) 0) x1 →
     Widened 256 (get_or bytes (at + 2) 0) x2 → Widened 256 (get_or bytes (at + 3) 0) x3 →
     Half bytes at (x0 + 256 * x1 + 65536 * x2 + 16777216 * x3)
 four_bytes {bytes} {at} {x0} {x1} {x2} {x3} w0 w1 w2 w3 =

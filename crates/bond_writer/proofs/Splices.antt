@@ -76,6 +76,19 @@ splice-copy l bytes at from is whole room e =
     let part = part_length l at k room in
     rw is (splice-part l at k room size (filled _ _ _ (rw (all, size, part) (omega arith)) (rw is at e) ∙ all))
 
+-- the same where what was written is the copy itself
+pub splice-copied :
+    (l bytes : List ℕ) {last : List ℕ} (at from : ℕ) {start : ℕ} → start ≡ from → from ≤ length bytes →
+    at + (length bytes - from) ≤ length l →
+    let k = length bytes - start in
+    last ≡ take k (drop start bytes) →
+    take at l ++ (last ++ drop (at + k - at) (drop at l)) ≡ spliced at (drop from bytes) l
+splice-copied l bytes at from is whole room e =
+    let k = length bytes - from in
+    let size : length (drop from bytes) ≡ k = length-drop from bytes in
+    let all : take k (drop from bytes) ≡ drop from bytes = take_all k (drop from bytes) (omega arith) in
+    rw is (splice-part l at k room size (rw is at e ∙ all))
+
 -- ---- one after another
 
 pub splice-on :

@@ -57,9 +57,11 @@ with-bit zero x zero =
 with-bit zero x (suc j) =
     rw (with_first x, bit-half (odd x) j, odd-half x, eqb-zero-suc j, or-false (bit x (suc j))) (sym (bit-half x j))
 with-bit (suc k) x zero =
-    rw (with-later x k, bit-first (on_half x k), on-half-low x k, eqb-suc-zero k, or-false (bit x 0)) (sym (bit-first x))
+    rw (with-later x k, bit-first (on_half x k), on-half-low x k, eqb-suc-zero k, or-false (bit x 0))
+    (sym (bit-first x))
 with-bit (suc k) x (suc j) =
-    rw (with-later x k, bit-half (on_half x k) j, on-half-half x k, eqb-suc-suc k j, bit-half x j) (with-bit k (x / 2) j)
+    rw (with-later x k, bit-half (on_half x k) j, on-half-half x k, eqb-suc-suc k j, bit-half x j)
+    (with-bit k (x / 2) j)
 
 -- One bit more
 pub with-ones : (k x : ℕ) → bit x k ≡ false → ones (with_bit x k) ≡ suc (ones x)

@@ -28,7 +28,8 @@ pub record Kept (n : ℕ) (bond : ℕ → Bond) (m : ℕ) : Type 0 where
   pub apart : (k : ℕ) → k < m → (bond k).0 ≡ (bond k).1 → ⊥
 
 pub kept_of :
-    {n : ℕ} {bond : ℕ → Bond} {m : ℕ} → n ≤ 128 → atoms_kept n bond m ≡ true → none_to_itself bond m ≡ true → Kept n bond m
+    {n : ℕ} {bond : ℕ → Bond} {m : ℕ} → n ≤ 128 → atoms_kept n bond m ≡ true → none_to_itself bond m ≡ true →
+    Kept n bond m
 unfolding within differs
 kept_of {n} {bond} {m} few atoms differ =
     record {
@@ -222,7 +223,8 @@ module _ {n : ℕ} {bond : ℕ → Bond} {k : ℕ} {rows : List ℕ} (kept : Kep
 
       back : not here ≡ true → is_new bond k ≡ true
       back clear =
-          all_below-of k (λ j. not (same_pair (bond j) (bond k))) (λ j h. not-of (same_pair (bond j) (bond k)) (other j h))
+          all_below-of k (λ j. not (same_pair (bond j) (bond k)))
+          (λ j h. not-of (same_pair (bond j) (bond k)) (other j h))
         where
           other : (j : ℕ) → j < k → same_pair (bond j) (bond k) ≡ false
           other j h = false_of (same_pair (bond j) (bond k)) (λ same. clash here (set same) (not-true here clear))

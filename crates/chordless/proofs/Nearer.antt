@@ -190,7 +190,8 @@ module _ {n : ℕ} {adj : Adjacency} {t : ℕ} {near : Adjacency} (nearing : Nea
   pub nearing-same : (s : ℕ) → shortest_paths n adj s t ≡ shortest_paths n near s t
   nearing-same s =
       ap (λ (member : List ℕ → Bool). record { atoms = n; member = member })
-      (fun_ext (λ w. same_test (is_shortest n adj s t w) (is_shortest n near s t w) (nearing-to s w) (nearing-back s w)))
+      (fun_ext (λ w. same_test (is_shortest n adj s t w) (is_shortest n near s t w) (nearing-to s w)
+      (nearing-back s w)))
 
   pub nearing-paths : (s : ℕ) → shortest_paths n adj s t ≡ paths n near s t
   nearing-paths s = nearing-same s ∙ leading-paths nearing-leading s

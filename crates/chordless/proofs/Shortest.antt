@@ -66,7 +66,7 @@ module _ (adj : Adjacency) where
       go (inr e) (inr off) = inr (e ◁ off)
 
   pub shortest :
-      {allowed : ℕ → Bool} {d v b : ℕ} → ((u : ℕ) → allowed u ≡ true → adj u u ≡ false) → v ≢ b →
+      {allowed : ℕ → Bool} {b d v : ℕ} → ((u : ℕ) → allowed u ≡ true → adj u u ≡ false) → v ≢ b →
       Walk adj allowed b d v → Lane (λ u. allowed u ≡ true) d v b
   shortest irr h (there e) = ([], omega arith, none, (h, e, none, tt))
   shortest {b} irr h (through {d} {v} {w} e a k) = elim (ℕ_discrete w b) [

@@ -67,5 +67,6 @@ shortest-lawful n adj s t =
       non_empty = λ w e. L.non_empty w (shortest-path n adj s t w e);
       short = λ w e. L.short w (shortest-path n adj s t w e);
       in_range = λ w e. L.in_range w (shortest-path n adj s t w e);
-      prefix_free = λ v w e f begun. L.prefix_free v w (shortest-path n adj s t v e) (shortest-path n adj s t w f) begun;
+      prefix_free =
+          λ v w e f begun. L.prefix_free v w (shortest-path n adj s t v e) (shortest-path n adj s t w f) begun;
     }

@@ -48,7 +48,8 @@ module _ (adj : Adjacency) where
   touches-first x y p u =
       same-both (touches_only_last adj (x ∷ y ∷ p) u) (not (adj x u)) (touches_only_last adj (y ∷ p) u) to back
     where
-      to : touches_only_last adj (x ∷ y ∷ p) u ≡ true → (not (adj x u) ≡ true) × (touches_only_last adj (y ∷ p) u ≡ true)
+      to : touches_only_last adj (x ∷ y ∷ p) u ≡ true → (not (adj x u) ≡ true) ×
+          (touches_only_last adj (y ∷ p) u ≡ true)
       to e =
           let (off, touches) = touches-facts adj (x ∷ y ∷ p) u e in
           (not-of (adj x u) off, touches-of adj (y ∷ p) u touches)

@@ -41,7 +41,8 @@ module _ (k : ℕ) (F : Family) where
         (x : ℕ) (p : List ℕ) →
         (is_open (up_to k F) (x ∷ p) ≡ true) ↔
         ((a : ℕ) × (r : List ℕ) × (F.member (x ∷ p ++ a ∷ r) ≡ true) × (length (x ∷ p ++ a ∷ r) ≤ k))
-    upto-open x p = (to, λ (a, r, e, short). open_of (up_to k F) upto-bounded x p a r (upto-of (x ∷ p ++ a ∷ r) e short))
+    upto-open x p =
+        (to, λ (a, r, e, short). open_of (up_to k F) upto-bounded x p a r (upto-of (x ∷ p ++ a ∷ r) e short))
       where
         to :
             is_open (up_to k F) (x ∷ p) ≡ true →

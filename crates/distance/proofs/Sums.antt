@@ -107,7 +107,8 @@ module _ {numbers : List ℕ} {all : ℕ → Bool} where
       more ≡ capped (sum + get_or numbers v 0) → Summed numbers all (has rest) more
   summed-more {left} {rest} {v} {sum} s lowest takes more_is =
       let taken = sum-take numbers lowest takes in
-      let same : sum + get_or numbers v 0 + sum_over (has rest) numbers ≡ sum + sum_over (has left) numbers = omega arith in
+      let same : sum + get_or numbers v 0 + sum_over (has rest) numbers ≡ sum + sum_over (has left) numbers =
+      omega arith in
       record {
         within = rw more_is (capped-within (sum + get_or numbers v 0));
         rest =

@@ -34,7 +34,8 @@ use Rattle.trial.specs.Parts.{stack_of, HeldWithRoom}
 use Rattle.trial.proofs.Arrays.{stack-length, stack-back, stack_push, held-push, Unwinding, unwinding-pop}
 use Rattle.trial.proofs.Bytes.{part-back, record-length}
 use Rattle.dive.specs.Levels.{LevelRoom, aim_in, rest_in, kept_rest, goes_on_by, LevelAdded, Stage}
-use Rattle.dive.specs.Parts.{Rising, listed_at, extended_at, dropped_at, Bounds, state_before, Added, Descent, Listed, Left}
+use Rattle.dive.specs.Parts.{Rising, listed_at, extended_at, dropped_at, Bounds, state_before}
+use Rattle.dive.specs.Parts.{Added, Descent, Listed, Left}
 use Rattle.dive.proofs.Levels.{rest-kept-other, aim-past-rest, length-kept-rest}
 use Rattle.dive.proofs.Stages.{stage-same, stage-lowered, stage-added}
 use Rattle.dive.proofs.Stages.{lowest-from, lowest-goes-on, lowest-first, lowest-member, lowest-opens}
@@ -509,8 +510,8 @@ module _ {n : ℕ} {table : List ℕ} {kind s t most : ℕ} {from : Spot} {start
 
       pub extends :
           {planned : List ℕ} {at' : Spot} → has (aim_in levels at.len).goal v ≡ false →
-          LevelAdded (family_by n table kind s t) (linked_by table) (most_atoms kind s) (first_length kind) v (at.len + 1)
-          (set prefix at.len v) kept planned → at' ≡ extended_at at v →
+          LevelAdded (family_by n table kind s t) (linked_by table) (most_atoms kind s) (first_length kind) v
+          (at.len + 1) (set prefix at.len v) kept planned → at' ≡ extended_at at v →
           Diving d (set prefix at.len v) planned out at' used
       extends not-closing p e =
           rw e

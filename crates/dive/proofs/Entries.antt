@@ -26,7 +26,8 @@ use Rattle.trial.specs.Parts.{stack_of, state_at, Unwound}
 use Rattle.trial.proofs.Arrays.{stack-length, unwound-most}
 use Rattle.dive.specs.declared.Dived.{Dived}
 use Rattle.dive.specs.Levels.{LevelRoom, aim_in, kept_aim, kept_rest, LevelPlanned}
-use Rattle.dive.specs.Parts.{Bounds, Room, Starting, FirstStage, Descent, Left, Entering, Entered, Descended, state_before}
+use Rattle.dive.specs.Parts.{Bounds, Room, Starting, FirstStage, Descent, Left, Entering, Entered, Descended}
+use Rattle.dive.specs.Parts.{state_before}
 use Rattle.dive.proofs.Levels.{length-kept-aim, goal-kept-same, rest-kept-same, aim-past-rest}
 use Rattle.dive.proofs.Levels.{kept-steers, planned-led}
 

@@ -113,7 +113,8 @@ module _ (levels : List ℕ) (i : ℕ) (aim : Aim) where
       ∙ get_or-set_other levels (6 * i) k (get_or aim.goal 0 0) 0 d0
 
   -- a word of another length
-  past-aim-of : (j e : ℕ) → e ≤ 5 → (j ≡ i → ⊥) → get_or (kept_aim levels i aim) (6 * j + e) 0 ≡ get_or levels (6 * j + e) 0
+  past-aim-of : (j e : ℕ) → e ≤ 5 → (j ≡ i → ⊥) →
+      get_or (kept_aim levels i aim) (6 * j + e) 0 ≡ get_or levels (6 * j + e) 0
   past-aim-of j e h d =
       past-aim (6 * j + e) (λ q. d (omega arith)) (λ q. d (omega arith)) (λ q. d (omega arith)) (λ q. d (omega arith))
 

@@ -98,7 +98,7 @@ keep-mem t (x ∷ xs) {w} m = go (t x) refl (λ (m' : Memᴰ w (keep t xs)). kee
 
 -- a word of the list that passes is kept
 pub mem-keep :
-    (t : List ℕ → Bool) {xs : List (List ℕ)} {w : List ℕ} → Memᴰ w xs → t w ≡ true → Memᴰ w (keep t xs)
+    (t : List ℕ → Bool) {w : List ℕ} {xs : List (List ℕ)} → Memᴰ w xs → t w ≡ true → Memᴰ w (keep t xs)
 unfolding keep
 mem-keep t {w = w} (Memᴰ.head {x} {xs} q) e = go (t x) (sym (ap t q) ∙ e)
   where
@@ -157,7 +157,7 @@ any-mem t (x ∷ xs) e = elim (or-either (t x) (any t xs) e) [
   | inr q ↦ let (w, of-xs, passes) = any-mem t xs q in (w, Memᴰ.tail of-xs, passes)
 ]
 
-pub mem-any : (t : List ℕ → Bool) {xs : List (List ℕ)} {w : List ℕ} → Memᴰ w xs → t w ≡ true → any t xs ≡ true
+pub mem-any : (t : List ℕ → Bool) {w : List ℕ} {xs : List (List ℕ)} → Memᴰ w xs → t w ≡ true → any t xs ≡ true
 unfolding any
 mem-any t (Memᴰ.head {x} {xs} q) e = or_left (t x) (any t xs) (sym (ap t q) ∙ e)
 mem-any t (Memᴰ.tail {x} {xs} m) e = or_right (t x) (any t xs) (mem-any t m e)
@@ -203,7 +203,7 @@ joined-mem f (a ∷ l) m = elim (Memᴰ.append_cases (f a) m) [
 ]
 
 pub mem-joined :
-    (f : ℕ → List (List ℕ)) {l : List ℕ} {a : ℕ} {w : List ℕ} →
+    (f : ℕ → List (List ℕ)) {a : ℕ} {l : List ℕ} {w : List ℕ} →
     Memᴰ a l → Memᴰ w (f a) → Memᴰ w (joined f l)
 unfolding joined
 mem-joined f (Memᴰ.head {x} {xs} q) m = Memᴰ.append_left (joined f xs) (rw q at m)

@@ -101,7 +101,7 @@ map-mem a (w ∷ ws) m = elim (mathlib.Core.List.Memᴰ.cases_cons m) [
 ]
 
 pub mem-map :
-    (a : ℕ) {ws : List (List ℕ)} {u : List ℕ} → Memᴰ u ws → Memᴰ (a ∷ u) (map (λ (w : List ℕ). a ∷ w) ws)
+    (a : ℕ) {u : List ℕ} {ws : List (List ℕ)} → Memᴰ u ws → Memᴰ (a ∷ u) (map (λ (w : List ℕ). a ∷ w) ws)
 mem-map a (mathlib.Core.List.Memᴰ.head q) = mathlib.Core.List.Memᴰ.head (ap (λ (w : List ℕ). a ∷ w) q)
 mem-map a (mathlib.Core.List.Memᴰ.tail m) = mathlib.Core.List.Memᴰ.tail (mem-map a m)
 

@@ -143,7 +143,8 @@ digit-first j b bs v low high e =
 
 -- after j blanks
 pub after-blanks :
-    (j : ℕ) (bs : List ℕ) (v : ℕ) → after_blanks false bs ≡ Value v false → blanks j ++ bs ≡ field_text (j + length bs) v
+    (j : ℕ) (bs : List ℕ) (v : ℕ) → after_blanks false bs ≡ Value v false → blanks j ++ bs ≡
+    field_text (j + length bs) v
 unfolding after_blanks
 after-blanks j [] v e = let z : ◌≡◌ {A = ℕ} 0 1 = cc in absurd (omega arith)
 after-blanks j (b ∷ bs) v e = rw add-suc (go (after-blanks (suc j) bs v) (eqb b 32) refl e)

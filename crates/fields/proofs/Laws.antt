@@ -42,7 +42,8 @@ blanks-read zeros (b ∷ bs) v filled e = go (blanks-read zeros bs v filled) (eq
     -- by whether b is a blank
     go :
         (after_blanks zeros bs ≡ Value v filled → Read zeros bs v filled) →
-        (t : Bool) → cond t (after_blanks zeros bs) (cond (is_digit b) (digits zeros (b - 48) bs) Bad) ≡ Value v filled →
+        (t : Bool) → cond t (after_blanks zeros bs) (cond (is_digit b) (digits zeros (b - 48) bs) Bad) ≡
+        Value v filled →
         Read zeros (b ∷ bs) v filled
     go more true e =
         let read = more e in

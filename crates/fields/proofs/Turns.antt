@@ -61,7 +61,8 @@ module _ (s : List ℕ) (i : ℕ) where
 
       field-turn :
           after_blanks zeros (drop i s)
-          ≡ cond (eqb byte_at 32) (after_blanks zeros rest_at) (cond (is_digit byte_at) (digits zeros worth_at rest_at) Bad)
+          ≡ cond (eqb byte_at 32) (after_blanks zeros rest_at)
+          (cond (is_digit byte_at) (digits zeros worth_at rest_at) Bad)
       unfolding after_blanks
       field-turn = rw (drop-cons s i 0 inside, add-one)
 

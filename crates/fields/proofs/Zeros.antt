@@ -37,7 +37,8 @@ zeros-on k w b bs low high =
     rw (tenth, last) (sym (append_snoc (zero_text k w) b bs))
 
 zeros-text :
-    (k w : ℕ) (bs : List ℕ) (v : ℕ) → digits true w bs ≡ Value v true → zero_text k w ++ bs ≡ zero_text (k + length bs) v
+    (k w : ℕ) (bs : List ℕ) (v : ℕ) → digits true w bs ≡ Value v true → zero_text k w ++ bs ≡
+    zero_text (k + length bs) v
 zeros-text k w [] v e = rw (add-zero, ← (digits-end-value true w v true e).0) (append-nil (zero_text k w))
 zeros-text k w (b ∷ bs) v e =
     let digit = digit-read true w b bs v true e in

@@ -78,6 +78,25 @@ behind-head head rest rows out part four same whole copied =
     post_is : post_of 4 (length out - 4) out ≡ []
     post_is = drop_of_length-le (drop 4 out) short
 
+-- the same, for what a copy says of the part that it wrote
+pub behind-copied :
+    (head rest rows out part : List ℕ) → length head ≡ 4 → length rest ≡ length rows → out ≡ head ++ rest →
+    part ≡ rows → take 4 out ++ (part ++ drop (length out - 4) (drop 4 out)) ≡ head ++ rows
+behind-copied head rest rows out part four same whole copied =
+    ap₂ (λ a b. a ++ b) head-is (ap₂ (λ a b. a ++ b) copied none ∙ append-nil rows)
+  where
+    head-is : take 4 out ≡ head
+    head-is = ap (take 4) whole ∙ take_at head rest 4 four
+
+    tail-is : drop 4 out ≡ rest
+    tail-is = ap (drop 4) whole ∙ drop_at head rest 4 four
+
+    size : length out ≡ 4 + length rest
+    size = ap length whole ∙ length-append head rest ∙ ap (λ k. k + length rest) four
+
+    none : drop (length out - 4) (drop 4 out) ≡ []
+    none = let whole-size = size in drop_of_length-le (drop 4 out) (rw tail-is (omega arith))
+
 -- what a reader returns and writes, for what the text is read as
 pub reading-is :
     {read defined : Reading} (out : List ℕ) {code : ℕ} {last : List ℕ} → read ≡ defined →

@@ -58,7 +58,8 @@ in_range-of n xs f = all_below-of (length xs) (λ k. leb 1 (atom_at xs k) && leb
     passes : (i : ℕ) → i < length xs → leb 1 (atom_at xs i) && leb (atom_at xs i) n ≡ true
     passes i h =
         let (low, high) = f i h in
-        and_both (leb 1 (atom_at xs i)) (leb (atom_at xs i) n) (le-leb 1 (atom_at xs i) low) (le-leb (atom_at xs i) n high)
+        and_both (leb 1 (atom_at xs i)) (leb (atom_at xs i) n) (le-leb 1 (atom_at xs i) low)
+        (le-leb (atom_at xs i) n high)
 
 pub in_range-iff : (n : ℕ) (xs : List ℕ) → (in_range n xs ≡ true) ↔ InRange n xs
 in_range-iff n xs = (in_range-at n xs, in_range-of n xs)
@@ -98,7 +99,8 @@ module _ (adj : Adjacency) (joined : ℕ → ℕ → Bool) (xs : List ℕ) where
     where
       passes : (i j : ℕ) → i < j → j < length xs → pair i j ≡ true
       passes i j h k =
-          let different = not-of (eqb (atom_at xs i) (atom_at xs j)) (ne_eqb (atom_at xs i) (atom_at xs j) (d i j h k)) in
+          let different =
+          not-of (eqb (atom_at xs i) (atom_at xs j)) (ne_eqb (atom_at xs i) (atom_at xs j) (d i j h k)) in
           let agreed = beq_same (adj (atom_at xs i) (atom_at xs j)) (joined i j) (b i j h k) in
           and_both (differ i j) (agrees i j) different agreed
 
@@ -152,7 +154,8 @@ module _ (n : ℕ) (adj : Adjacency) (xs : List ℕ) where
   pub ring-of-facts : Ring n adj xs → is_ring n adj xs ≡ true
   unfolding is_ring
   ring-of-facts r =
-      all5 (leb 3 (length xs)) (in_range n xs) induced (all_below (length xs - 1) above) (ltb (atom_at xs 1) (last_atom xs))
+      all5 (leb 3 (length xs)) (in_range n xs) induced (all_below (length xs - 1) above)
+      (ltb (atom_at xs 1) (last_atom xs))
       (le-leb 3 (length xs) r.long)
       (in_range-of n xs r.range)
       (induces-of adj (along_ring (length xs)) xs r.distinct r.bonds)

@@ -53,7 +53,8 @@ module _ {sheet : List ℕ} {made : ℕ} where
       Behind sheet made (standing x calls) (standing y calls)
   unfolding standing
   behind-standing [] b = b
-  behind-standing (call ∷ calls) b = behind-standing calls (behind-call call b)
+  behind-standing {x = x} {y = y} (call ∷ calls) b =
+      behind-standing {x = after_call x call} {y = after_call y call} calls (behind-call call b)
 
   behind-allowed :
       (R : Molecule) {x y : Standing} (call : Call) → Behind sheet made x y → Allowed R y call → Allowed R x call
@@ -64,8 +65,10 @@ module _ {sheet : List ℕ} {made : ℕ} where
       (R : Molecule) {x y : Standing} (calls : List Call) → Behind sheet made x y → History R y calls →
       History R x calls
   behind-history R [] b h = tt
-  behind-history R (call ∷ calls) b (allowed, later) =
-      (behind-allowed R call b allowed, behind-history R calls (behind-call call b) later)
+  behind-history R {x = x} {y = y} (call ∷ calls) b (allowed, later) = (
+    behind-allowed R call b allowed,
+    behind-history R {x = after_call x call} {y = after_call y call} calls (behind-call call b) later,
+  )
 
 -- what stands is behind itself without sheet and trials
 restarted : (x : Standing) → Behind x.sheet x.made x (restored_start x.search)

@@ -34,7 +34,8 @@ use Rattle.host.specs.Count.{CountedSheet, refused_count, wrote_count, count_she
 use Rattle.host.specs.Written.{WrittenOut, saved_number, saved_length, written_out}
 
 module _ (mol : Molecule) (mark : List ℕ) where
-  pub search-fresh : well_formed mol ≡ true → length mark ≡ 0 → accepted_search (fresh_search 0 0 0) ≡ search_for mol mark
+  pub search-fresh : well_formed mol ≡ true → length mark ≡ 0 → accepted_search (fresh_search 0 0 0) ≡
+      search_for mol mark
   unfolding search_for
   search-fresh formed e = rw (eq-eqb (length mark) 0 e, rings-started mol formed)
 
@@ -167,7 +168,8 @@ module _ {bytes : List ℕ} (f : SizeRead bytes) where
   length-small = value-fits 4 bytes 20
 
   -- the last test decides
-  size-by : (fits : Bool) → leb (named_size bytes) (length bytes) ≡ fits → cond fits (named_size bytes) 0 ≡ mark_size bytes
+  size-by : (fits : Bool) → leb (named_size bytes) (length bytes) ≡ fits → cond fits (named_size bytes) 0 ≡
+      mark_size bytes
   unfolding mark_size
   size-by fits e =
       rw (le-leb 91 (length bytes) f.room)

@@ -252,7 +252,8 @@ module _
 
     mark-followed :
         (calls : List HostCall) → HostHistory sheet (keeping mark) calls →
-        HostFromMark sheet R mark q calls (kept_by (keeping mark) calls) (standing (restored_start q) (all_calls_in calls))
+        HostFromMark sheet R mark q calls (kept_by (keeping mark) calls)
+        (standing (restored_start q) (all_calls_in calls))
     mark-followed calls h =
         let l = host-listed mark-agrees calls h in
         let d = from_mark R mark q e (all_calls_in calls) l.stands.is_history in
@@ -300,7 +301,8 @@ pub host-mark-done :
     (sheet : List ℕ) → (read_sheet sheet).answer ≡ Accepted →
     (mark : List ℕ) (q : Search) → restore_mark (read_sheet sheet).molecule mark ≡ accepted_search q →
     (calls : List HostCall) → HostHistory sheet (keeping mark) calls → returned_done calls ≡ true →
-    is_done (read_sheet sheet).molecule.atoms (state_of (standing (restored_start q) (all_calls_in calls)).search) ≡ true
+    is_done (read_sheet sheet).molecule.atoms (state_of (standing (restored_start q) (all_calls_in calls)).search) ≡
+    true
 host-mark-done sheet read = mark-done sheet read (read_sheet sheet).molecule refl
 
 -- The entry takes the fresh mark of every search that rule 16 allows on the sheet's record

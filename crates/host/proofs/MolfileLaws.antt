@@ -53,7 +53,8 @@ module _ (file out : List ℕ) (before : ℕ) where
   -- 0 means that the sheet of the file is written, as many bytes as the length says, and is read as its record
   pub molfile-zero : call.number ≡ 0 → SheetFacts built_in file out call.length
   molfile-zero zero = elim (saved-ways (sheet_answer built_in file out)) [
-    | inl (k, e) ↦ sheet-written built_in file out _ (e ∙ ap Written (sym (ap (λ (x : Saved). saved_length x before) e)))
+    | inl (k, e) ↦
+        sheet-written built_in file out _ (e ∙ ap Written (sym (ap (λ (x : Saved). saved_length x before) e)))
     | inr (r, e) ↦ absurd (not-zero call.number (refused-number r e) zero)
   ]
 

@@ -154,7 +154,8 @@ module _ (L : Listing) {said : Bool} {n : ℕ} {x : Standing} (r : ReachedIn L s
 
 -- the mark of a search has bytes, and where it restores the search it has its listed count
 pub mark-counts :
-    (mol : Molecule) (mark : List ℕ) (q : Search) → restore_mark mol mark ≡ accepted_search q → listed_in mark ≡ q.listed
+    (mol : Molecule) (mark : List ℕ) (q : Search) → restore_mark mol mark ≡ accepted_search q → listed_in mark ≡
+    q.listed
 mark-counts mol mark q e = listed-restored mol mark q (restored-facts mol mark q e)
 
 -- the members that a run of the search q lists, and the mark of the search that it returns

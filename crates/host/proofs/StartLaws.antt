@@ -125,7 +125,8 @@ module _ (sheet : List ℕ) (kind s t : ℕ) (next : List ℕ) where
   }
 
   began :
-      (read_sheet sheet).answer ≡ Accepted → (start_search mol kind s t).answer ≡ Accepted → mark_room ≤ length next → Began
+      (read_sheet sheet).answer ≡ Accepted → (start_search mol kind s t).answer ≡ Accepted → mark_room ≤ length next →
+      Began
   began read made room =
       let written = went_on _ _ _ _ _ read made room in
       record {

@@ -133,15 +133,16 @@ pub record Begun (n s : ℕ) (xs : List ℕ) : Type 0 where
   pub first : atom_at xs 0 ≡ s
 
 -- the last atom of such a list is b
-module _ {n s : ℕ} {xs : List ℕ} (begun : Begun n s xs) (adj : Adjacency) (t : ℕ) {b : ℕ} (last : b ≡ last_atom xs) where
-  pub path-end : (b ≡ t → ⊥) → false ≡ is_path n adj s t xs
-  unfolding is_path
-  path-end differ =
-      rw (le-leb 1 (length xs) begun.long, begun.range, eq-eqb (atom_at xs 0) s begun.first)
-      (rw (← last, ne_eqb b t differ))
+module _ {n s : ℕ} {xs : List ℕ} (begun : Begun n s xs) (adj : Adjacency) (t : ℕ) {b : ℕ} (last : b ≡ last_atom xs)
+  where
+    pub path-end : (b ≡ t → ⊥) → false ≡ is_path n adj s t xs
+    unfolding is_path
+    path-end differ =
+        rw (le-leb 1 (length xs) begun.long, begun.range, eq-eqb (atom_at xs 0) s begun.first)
+        (rw (← last, ne_eqb b t differ))
 
-  pub path-fits : b ≡ t → induces adj (along_ring 0) xs ≡ is_path n adj s t xs
-  unfolding is_path
-  path-fits ends =
-      rw (le-leb 1 (length xs) begun.long, begun.range, eq-eqb (atom_at xs 0) s begun.first)
-      (rw (← last, eq-eqb b t ends) (induces-same adj (along_ring 0) along_path xs never-closes))
+    pub path-fits : b ≡ t → induces adj (along_ring 0) xs ≡ is_path n adj s t xs
+    unfolding is_path
+    path-fits ends =
+        rw (le-leb 1 (length xs) begun.long, begun.range, eq-eqb (atom_at xs 0) s begun.first)
+        (rw (← last, eq-eqb b t ends) (induces-same adj (along_ring 0) along_path xs never-closes))

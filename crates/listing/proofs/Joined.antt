@@ -115,7 +115,8 @@ module _ (m : Molecule) (q : Search) (buffer : List ℕ) (room : 65536 ≤ lengt
   fits = omega (arith, records-fit m q)
 
   then-room : 65536 ≤ length (buffer_then m q buffer)
-  then-room = omega (arith, piece-keeps {room = 4 * length (run_records m q)} (ring_lines (run_records m q)) buffer fits)
+  then-room =
+      omega (arith, piece-keeps {room = 4 * length (run_records m q)} (ring_lines (run_records m q)) buffer fits)
 
 module _ {m : Molecule} {q : Search} (s : Stands m q) (buffer : List ℕ) (room : 65536 ≤ length buffer) where
   text-is : text_of (rings_from m q) buffer ≡ lines_between m q (next_of m q)
@@ -180,11 +181,12 @@ module _ {m : Molecule} {q : Search} (s : Stands m q) (buffer : List ℕ) (room 
 rings-print :
     {m : Molecule} {q : Search} (k : ℕ) → Stands m q → length (members (rings_of m)) - q.listed ≤ k →
     (buffer : List ℕ) → 65536 ≤ length buffer → Printed m q buffer
-rings-print zero s h buffer room =
+rings-print {m} {q} zero s h buffer room =
     step s buffer room (λ more. absurd (omega (arith, listed_most (run-stands s))))
 rings-print {m} {q} (suc k) s h buffer room =
     let enough = then-room m q buffer room in
-    step s buffer room (λ more. rings-print k (run-stands s) (omega arith) (buffer_then m q buffer) enough)
+    step s buffer room
+    (λ more. rings-print {q = next_of m q} k (run-stands s) (omega arith) (buffer_then m q buffer) enough)
 
 -- ---- the last search is the one that the definition names
 
@@ -266,6 +268,22 @@ pub turned-goes-on :
     (l : Listing) (buffer : List ℕ) {turn : Turn} → turn ≡ turned l buffer → Sound l → turn.last ≡ false →
     Sound turn.listing × (left turn.listing < left l)
 turned-goes-on l buffer e sound more = rw e (turn-goes-on l buffer sound (ap (λ (t : Turn). t.last) (sym e) ∙ more))
+
+-- a listing that stands has a text
+pub sound-prints :
+    (l : Listing) (buffer : List ℕ) → 65536 ≤ length buffer → Sound l → (text : List ℕ) × Prints l buffer text
+sound-prints l buffer room sound = by l.part sound
+  where
+    standing : Part → Listing
+    standing p = record { part = p; molecule = l.molecule; search = l.search }
+
+    by : (p : Part) → SoundBy p l.molecule l.search → (text : List ℕ) × Prints (standing p) buffer text
+    by (part.Refused r) s = (_, ends (standing (part.Refused r)) buffer refl)
+    by part.Rings s =
+        let all : ℕ = length (members (rings_of l.molecule)) in
+        let p = rings-print all s (omega arith) buffer room in
+        (_, p.prints)
+    by part.Counts s = (_, ends (standing part.Counts) buffer refl)
 
 -- the listing of what a text was read as, before its first piece
 pub reading-sound :

@@ -41,7 +41,8 @@ module _ (m : Molecule) (good : well_formed m ≡ true) where
   unfolding whole_run
   ends-done h =
       let extensions = length (open_words (rings_of m)) in
-      whole-done (rings_of m) lawful short (subst (λ (n : ℕ). n * suc extensions ≤ limit) (sym (family-atoms m 0 0 0)) h)
+      whole-done (rings_of m) lawful short
+      (subst (λ (n : ℕ). n * suc extensions ≤ limit) (sym (family-atoms m 0 0 0)) h)
 
   -- The text then: the lines of all rings in dictionary order, and the counts that demand 3 gives
   pub done-text :
@@ -60,7 +61,8 @@ module _ (m : Molecule) (good : well_formed m ≡ true) where
         whole-trials (rings_of m) lawful short e,
         take_all (length rings) rings (omega arith),
       )
-      (ap (λ (n : ℕ). lines_of rings ++ count_line (length rings) extensions (n * suc extensions)) (family-atoms m 0 0 0))
+      (ap (λ (n : ℕ). lines_of rings ++ count_line (length rings) extensions (n * suc extensions))
+      (family-atoms m 0 0 0))
 
 -- The turns print one text
 pub prints-one :

@@ -63,7 +63,8 @@ module _ (mol : Molecule) (bytes : List ℕ) (formed : well_formed mol ≡ true)
       ap (λ k. take k (held (map low (mark_beginning bytes)))) (sym (low-length bytes (mark_length bytes))) ∙
       held-take (map low (mark_beginning bytes))
 
-  built-place : place_kept (family mol (built bytes)) (beginning (built bytes)) (built bytes).next ≡ mark_place mol bytes
+  built-place : place_kept (family mol (built bytes)) (beginning (built bytes)) (built bytes).next ≡
+      mark_place mol bytes
   unfolding search_of
   built-place =
       ap (λ p. place_kept (mark_family mol bytes) p (value_at 4 bytes 24)) built-beginning ∙
@@ -90,7 +91,8 @@ pub record ReadFrom (mol : Molecule) (bytes : List ℕ) (q : Search) : Type 0 wh
 
 pub built_of :
     (bytes : List ℕ) {prefix : List ℕ} {k : ℕ} {q : Search} →
-    q ≡ search_of bytes prefix → prefix ≡ held (map low (values_at bytes 90 k)) → k ≡ mark_length bytes → q ≡ built bytes
+    q ≡ search_of bytes prefix → prefix ≡ held (map low (values_at bytes 90 k)) → k ≡ mark_length bytes → q ≡
+    built bytes
 built_of bytes found atoms count = rw (found, atoms, count)
 
 module _ {mol : Molecule} {bytes : List ℕ} {q : Search} (r : ReadFrom mol bytes q) where
@@ -213,7 +215,8 @@ module _ {mol : Molecule} {bytes : List ℕ} {r : BondsRead} (l : LinesRead mol 
 -- ---- the same of an old mark
 
 module _ (mol : Molecule) (bytes : List ℕ) (formed : well_formed mol ≡ true) where
-  pub refuses-old-lines : three_lines_kept 0 bytes ≡ false → refused_search refusal.MarkBytes ≡ restore_old_mark mol bytes
+  pub refuses-old-lines : three_lines_kept 0 bytes ≡ false → refused_search refusal.MarkBytes ≡
+      restore_old_mark mol bytes
   unfolding restore_old_mark restore_by
   refuses-old-lines e = rw (formed, e)
 

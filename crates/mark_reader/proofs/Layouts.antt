@@ -95,10 +95,11 @@ module _ {each : ℕ} {bytes : List ℕ} where
       (λ e. eq-eqb (get_or bytes (90 + 4 * k) 0) 10 (rw is (three-lines-facts each bytes e).atoms_end))
 
 -- the number of bytes, by the length k of p and the number m of bonds that they name
-module _ (each : ℕ) (bytes : List ℕ) {k m : ℕ} (length-is : k ≡ mark_length bytes) (bonds-is : m ≡ mark_bonds bytes) where
-  pub other-size : (length bytes ≡ 91 + 4 * k + each * m → ⊥) → false ≡ three_lines_kept each bytes
-  other-size differs = broken (λ lines. differs (rw (length-is, bonds-is) lines.size))
+module _ (each : ℕ) (bytes : List ℕ) {k m : ℕ} (length-is : k ≡ mark_length bytes) (bonds-is : m ≡ mark_bonds bytes)
+  where
+    pub other-size : (length bytes ≡ 91 + 4 * k + each * m → ⊥) → false ≡ three_lines_kept each bytes
+    other-size differs = broken (λ lines. differs (rw (length-is, bonds-is) lines.size))
 
-  pub same_size :
-      length bytes ≡ 91 + 4 * k + each * m → length bytes ≡ 91 + 4 * mark_length bytes + each * mark_bonds bytes
-  same_size e = rw (length-is, bonds-is) at e
+    pub same_size :
+        length bytes ≡ 91 + 4 * k + each * m → length bytes ≡ 91 + 4 * mark_length bytes + each * mark_bonds bytes
+    same_size e = rw (length-is, bonds-is) at e

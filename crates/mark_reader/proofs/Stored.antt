@@ -22,7 +22,8 @@ use Rattle.mark_reader.specs.Parts.{low}
 -- ---- filling the array
 
 values-snoc :
-    (bytes : List ℕ) (at k : ℕ) → values_at bytes at (suc k) ≡ values_at bytes at k ++ value_at 4 bytes (at + 4 * k) ∷ []
+    (bytes : List ℕ) (at k : ℕ) → values_at bytes at (suc k) ≡ values_at bytes at k ++
+    value_at 4 bytes (at + 4 * k) ∷ []
 unfolding values_at
 values-snoc bytes at zero = rw add-zero
 values-snoc bytes at (suc k) =
@@ -89,7 +90,8 @@ module _ (F : Family) (L : Lawful F) (few : F.atoms ≤ 128) (p : List ℕ) wher
       omega (arith, low-at i))
 
   stored_same : is_open F (map low p) ≡ is_open F p
-  stored_same = same_test (is_open F (map low p)) (is_open F p) (λ e. rw (stored-open e) at e) (λ e. rw (open-stored e) e)
+  stored_same =
+      same_test (is_open F (map low p)) (is_open F p) (λ e. rw (stored-open e) at e) (λ e. rw (open-stored e) e)
 
   same-empty : (w : List ℕ) → is_empty (map low w) ≡ is_empty w
   unfolding is_empty

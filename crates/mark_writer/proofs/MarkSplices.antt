@@ -53,7 +53,8 @@ module _ {q : Search} {l : List ℕ} (fits : LinesFit q l) where
       let size = fields-length 4 (beginning q) ∙ ap (λ k. 4 * k) fits-length in
       let head : Front l _ _ 28 = record { size = fields-length 4 (head_of mol q); put = e1 } in
       let first = front-more head line_feed 1 refl (omega arith) e2 in
-      let counts = front-more first (fields_text 20 (counts_of q)) 60 (fields-length 20 (counts_of q)) (omega arith) e3 in
+      let counts =
+      front-more first (fields_text 20 (counts_of q)) 60 (fields-length 20 (counts_of q)) (omega arith) e3 in
       let second = front-more counts line_feed 1 refl (omega arith) e4 in
       let atoms = front-more second (fields_text 4 (beginning q)) (4 * q.len) size (omega arith) e5 in
       (front-more atoms line_feed 1 refl (omega arith) e6).put

@@ -55,7 +55,8 @@ module _ (rows : List ℕ) where
     row-cells : (i : ℕ) → sum 16 (λ at. ones_at (i * 16 + at)) ≡ sum 128 (set i)
     row-cells i =
         let bits = sum_same 16 (λ at. ones_at (i * 16 + at)) _ (λ at h. byte-bits (i * 16 + at)) in
-        let cells = sum-grid 16 8 (λ at. bit_of (i * 16 + at)) (λ at k. set i (at * 8 + k)) (λ at k h. row-bit i at k) in
+        let cells =
+        sum-grid 16 8 (λ at. bit_of (i * 16 + at)) (λ at k. set i (at * 8 + k)) (λ at k h. row-bit i at k) in
         bits ∙ cells ∙ sym (sum_rows 16 8 (set i))
       where
         byte-bits : (at : ℕ) → ones_at at ≡ sum 8 (bit_of at)

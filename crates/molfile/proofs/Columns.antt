@@ -88,7 +88,8 @@ module _ {s : List ℕ} {from end next : ℕ} (found : LineFound s from end next
 
     pub same-pair : numbers_in text ≡ numbers_in (drop from s)
     same-pair =
-        ap₂ {C = Bond} (λ a b. (value_of (after_blanks true a), value_of (after_blanks true b))) first-number second-number
+        ap₂ {C = Bond} (λ a b. (value_of (after_blanks true a), value_of (after_blanks true b))) first-number
+        second-number
 
   pub same_word :
       (word : List ℕ) (at : ℕ) → at + length word ≤ end - from →

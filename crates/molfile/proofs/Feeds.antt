@@ -74,7 +74,8 @@ module _ {s : List ℕ} {from feed : ℕ} (found : FirstFeed s from feed) where
     size = let room = length-drop from s in length-take-le (feed - from) (drop from s) (omega arith)
 
     -- its last byte
-    last_byte_lem : from < feed → get_or (between s from feed) (length (between s from feed) - 1) 0 ≡ get_or s (feed - 1) 0
+    last_byte_lem : from < feed → get_or (between s from feed) (length (between s from feed) - 1) 0 ≡
+        get_or s (feed - 1) 0
     last_byte_lem more =
         let at : from + (feed - from - 1) ≡ feed - 1 = omega arith in
         rw size (

@@ -68,7 +68,8 @@ module _ (n m : ℕ) (limit : ℕ → ℕ) (bond : ℕ → Bond) where
     bonds-many many = rw (le-leb n 128 few, lt-leb m 1024 many)
 
     module _ (light : m ≤ 1024) where
-      pub symbol-unknown : symbols_kept limit n ≡ false → refused_reading refusal.UnknownSymbol ≡ read_atoms n m limit bond
+      pub symbol-unknown : symbols_kept limit n ≡ false → refused_reading refusal.UnknownSymbol ≡
+          read_atoms n m limit bond
       unfolding read_atoms
       symbol-unknown e = rw (le-leb n 128 few, le-leb m 1024 light, e)
 

@@ -79,7 +79,8 @@ module _ {s : List ℕ} {from n : ℕ} {start limits : List ℕ} {i at : ℕ} (n
   atoms-fit = let room = now.room in let size = now.size in omega arith
 
   atoms-broken :
-      false ≡ all_below n (λ i. atom_line_kept (file_line (lines_from s from) i)) → ReadsAtomLines s from n no_lines limits
+      false ≡ all_below n (λ i. atom_line_kept (file_line (lines_from s from) i)) →
+      ReadsAtomLines s from n no_lines limits
   atoms-broken bad =
       record {
         ok = bad;
@@ -178,7 +179,8 @@ module _ {s : List ℕ} {from m : ℕ} {start values : List ℕ} {k at : ℕ} (n
   bonds-fit = let room = now.room in let size = now.size in omega arith
 
   bonds-broken :
-      false ≡ all_below m (λ k. bond_line_kept (file_line (lines_from s from) k)) → ReadsBondLines s from m no_lines values
+      false ≡ all_below m (λ k. bond_line_kept (file_line (lines_from s from) k)) →
+      ReadsBondLines s from m no_lines values
   bonds-broken bad =
       record {
         ok = bad;

@@ -170,7 +170,8 @@ fit-map f d (x ∷ xs) fits =
     and_both _ _ (fits 0 (omega arith)) (fit-map f d xs (λ i h. fits (suc i) (omega arith)))
 
 pair_fits :
-    (a b : ℕ) (rest : List ℕ) → lacks 10 rest ≡ true → lacks 13 rest ≡ true → fits_line (pair_text a b rest, false) ≡ true
+    (a b : ℕ) (rest : List ℕ) → lacks 10 rest ≡ true → lacks 13 rest ≡ true → fits_line (pair_text a b rest, false) ≡
+    true
 pair_fits a b rest no_feed no_return =
     unreturned-fits (pair_text a b rest) (pair-lacks (omega arith) a b rest no_feed)
     (pair-lacks (omega arith) a b rest no_return)
@@ -245,7 +246,8 @@ module _ (symbols : List (List ℕ)) (bonds : List Bond) where
         counts-kept = rw counts-at (counts-line-kept few light);
         counts = rw counts-at (pair_is few light (blank_columns 28 ++ version));
         atom_kept = λ i h. rw (atom-at i h, (symbol i h).size);
-        symbol = λ i h. ap symbol_in (atom-at i h) ∙ take_all 3 (get_or symbols i []) (omega (arith, (symbol i h).size));
+        symbol = λ i h. ap symbol_in (atom-at i h) ∙
+            take_all 3 (get_or symbols i []) (omega (arith, (symbol i h).size));
         bond_kept = λ k h. rw (bond-at k h) (bond-line-kept (bond_at bonds k) (small k h));
         bond = λ k h. rw (bond-at k h) (pair_is (small k h).left (small k h).right []);
         ended = rw past-at;

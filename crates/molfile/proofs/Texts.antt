@@ -1,5 +1,6 @@
 -- The lines of a text that was written line by line are those lines, and then the lines of what follows.
--- Line by line: the bytes before the first line feed are a text and its carriage return, which `without_return` removes.
+-- Line by line: the bytes before the first line feed are a text and its carriage return, which `without_return`
+-- removes.
 use Prim.Native.Nat.{ℕ, ◌-◌}
 use native.Mathlib.Omega.{arith}
 use mathlib.Core.Path.{◌≡◌, refl, ap}

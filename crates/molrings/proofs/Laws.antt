@@ -1,6 +1,6 @@
 -- The theorem of `molrings`: for every input, the texts of the turns, joined, are the text of the input; and it is what
 -- is printed for the sheet of the molfile. By the laws of a listing, since an accepted record keeps rule 9.
-use Prim.Native.Nat.{ℕ, ◌≤◌}
+use Prim.Native.Nat.{ℕ, ◌≤◌, ◌<◌}
 use native.Mathlib.Omega.{arith}
 use mathlib.Core.Path.{◌≡◌}
 use mathlib.Core.List.{List}
@@ -13,10 +13,17 @@ use Rattle.sheet.proofs.EveryRecord.{record-sheet-size, record-sheet-reads}
 use Rattle.molfile.specs.Elements.{built_in}
 use Rattle.molfile.specs.Molfile.{read_molfile}
 use Rattle.molfile.proofs.Accepted.{accepted-well-formed}
+use Rattle.listing.specs.declared.Listing.{Listing}
 use Rattle.listing.specs.Sound.{Sound}
 use Rattle.listing.specs.Text.{reading_text}
 use Rattle.listing.specs.Turns.{Prints}
+use Rattle.listing.specs.Printing.{piece, PrintsOn, PrintsPart, ListsPart}
 use Rattle.listing.proofs.Joined.{reading-sound, reading-prints}
+use Rattle.listing.proofs.Printing.{piece-room, Read}
+use Rattle.listing.proofs.Printing as printing
+use Rattle.std.specs.Prelude.{Option, Result, IfSome, OnOk}
+use Rattle.std.proofs.Common.{ap, subst, take, take-take, take_all, le_refl}
+use Rattle.std.specs.Io.KnownBytes.{Appends, IsAtEnd}
 use Rattle.molrings.specs.Text.{first_bytes, molrings_text, molrings_listing}
 
 pub opened-sound : (bytes : List ℕ) → Sound (molrings_listing bytes)
@@ -44,3 +51,32 @@ prints-its-sheet input e =
     let size = record-sheet-size read.molecule formed in
     let few = (rule9 read.molecule formed).bonds_high in
     (rw (sheet, e), omega arith)
+
+-- ---- what `list` prints for the bytes that it has read
+
+-- bytes that have room are their own first ones
+prints-bytes :
+    (bytes : List ℕ) → length bytes ≤ 262144 → Prints (molrings_listing bytes) piece (molrings_text bytes)
+prints-bytes bytes short =
+    subst (λ (own : List ℕ). Prints (molrings_listing own) piece (molrings_text bytes)) (take_all 262144 bytes short)
+    (turns-joined piece piece-room bytes)
+
+first-decide : (input : List ℕ) → molrings_text (take 262144 input) ≡ molrings_text input
+first-decide input =
+    ap (λ (bytes : List ℕ). reading_text (read_molfile built_in bytes)) (take-take 262144 262144 input (le_refl 262144))
+
+module _
+    (left rest old new : Option (List ℕ)) (n : ℕ) (buffer : List ℕ) {l : Listing}
+    (read : Read molrings_listing 262144 left rest n buffer l)
+  where
+    pub lists-part : PrintsPart l old new → ListsPart molrings_text left rest old new
+    lists-part =
+        printing.lists-part molrings_listing molrings_text 262144 prints-bytes first-decide
+        left rest old new n buffer read
+
+    pub lists-all :
+        {T E : Type 0} (r : Result T E) → PrintsOn l old new → OnOk r (n < length buffer → IsAtEnd rest) →
+        OnOk r (IfSome left (λ input. Appends old new (molrings_text input)))
+    lists-all =
+        printing.lists-all molrings_listing molrings_text 262144 prints-bytes first-decide
+        left rest old new n buffer read

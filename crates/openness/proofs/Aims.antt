@@ -156,7 +156,8 @@ module _ {n : ℕ} {table : List ℕ} {kind s t : ℕ} {prefix : List ℕ} {len 
       }
 
   -- a first beginning of a ring: two atoms
-  module _ (first : len ≡ first_length kind) (ring : lists_paths kind ≡ false) {x y : ℕ} (at_first : x ≡ atom_at prefix 0)
+  module _ (first : len ≡ first_length kind) (ring : lists_paths kind ≡ false) {x y : ℕ}
+      (at_first : x ≡ atom_at prefix 0)
       (at_second : y ≡ atom_at prefix 1) where
     two : len ≡ 2
     two = first ∙ first-of-rings kind ring

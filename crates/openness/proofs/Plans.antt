@@ -55,7 +55,8 @@ ring-words {kind = kind} words ring =
 
 module _ (n : ℕ) (table : List ℕ) (kind s t : ℕ) where
   -- of every kind that lists no paths, rings of at most so many atoms: where it has no bound, no ring exceeds 128
-  pub family-rings : lists_paths kind ≡ false → n ≤ 128 → family_by n table kind s t ≡ rings_by n table (most_atoms kind s)
+  pub family-rings : lists_paths kind ≡ false → n ≤ 128 → family_by n table kind s t ≡
+      rings_by n table (most_atoms kind s)
   unfolding family_by family_in
   family-rings ring few = go (ℕ_discrete kind 0)
     where

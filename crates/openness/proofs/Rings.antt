@@ -65,7 +65,8 @@ module _ {n : ℕ} (table : List ℕ) (s : ℕ) {x v : ℕ} where
 
 module _ {n : ℕ} {table : List ℕ} {most s : ℕ} (b : OneAtom n table most s) where
   -- it opens exactly when it reaches one
-  pub reaching-opens : {v last : ℕ} → Reaching n table most s v last → is_open (rings_by n table most) (s ∷ v ∷ []) ≡ true
+  pub reaching-opens : {v last : ℕ} → Reaching n table most s v last → is_open (rings_by n table most) (s ∷ v ∷ []) ≡
+      true
   reaching-opens {v} {last} k =
       let end = k.closing in
       (ring-opens-one n (linked_by table) b.words.irreflexive most s v b.low).1

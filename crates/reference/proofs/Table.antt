@@ -32,7 +32,8 @@ unfolding
     digits after_blanks read_field column columns field_text cell bonded with_ends
     atoms_kept none_to_itself same_pair none_twice with_bit with_cell with_bond rows_of
     length_kept line_kept lines_kept line_of read_bonds read_sheet
-    family_in family_of beginning state_of held search_at fresh_search ends_kept kind_kept fields_text three_lines bond_lines
+    family_in family_of beginning state_of held search_at fresh_search ends_kept kind_kept fields_text three_lines
+    bond_lines
     bond_here bonds_to mark_in
     bytes_of text no_atoms chain five_ring all_bonded paper_sheet two_to_three table
 computed =

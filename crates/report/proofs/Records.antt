@@ -32,7 +32,8 @@ all_lines (suc f) (suc g) (k ∷ rest) p q =
     rw (all_lines f g (drop k rest) (omega arith) (omega arith))
 
 lines-record :
-    (k : ℕ) (rest : List ℕ) → k ≤ length rest → ring_lines (k ∷ rest) ≡ ring_line (take k rest) ++ ring_lines (drop k rest)
+    (k : ℕ) (rest : List ℕ) → k ≤ length rest → ring_lines (k ∷ rest) ≡ ring_line (take k rest) ++
+    ring_lines (drop k rest)
 unfolding ring_lines lines_of_first
 lines-record k rest h =
     let enough : length (drop k rest) ≤ length rest = omega (arith, length-drop k rest) in

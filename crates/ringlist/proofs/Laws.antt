@@ -18,10 +18,16 @@ use Rattle.bonds.specs.declared.Reading.{Reading}
 use Rattle.bonds.specs.Reading.{refused_reading}
 use Rattle.sheet.specs.Read.{read_sheet}
 use Rattle.sheet.proofs.Accepted.{accepted-well-formed}
+use Rattle.listing.specs.declared.Listing.{Listing}
 use Rattle.listing.specs.Sound.{Sound}
 use Rattle.listing.specs.Text.{reading_text}
 use Rattle.listing.specs.Turns.{Prints}
+use Rattle.listing.specs.Printing.{piece, PrintsOn, PrintsPart, ListsPart}
 use Rattle.listing.proofs.Joined.{reading-sound, reading-prints}
+use Rattle.listing.proofs.Printing.{piece-room, Read}
+use Rattle.listing.proofs.Printing as printing
+use Rattle.std.specs.Prelude.{Option, Result, IfSome, OnOk}
+use Rattle.std.specs.Io.KnownBytes.{Appends, IsAtEnd}
 use Rattle.ringlist.specs.Text.{input_read, printed_text, opened}
 
 -- what an input is read as, by its length
@@ -70,3 +76,21 @@ first_read input = by (decided (ltb 65536 (length input)))
 
 pub first-bytes : (input : List ℕ) → printed_text (take 65536 input) ≡ printed_text input
 first-bytes input = ap (λ (x : Reading). reading_text x) (first_read input)
+
+-- ---- what `list` prints for the bytes that it has read
+
+module _
+    (left rest old new : Option (List ℕ)) (n : ℕ) (buffer : List ℕ) {l : Listing}
+    (read : Read opened 65536 left rest n buffer l)
+  where
+    pub lists-part : PrintsPart l old new → ListsPart printed_text left rest old new
+    lists-part =
+        printing.lists-part opened printed_text 65536 (λ input short. turns-joined piece piece-room input) first-bytes
+        left rest old new n buffer read
+
+    pub lists-all :
+        {T E : Type 0} (r : Result T E) → PrintsOn l old new → OnOk r (n < length buffer → IsAtEnd rest) →
+        OnOk r (IfSome left (λ input. Appends old new (printed_text input)))
+    lists-all =
+        printing.lists-all opened printed_text 65536 (λ input short. turns-joined piece piece-room input) first-bytes
+        left rest old new n buffer read

@@ -30,7 +30,8 @@ use Rattle.openness.specs.Plan.{family_by, Tells, Ahead, FirstTells}
 use Rattle.openness.proofs.Plans.{family-by-lawful, family-by-atoms}
 use Rattle.trial.specs.declared.Spot.{Spot}
 use Rattle.trial.specs.Parts.{stack_of, state_at, spot_of, Held, HeldWithRoom, Counting, Acted, Stale}
-use Rattle.trial.proofs.Arrays.{stack-length, stack-back, stack-more, place_of, act-longer, act-same, search-held, tried-word}
+use Rattle.trial.proofs.Arrays.{stack-length, stack-back, stack-more, place_of}
+use Rattle.trial.proofs.Arrays.{act-longer, act-same, search-held, tried-word}
 use Rattle.trial.proofs.Bytes.{part_length, part-back, record-length}
 use Rattle.openness.specs.declared.FirstPlan.{FirstPlan}
 use Rattle.runner.specs.Parts.{stopped_at, Ready, Yields}

@@ -161,7 +161,8 @@ module _ (mol : Molecule) (bytes : List ℕ) (q : Search) (f : Restored mol byte
 
 -- Any accepted mark, saved again, has the same bytes
 pub restored-saves :
-    (mol : Molecule) (bytes : List ℕ) (q : Search) → restore_mark mol bytes ≡ accepted_search q → mark_text mol q ≡ bytes
+    (mol : Molecule) (bytes : List ℕ) (q : Search) → restore_mark mol bytes ≡ accepted_search q → mark_text mol q ≡
+    bytes
 restored-saves mol bytes q e = saves-again mol bytes q (restored-facts mol bytes q e)
 
 -- An accepted mark has, past its three lines, the bond lines of the molecule

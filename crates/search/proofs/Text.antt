@@ -76,7 +76,8 @@ module _ (c : ℕ) (wide : 1 < c) (bytes : List ℕ) where
       rw (mul-zero, add-zero, e, append_assoc, take_at (field_text c v) (fields_text c vs ++ post) c (field-length c v))
       (blanks-read-back c v small most wide)
   fields_read (v ∷ vs) post at (f ◁ fits) e (suc i) h =
-      let past = past-field v (fields_text c vs ++ post) at (e ∙ append_assoc (field_text c v) (fields_text c vs) post) in
+      let past =
+      past-field v (fields_text c vs ++ post) at (e ∙ append_assoc (field_text c v) (fields_text c vs) post) in
       rw (place-on c at i) (fields_read vs post (at + c) fits past i (omega arith))
 
   -- so they are kept, and their values are those values

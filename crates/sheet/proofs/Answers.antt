@@ -28,7 +28,8 @@ module _ (s : List ℕ) where
       unfolding length_kept
       length-told = rw (le-leb 9 (length s) long, eq-eqb (length s % 9) 0 whole)
 
-      pub sheet-bytes : all_below (length s / 9) (line_kept s) ≡ false → read_sheet s ≡ refused_reading refusal.SheetBytes
+      pub sheet-bytes : all_below (length s / 9) (line_kept s) ≡ false → read_sheet s ≡
+          refused_reading refusal.SheetBytes
       unfolding read_sheet lines_kept
       sheet-bytes broken = rw (length-told, broken)
 

@@ -188,7 +188,8 @@ unfolding sheet_text
 every-molecule-has-a-sheet zeros n bonds few light atoms apart twice =
     sheet-read lined (rw (← atoms-here) at few) (rw (← bonds-here) at light) size-here
     ∙ ap₂ (λ x y. read_bonds x (bond_of text) y) atoms-here bonds-here
-    ∙ bonds-same n (bond_of text) (bond_at bonds) (length bonds) (λ k h. text-line zeros all small (suc k) (omega arith))
+    ∙ bonds-same n (bond_of text) (bond_at bonds) (length bonds)
+    (λ k h. text-line zeros all small (suc k) (omega arith))
     ∙ bonds-read n (bond_at bonds) (length bonds) atoms apart twice
   where
     all : List Bond

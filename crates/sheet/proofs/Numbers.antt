@@ -18,7 +18,8 @@ use Rattle.sheet.specs.Read.{length_kept, lines_kept, atoms_of, bonds_of, bond_o
 abbrev SheetRule : Reading → Type 0
 SheetRule x = Within 1 8 x.answer
 
-pub sheet-numbers : (s : List ℕ) (r : Refusal) → (read_sheet s).answer ≡ Refused r → (1 ≤ number_of r) × (number_of r ≤ 8)
+pub sheet-numbers : (s : List ℕ) (r : Refusal) → (read_sheet s).answer ≡ Refused r → (1 ≤ number_of r) ×
+    (number_of r ≤ 8)
 unfolding read_sheet read_bonds
 sheet-numbers s r e =
     within-refused 1 8 _ r e

@@ -33,7 +33,8 @@ numbers-same :
 numbers-same size line line' first same =
     rw first
     (ap (λ (x : Reading).
-    cond (few_atoms n) (cond (few_bonds m) x (refused_reading refusal.TooManyBonds)) (refused_reading refusal.TooManyAtoms))
+    cond (few_atoms n) (cond (few_bonds m) x (refused_reading refusal.TooManyBonds))
+    (refused_reading refusal.TooManyAtoms))
     (go (size_kept size m) refl))
   where
     n : ℕ

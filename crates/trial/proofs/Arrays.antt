@@ -34,7 +34,8 @@ stack-more prefix len h =
     ap reverse (take-suc prefix len 0 h) ∙ reverse-append (take len prefix) (get_or prefix len 0 ∷ [])
 
 pub stack_push :
-    (prefix : List ℕ) (len v : ℕ) → len < length prefix → stack_of (set prefix len v) (suc len) ≡ v ∷ stack_of prefix len
+    (prefix : List ℕ) (len v : ℕ) → len < length prefix →
+    stack_of (set prefix len v) (suc len) ≡ v ∷ stack_of prefix len
 stack_push prefix len v h = ap reverse (take-suc-set prefix len v h) ∙ reverse-append (take len prefix) (v ∷ [])
 
 pub stack_set : (prefix : List ℕ) (len v : ℕ) → stack_of (set prefix len v) len ≡ stack_of prefix len

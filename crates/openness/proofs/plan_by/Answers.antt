@@ -1,0 +1,9 @@
+-- `openness::plan_by` meets its contract: the members, and the atoms that open, of every beginning that the sets steer.
+-- By `plan-told`, from what each call ensures.
+use Rattle.openness.proofs.Steps.{plan-told}
+use Rattle.openness.proofs.plan_by.Goals as goal
+
+pub returns : goal.returns
+returns c =
+    let (both_ways, handed, low, high) = c.requires in
+    plan-told handed c.beside_last-near.ensures c.opening-opens.ensures
