@@ -2,8 +2,10 @@
 """Holds the must-fail edits to the code and to docs/TRACE.md, before the prover tries them.
 
     edits.py [ROOT]
+    edits.py --make ROOT CRATE NAME    makes the edit CRATE/NAME in the tree (tests/try_edit.sh)
 
-- Each `old:` text of an edit stands once in the file that the edit names, and no two edits of a crate are the same.
+- Each `old:` text of an edit stands once in the file that the edit names, as the texts above it in the edit made that
+  file, and no two edits of a crate are the same.
 - docs/TRACE.md names every edit, and no other; its last table has every edit of a definition (a file of specs/). An edit is
   named as CRATE/NAME; `CRATE/NAME, NAME` names two of one crate.
 - Each row of a table of docs/TRACE.md has as many cells as the row above it.
@@ -45,15 +47,24 @@ def text_faults(root, there):
     """Edits that do not fit the file that they name, or are the same as another."""
     seen = {}
     for (crate, name), changes in there.items():
-        where = "crates/%s/must-fail/%s.edit: " % (crate, name)
+        where, texts = "crates/%s/must-fail/%s.edit: " % (crate, name), {}
         if not changes:
             yield where + "it changes nothing"
         for file, old, new in changes:
-            count = read(root, "crates", crate, file).count(old)
-            if count != 1 or old == new:
-                yield where + "its old text stands %d times in %s" % (count, file)
+            text = texts.get(file) or read(root, "crates", crate, file)
+            if text.count(old) != 1 or old == new:
+                yield where + "its old text stands %d times in %s" % (text.count(old), file)
+            texts[file] = text.replace(old, new)
         if seen.setdefault((crate, tuple(changes)), name) != name:
             yield where + "it is the same as %s" % seen[crate, tuple(changes)]
+
+
+def make(root, crate, name):
+    """Makes an edit in the tree."""
+    for file, old, new in edits(root)[crate, name]:
+        text = read(root, "crates", crate, file)
+        with open(os.path.join(root, "crates", crate, file), "w", encoding="utf-8") as out:
+            out.write(text.replace(old, new))
 
 
 def named(text, crates):
@@ -90,6 +101,8 @@ def table_faults(root):
 
 
 def main():
+    if sys.argv[1:2] == ["--make"]:
+        return make(*sys.argv[2:])
     root = sys.argv[1] if len(sys.argv) > 1 else "."
     there = edits(root)
     found = [*text_faults(root, there), *trace_faults(root, there), *table_faults(root)]

@@ -4,8 +4,9 @@
     layout.py [ROOT]
 
 crates.txt lists the crates in layers, from below. A layer is one comment line
-`# LAYER: description` and the lines of its crates directly below it; a blank
-line ends it. The README's map of the crates has the same layers and crates.
+`# LAYER: description` and the lines of its crates directly below it (`NAME: DEP ..`,
+or of a static library `NAME staticlib: DEP ..`); a blank line ends it. The README's
+map of the crates has the same layers and crates.
 
 Asked of the tree:
 - each folder of crates/ stands in crates.txt, once, and under a layer;
@@ -22,10 +23,10 @@ import os
 import re
 import sys
 
-KIT = {"bytes", "io", "libc", "os", "check"}
+KIT = {"bytes", "io", "check"}
 OPEN_LAYERS = ("Entries", "Tests")
 LAYER = re.compile(r"# (\w+): ")
-CRATE = re.compile(r"\s*(\w+)\s*:(.*)")
+CRATE = re.compile(r"\s*(\w+)(?: +staticlib)?\s*:(.*)")
 PUBLIC = re.compile(r'\bpub (?:[\w"]+ )*fn (\w+)')
 
 
@@ -85,11 +86,12 @@ def past_braces(text, at):
 
 
 def clauses(text, at):
-    """The words of the clauses, as `requires`, from a signature's start up to its body."""
+    """The words of the clauses, as `requires`, from a signature's start up to its body. A clause may have a name."""
     found = []
     while True:
         brace = text.find("{", at)
-        word = re.search(r"(?:\n|^) *(\w+) *$", text[at:brace]) or re.search(r"\b(requires|ensures)\s*$", text[at:brace])
+        word = (re.search(r"(?:\n|^) *(\w+)\*?(?: +\w+)? *$", text[at:brace])
+                or re.search(r"\b(requires|ensures)\*?(?:\s+\w+)?\s*$", text[at:brace]))
         if brace < 0 or not word:
             return found
         found.append(word.group(1))

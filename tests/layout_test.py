@@ -20,10 +20,10 @@ atomset: graph fields
 
 # Entries: functions that ask nothing
 sheet: fields atomset # its reader
-host: io libc sheet
+host staticlib: io sheet
 
 # Tests: entries for the tests
-flat: sheet
+flat staticlib: sheet
 """,
     "README.md": """\
 # A tree
@@ -67,22 +67,22 @@ pub struct Sheet {
 // It asks something: no entry, so it may.
 fn inner(i: u8) -> u8
     requires { i < 8 }
-    ensures { r = {i} }
+    ensures { result ≡ {i} }
 {
     i
 }
 
 pub fn read(s: &[u8]) -> u8
     // requires { a comment }
-    ensures { r = {s} }
-    ensures { true }
+    ensures value { result ≡ {s} }
+    ensures more { true }
 {
     if s.len() == 0 { requires } else { inner(0) }
 }
 
 impl Sheet {
     pub fn bonds(self) -> u8
-        ensures { r = self }
+        ensures { result ≡ self }
     {
         self.bonds
     }
@@ -90,12 +90,12 @@ impl Sheet {
 """,
     "crates/host/src/main.rt": "fn main() {\n}\n",
     "crates/flat/src/lib.rt": """\
-#[no_mangle]
+#[unsafe(no_mangle)]
 pub extern "C" fn flat(
     s: &[u8],
     out: &mut [u8],
 ) -> u8
-    ensures { r = s }
+    ensures { result ≡ s }
 {
     0
 }
@@ -111,24 +111,26 @@ EDITS = [
     ("crates.txt", "\natomset", "\n\natomset", "crates.txt:9: atomset stands under no layer"),
     ("crates.txt", "graph: bytes", "graph: bytes sheet",
      "crates.txt:5: graph depends on sheet, which does not stand above it"),
-    ("crates.txt", "host: io libc", "host: io libz",
-     "crates.txt:12: host depends on libz, which does not stand above it"),
+    ("crates.txt", "host staticlib: io", "host staticlib: iz",
+     "crates.txt:12: host depends on iz, which does not stand above it"),
     ("crates.txt", "# Entries:", "# Leaves:", "crates.txt:1: there is no layer Entries"),
     ("crates.txt", "# Tests:", "# Trials:", "crates.txt:1: there is no layer Tests"),
-    ("crates/sheet/src/lib.rt", "    // requires { a comment }", "    requires { s = {0} }",
+    ("crates/sheet/src/lib.rt", "    // requires { a comment }", "    requires { s.now ≡ {0} }",
      "crates/sheet/src/lib.rt:14: read has a `requires` and is in layer Entries"),
-    ("crates/sheet/src/lib.rt", "    ensures { true }", "    requires { s = {0} }",
+    ("crates/sheet/src/lib.rt", "    ensures more { true }", "    requires more { s.now ≡ {0} }",
      "crates/sheet/src/lib.rt:14: read has a `requires` and is in layer Entries"),
-    ("crates/sheet/src/lib.rt", "        ensures { r = self }",
-     "        ensures { r = self }\n        requires { true }",
+    ("crates/sheet/src/lib.rt", "        ensures { result ≡ self }",
+     "        ensures { result ≡ self }\n        requires self_kept { true }",
      "crates/sheet/src/lib.rt:23: bonds has a `requires` and is in layer Entries"),
-    ("crates/sheet/src/lib.rt", "        ensures { r = self }\n", "",
+    ("crates/sheet/src/lib.rt", "        ensures { result ≡ self }\n", "",
      "crates/sheet/src/lib.rt:23: bonds has no `ensures` and is in layer Entries"),
     ("crates/flat/src/lib.rt", ") -> u8", ") -> u8 requires { true }",
      "crates/flat/src/lib.rt:2: flat has a `requires` and is in layer Tests"),
+    ("crates/sheet/src/lib.rt", "    // requires { a comment }", "    requires* { lies_at s }",
+     "crates/sheet/src/lib.rt:14: read has a `requires` and is in layer Entries"),
     ("crates/sheet/src/lib.rt", "    // requires { a comment }", "    measures { s }",
      "crates/sheet/src/lib.rt:14: read has a clause `measures` that this check does not know"),
-    ("crates/flat/src/lib.rt", "    ensures { r = s }\n{", "{",
+    ("crates/flat/src/lib.rt", "    ensures { result ≡ s }\n{", "{",
      "crates/flat/src/lib.rt:2: flat has no `ensures` and is in layer Tests"),
     ("crates/host/src/main.rt", "fn main() {", "pub fn main() { // ensures { true }",
      "crates/host/src/main.rt:1: main has no `ensures` and is in layer Entries"),

@@ -1,14 +1,15 @@
 #!/usr/bin/env python3
 """molrings on molfiles that another program wrote: those of Open Babel (obabel).
 
-    openbabel_test.py PROGRAMS FOLDER
+    openbabel_test.py CRATES FOLDER
 
-PROGRAMS is the folder of molrings and ringlist, FOLDER takes the molfiles. Each
-SMILES is converted in four ways: with and without explicit hydrogens, with and
-without coordinates. What molrings prints for the molfile must be what ringlist
-prints for the bond sheet of its lines, or that it is refused by rule 19 where it
-has an element that is not in the table; the same with a carriage return before
-each line feed. Of an SD file, which has several molecules, the first counts.
+CRATES is the folder of the crates: molrings and ringlist stand in the out/ of
+theirs. FOLDER takes the molfiles. Each SMILES is converted in four ways: with and
+without explicit hydrogens, with and without coordinates. What molrings prints for
+the molfile must be what ringlist prints for the bond sheet of its lines, or that
+it is refused by rule 19 where it has an element that is not in the table; the same
+with a carriage return before each line feed. Of an SD file, which has several
+molecules, the first counts.
 
 What obabel writes differs from version to version: what is expected is worked
 out from the file itself. No molecule here breaks rule 20. Where there is no
@@ -61,29 +62,29 @@ def converted(smiles, form, way):
     return made.stdout
 
 
-def printed(folder, program, text):
+def printed(crates, program, text):
     """What a program prints for its input."""
-    made = subprocess.run([os.path.join(folder, program)], input=text, stdout=subprocess.PIPE)
+    made = subprocess.run([os.path.join(crates, program, "out", program)], input=text, stdout=subprocess.PIPE)
     if made.returncode != 0:
         fail(program, "ends with code", str(made.returncode))
     return made.stdout
 
 
-def compare(programs, file, molfile):
+def compare(crates, file, molfile):
     """Holds molrings to the molfile, and returns what it must print. The molfile is kept in a file."""
     with open(file, "wb") as out:
         out.write(molfile)
     known = TABLE.issuperset(molfile_sheet.symbols(molfile))
-    expected = printed(programs, "ringlist", molfile_sheet.sheet(molfile)) if known else REFUSED
+    expected = printed(crates, "ringlist", molfile_sheet.sheet(molfile)) if known else REFUSED
     if known and expected.startswith(b"refused"):
         fail(file + ": ringlist refuses its sheet")
     for text in (molfile, molfile.replace(b"\n", b"\r\n")):
-        if printed(programs, "molrings", text) != expected:
+        if printed(crates, "molrings", text) != expected:
             fail(file + ": molrings prints another text than is expected")
     return expected
 
 
-def several(programs, folder):
+def several(crates, folder):
     """SD files of two molecules: the first is listed or refused, whatever the second is. Returns their number."""
     names = ["cubane", "chlorobenzene", "norbornane"]
     for first, second in zip(names, names[1:]):
@@ -91,13 +92,13 @@ def several(programs, folder):
         alone = converted([MOLECULES[first]], "mol", [])
         if both.count(b"$$$$") != 2:
             fail("obabel writes no SD file of two molecules")
-        if compare(programs, os.path.join(folder, first + ".sdf"), both) != printed(programs, "molrings", alone):
+        if compare(crates, os.path.join(folder, first + ".sdf"), both) != printed(crates, "molrings", alone):
             fail(first + ": molrings prints another text for the SD file than for the molfile")
     return len(names) - 1
 
 
 def main():
-    programs, folder = sys.argv[1:]
+    crates, folder = sys.argv[1:]
     if shutil.which("obabel") is None:
         print("openbabel_test.py: skipped, there is no obabel")
         return
@@ -108,9 +109,9 @@ def main():
             molfile = converted([smiles], "mol", way)
             count += 1
             properties += b"\nM  CHG" in molfile or b"\nM  ISO" in molfile
-            refused += compare(programs, os.path.join(folder, name + "".join(way) + ".mol"), molfile) == REFUSED
+            refused += compare(crates, os.path.join(folder, name + "".join(way) + ".mol"), molfile) == REFUSED
     print("openbabel_test.py: %d molfiles, %d of them with charges or isotopes, %d refused by rule 19; %d SD files"
-          % (count, properties, refused, several(programs, folder)))
+          % (count, properties, refused, several(crates, folder)))
 
 
 if __name__ == "__main__":

@@ -4,8 +4,8 @@
     prototypes.py FOLDER
 
 Of each header and crate: the header declares exactly the functions marked
-#[no_mangle] pub extern "C" in the crate's sources, with parameters of the same
-names in the same order; and a C file that declares each function again as the
+#[unsafe(no_mangle)] pub extern "C" in the crate's sources, with parameters of the
+same names in the same order; and a C file that declares each function again as the
 code has it, and takes its address, compiles with the header, as C and as C++.
 So a parameter or result of another type is an error of the compiler. A slice is
 two parameters in C, its pointer NAME and its length NAME_len; a number that is
@@ -23,7 +23,7 @@ import sys
 PAIRS = [("include/ringlist.h", "crates/host"), ("include/flat.h", "crates/flat")]
 TYPES = {"u8": "uint8_t", "u16": "uint16_t", "u32": "uint32_t", "u64": "uint64_t", "usize": "size_t",
          "i8": "int8_t", "i16": "int16_t", "i32": "int32_t", "i64": "int64_t", "isize": "ptrdiff_t"}
-EXPORTED = re.compile(r'#\[no_mangle\]\s*pub extern "C" fn (\w+)\((.*?)\)(?:\s*->\s*([^\s{]+))?', re.S)
+EXPORTED = re.compile(r'#\[unsafe\(no_mangle\)\]\s*pub extern "C" fn (\w+)\((.*?)\)(?:\s*->\s*([^\s{]+))?', re.S)
 DECLARED = re.compile(r"([\w\s*]+?)\s*\b(\w+)\s*\(([^()]*)\)\s*$")
 COMPILERS = [["cc", "-std=c11", "-x", "c"], ["c++", "-std=c++11", "-x", "c++"]]
 
@@ -84,7 +84,7 @@ def exported(crate):
             text = re.sub(r"//[^\n]*", "", file.read())
         functions = EXPORTED.findall(text)
         if not len(functions) == text.count("no_mangle") == text.count('extern "C"'):
-            raise Fault(source + ': #[no_mangle] pub extern "C" fn is not written in that order')
+            raise Fault(source + ': #[unsafe(no_mangle)] pub extern "C" fn is not written in that order')
         for name, parameters, result in functions:
             pairs = [re.split(r"\s*:\s*", word.strip(), maxsplit=1)
                      for word in parameters.split(",") if word.strip()]

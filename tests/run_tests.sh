@@ -1,18 +1,18 @@
 #!/usr/bin/env bash
-# Runs all tests of target/staticlib/libflat.a, target/staticlib/libhost.a,
-# target/bin/ringlist and target/bin/molrings: in C, in Rust, on molfiles of Open
-# Babel where it is installed, by killing the example host and the program that
-# carries its states over, and a sample under valgrind. Any failure is a non-zero
-# exit.
+# Runs all tests of the static libraries of crates/flat and crates/host and of the
+# programs of crates/ringlist and crates/molrings, as rt built them in the out/ of
+# each: in C, in Rust, on molfiles of Open Babel where it is installed, by killing
+# the example host and the program that carries its states over, and a sample under
+# valgrind. Any failure is a non-zero exit.
 set -euo pipefail
 cd "$(dirname "$0")/.."
 root=$PWD
 die() { echo "run_tests.sh: $*" >&2; exit 1; }
 
-flat=$root/target/staticlib/libflat.a
-host=$root/target/staticlib/libhost.a
-ringlist=$root/target/bin/ringlist
-molrings=$root/target/bin/molrings
+flat=$root/crates/flat/out/libflat.a
+host=$root/crates/host/out/libhost.a
+ringlist=$root/crates/ringlist/out/ringlist
+molrings=$root/crates/molrings/out/molrings
 for made in "$flat" "$host" "$ringlist" "$molrings"; do
     [ -f "$made" ] || die "$made is missing; build it first"
 done
@@ -74,7 +74,7 @@ done
     die "molrings on examples/gonane.mol: not what ringlist prints for examples/gonane.sheet"
 "$molrings" </dev/null >"$out/molfile.text" || die "molrings on no molfile: exit code $?"
 echo "refused  18" | cmp - "$out/molfile.text" || die "molrings on no molfile: not refused by rule 18"
-python3 tests/openbabel_test.py "$root/target/bin" "$out/openbabel"
+python3 tests/openbabel_test.py "$root/crates" "$out/openbabel"
 
 echo "== Rust tests"
 (cd tests/rust && cargo test --release --offline)

@@ -27,10 +27,10 @@ GOOD = {
     "crates/fields/specs/Lib.antt": "pub mod Field\n",
     "crates/fields/specs/Field.antt": """\
 -- A field.
-use Prim.Native.Nat.{ℕ}
+use Rattle.std.specs.Prelude.{ℕ}
 
-unfoldable pub readField : ℕ → ℕ
-readField n = n
+unfoldable pub read_field : ℕ → ℕ
+read_field n = n
 
 pub record Digit : Type 0 where
   pub value : ℕ
@@ -43,7 +43,7 @@ pub struct Number {
 
 pub fn read(s: u64) -> u64
     requires { true }
-    ensures { s }
+    ensures value { s }
 {
     s
 }
@@ -57,31 +57,32 @@ fn inner(s: u64) -> u64
     "crates/sets/specs/Set.antt": "abbrev pub has : ℕ\n",
     "crates/sets/src/lib.rt": "pub struct Set {\n    pub low: u64,\n}\n",
     "crates/sheet/specs/Parts.antt": "abbrev pub part : ℕ\n",
-    "crates/sheet/specs/Read.antt": "unfoldable pub readSheet : ℕ\n",
-    "crates/sheet/proofs/read/Proof.antt": "place c = c .before .before .before .before .loop\n",
+    "crates/sheet/specs/Read.antt": "unfoldable pub read_sheet : ℕ\n",
+    "crates/sheet/proofs/read/Answers.antt": "place c = c.before.before.before.before.loop\n",
     "crates/sheet/src/lib.rt": 'pub extern "C" fn sheet(s: u64) -> u64\n    ensures {\n        s }\n{\n    s\n}\n',
 }
 ROWS = "| fields | 4 | 3 | 1 |\n| sheet | 1 | 0 | 2 |\n| together | 5 | 3 | 3 |"
 SHOULD = "docs/SPEC.md: the table of How much must be believed should be\n"
-PLACE, PATH = "place c = c .before", "a path of four or more `.before` that names no place"
-PROOF, READ = "crates/sheet/proofs/read/Proof.antt", "crates/sheet/specs/Read.antt"
+PLACE, PATH = "place c = c.before", "a path of four or more `.before` that names no place"
+PROOF, READ = "crates/sheet/proofs/read/Answers.antt", "crates/sheet/specs/Read.antt"
 
 # File, text, what stands for it, and the fault.
 EDITS = [
     ("crates/sets/specs/Word.antt", "", "abbrev pub word : ℕ\n", "docs/SPEC.md does not name sets/specs/Word.antt"),
     ("docs/SPEC.md", "a sheet.", "`sheet/specs/Line.antt`.", "docs/SPEC.md names sheet/specs/Line.antt, which is not there"),
-    (READ, "readSheet", "readField", "readField is declared in fields/specs/Field.antt and in sheet/specs/Read.antt"),
+    (READ, "read_sheet", "read_field", "read_field is declared in fields/specs/Field.antt and in sheet/specs/Read.antt"),
     ("crates/sets/src/lib.rt", "Set", "Number", "Number is declared in fields/src/lib.rt and in sets/src/lib.rt"),
     ("docs/SPEC.md", "| fields | 4 |", "| fields | 5 |", SHOULD + ROWS),
     ("docs/SPEC.md", "| sheet | 1 | 0 | 2 |\n", "", SHOULD + ROWS),
     ("docs/SPEC.md", " and `sheet/specs/Parts.antt`", "", "docs/SPEC.md does not name sheet/specs/Parts.antt"),
-    (PROOF, PLACE, "turn c = f (c .before .before) .if1", None),
-    (PROOF, PLACE, "place c = f c .before", PROOF + ":1: " + PATH),
-    (PROOF, PLACE, "need c = omega arith (c .before .before .before .before)\n" + PLACE, PROOF + ":1: " + PATH),
-    (PROOF, PLACE, "let place = c .before", None),
-    (READ, "ℕ\n", "ℕ" + 92 * "x" + "\n", None),
-    (READ, "ℕ\n", "ℕ" + 93 * "x" + "\n", READ + ":1: 121 characters"),
+    (PROOF, PLACE, "turn c = (f c.before.before).if1", None),
+    (PROOF, PLACE, "place c = f c.before", PROOF + ":1: " + PATH),
+    (PROOF, PLACE, "goal c = omega arith c.before.before.before.before\n" + PLACE, PROOF + ":1: " + PATH),
+    (PROOF, PLACE, "let place = c.before", None),
+    (READ, "ℕ\n", "ℕ" + 91 * "x" + "\n", None),
+    (READ, "ℕ\n", "ℕ" + 92 * "x" + "\n", READ + ":1: 121 characters"),
     (READ, "unfoldable", "use " + 140 * "x" + "\nunfoldable", None),
+    ("crates/sheet/out/rlib/Read.antt", "", "unfoldable pub read_sheet : ℕ" + 120 * "x" + "\n", None),
 ]
 
 

@@ -3,10 +3,10 @@
 
     style.py [ROOT]
 
-In the .rt and .antt files of crates/:
+In the .rt and .antt files of the crates, in src/, specs/ and proofs/:
 - no line is longer than 120 characters, imports aside;
 - no place of a proof is reached through four or more `.before` in a row, but in a line that only names the place
-  (`turn c = c .before .before ..`, or the same after `let`).
+  (`turn c = c.before.before ..`, or the same after `let`).
 
 Prints a line FILE:LINE: FAULT for each fault; the exit code is 1 if there is any.
 """
@@ -16,9 +16,10 @@ import re
 import sys
 
 LENGTH = 120
+PARTS = [("src", "rt"), ("specs", "antt"), ("proofs", "antt")]
 IMPORT = re.compile(r"\s*(pub |ghost )?use ")
-LONG_PATH = re.compile(r"(\.before\s+){3}\.before\b")
-NAMING = re.compile(r"\s*(let )?[\w′-]+( c)? = [\w′-]+( \.[\w-]+)+( in)?$")
+LONG_PATH = re.compile(r"(\.before\s*){3}\.before\b")
+NAMING = re.compile(r"\s*(let )?[\w'-]+( c)? = [\w'-]+(\.[\w-]+)+( in)?$")
 
 
 def line_faults(line):
@@ -29,8 +30,8 @@ def line_faults(line):
 
 
 def faults(root):
-    for ending in ("rt", "antt"):
-        for path in sorted(glob.glob(os.path.join(root, "crates", "**", "*." + ending), recursive=True)):
+    for part, ending in PARTS:
+        for path in sorted(glob.glob(os.path.join(root, "crates", "*", part, "**", "*." + ending), recursive=True)):
             with open(path, encoding="utf-8") as file:
                 for number, line in enumerate(file.read().splitlines(), 1):
                     for fault in line_faults(line):

@@ -1,6 +1,6 @@
 //! The programs `ringlist` and `molrings` against the model's text. They are taken
-//! from the folder FLAT_BIN_DIR names, or from target/bin at the root of the
-//! repository.
+//! from the folder FLAT_BIN_DIR names, or each from the out/ of its crate, where
+//! rt builds it.
 
 use std::fs::File;
 use std::io::{ErrorKind, Read, Write};
@@ -44,7 +44,9 @@ impl Program {
     fn path(&self) -> PathBuf {
         let folder = match std::env::var_os("FLAT_BIN_DIR") {
             Some(folder) => PathBuf::from(folder),
-            None => PathBuf::from(concat!(env!("CARGO_MANIFEST_DIR"), "/../../target/bin")),
+            None => PathBuf::from(concat!(env!("CARGO_MANIFEST_DIR"), "/../../crates"))
+                .join(self.name)
+                .join("out"),
         };
         let path = folder.join(self.name);
         assert!(path.is_file(), "{} is missing", path.display());
