@@ -1,14 +1,16 @@
 -- A byte with one bit set: which bits it has, how many, and that it is still a byte.
 -- By halving: bit k + 1 of a number is bit k of its half.
 use Prim.Native.Nat.{ℕ, zero, suc, ◌+◌, ◌*◌, ◌/◌, ◌%◌, ◌^◌, ◌<◌}
-use native.Mathlib.Nat.{pow-suc, one-mul}
+use native.Mathlib.Nat.{pow-suc, one-mul, zero-mul}
 use native.Mathlib.Omega.{arith}
 use mathlib.Core.Path.{◌≡◌, refl, sym, ◌∙◌}
 use mathlib.Core.Bool.{Bool, true, false, ◌||◌, cond, or-false, or-true}
+use Rattle.std.specs.Int.Bits.{bit_and, bit_or, or_add_and}
+use Rattle.std.proofs.lemmas.Nat.Bits.{and_pow}
 use lib.Dec.{eqb, eqb-suc-suc, eqb-zero-suc, eqb-suc-zero}
 use lib.Pow.{shl_exact}
 use lib.Count.{ones, ones_step}
-use borrow.Author.Tests.{eq-eqb, ne_eqb, eqb-false}
+use borrow.Author.Tests.{eq-eqb, ne_eqb, eqb-true, eqb-false}
 use Rattle.molecule.specs.Record.{bit}
 use Rattle.molecule.proofs.Bits.{bit-half, bit-first}
 use Rattle.bonds.specs.Bonds.{with_bit}
@@ -90,6 +92,25 @@ with-below (suc w) (suc k) x h b =
     let more = with-below w k (x / 2) (omega arith) half in
     rw (with-later x k) (omega (arith, p, more))
 
--- the shift that makes a bit
-pub bit-shift : (k : ℕ) → k < 8 → 1 * 2 ^ k % 256 ≡ 2 ^ k
-bit-shift k h = shl_exact 1 k 8 (omega arith) (omega arith) ∙ one-mul (2 ^ k)
+-- ---- as the code makes it
+
+-- the bit alone, where it is set and where it is clear
+bit-alone : (x k : ℕ) → bit x k ≡ true → bit_and x (2 ^ k) ≡ 2 ^ k
+bit-alone x k set = and_pow x k ∙ rw (eqb-true (x / 2 ^ k % 2) 1 set) (one-mul (2 ^ k))
+
+bit-none : (x k : ℕ) → bit x k ≡ false → bit_and x (2 ^ k) ≡ 0
+bit-none x k clear =
+    let other = eqb-false (x / 2 ^ k % 2) 1 clear in
+    let off : x / 2 ^ k % 2 ≡ 0 = omega arith in
+    and_pow x k ∙ rw off (zero-mul (2 ^ k))
+
+-- a byte or-ed with the shift that makes a bit
+pub or-sets : (x k : ℕ) → k < 8 → bit_or x (1 * 2 ^ k % 256) ≡ with_bit x k
+unfolding with_bit
+or-sets x k h =
+    let shift : 1 * 2 ^ k % 256 ≡ 2 ^ k = shl_exact 1 k 8 (omega arith) (omega arith) ∙ one-mul (2 ^ k) in
+    rw shift (go (bit x k) refl)
+  where
+    go : (t : Bool) → bit x k ≡ t → bit_or x (2 ^ k) ≡ cond t x (x + 2 ^ k)
+    go true e = omega (arith, or_add_and x (2 ^ k), bit-alone x k e)
+    go false e = omega (arith, or_add_and x (2 ^ k), bit-none x k e)

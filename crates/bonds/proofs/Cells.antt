@@ -7,14 +7,15 @@ use mathlib.Core.Path.{◌≡◌, ap, ap₂, sym, ◌∙◌}
 use mathlib.Core.Bool.{false, ◌&&◌, ◌||◌, or-false, and-false}
 use mathlib.Core.List.{List, [], ◌∷◌}
 use lib.ListN.{length, get_or, set, length-set}
-use lib.Seq.{get_or-set_same, get_or-set_other, set-get_or}
+use lib.Seq.{get_or-set_same, get_or-set_other}
+use Rattle.std.specs.Int.Bits.{bit_or}
 use lib.Dec.{eqb}
 use lib.Count.{ones}
 use borrow.Author.Tests.{eq-eqb, ne_eqb}
 use Rattle.molecule.specs.Record.{bit, cell, ones_of}
 pub use Rattle.molecule.proofs.Rules.{Rows}
 use Rattle.bonds.specs.Bonds.{with_bit, with_cell}
-use Rattle.bonds.proofs.Bits.{with-bit, with-ones, with-below, bit-shift}
+use Rattle.bonds.proofs.Bits.{with-bit, with-ones, with-below, or-sets}
 
 -- the place of a cell's byte, and the byte
 abbrev place : ℕ → ℕ → ℕ
@@ -24,21 +25,11 @@ abbrev byte_of : List ℕ → ℕ → ℕ → ℕ
 byte_of rows i j = get_or rows (place i j) 0
 
 -- what the code stores, as the definition has it
-module _ (rows : List ℕ) (i j : ℕ) where
-  pub cell-set-already : byte_of rows i j / 2 ^ (j % 8) % 2 ≡ 1 → rows ≡ with_cell rows i j
-  unfolding with_cell with_bit
-  cell-set-already e = rw (eq-eqb (byte_of rows i j / 2 ^ (j % 8) % 2) 1 e) (sym (set-get_or rows (place i j) 0))
-
-  module _ (clear : byte_of rows i j / 2 ^ (j % 8) % 2 ≡ 1 → ⊥) where
-    pub cell-set-now : set rows (place i j) (byte_of rows i j + 1 * 2 ^ (j % 8) % 256) ≡ with_cell rows i j
-    unfolding with_cell with_bit
-    cell-set-now = rw (ne_eqb (byte_of rows i j / 2 ^ (j % 8) % 2) 1 clear, bit-shift (j % 8) (omega arith))
-
-    pub cell-set-fits : byte_of rows i j < 2 ^ 8 → byte_of rows i j + 1 * 2 ^ (j % 8) % 256 < 2 ^ 8
-    unfolding with_bit
-    cell-set-fits small =
-        let below = with-below 8 (j % 8) (byte_of rows i j) (omega arith) small in
-        rw (bit-shift (j % 8) (omega arith)) (rw (ne_eqb (byte_of rows i j / 2 ^ (j % 8) % 2) 1 clear) at below)
+pub cell_set :
+    (rows : List ℕ) (i j : ℕ) →
+    set rows (place i j) (bit_or (byte_of rows i j) (1 * 2 ^ (j % 8) % 256)) ≡ with_cell rows i j
+unfolding with_cell
+cell_set rows i j = ap (set rows (place i j)) (or-sets (byte_of rows i j) (j % 8) (omega arith))
 
 -- the byte of a cell with its bit set, and the rows with that byte
 abbrev set_byte : List ℕ → ℕ → ℕ → ℕ

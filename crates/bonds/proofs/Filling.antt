@@ -1,5 +1,6 @@
 -- The loop that fills the rows, and rule 8: the rows of the bonds passed, none of which comes twice.
 -- A bond is new exactly if its cell is clear (Tables).
+use Rattle.std.specs.Prelude.{Ok, Result}
 use Prim.Native.Nat.{ℕ, suc, ◌+◌, ◌-◌, ◌≤◌, ◌<◌}
 use native.Mathlib.Omega.{arith}
 use native.Mathlib.Numerals.{add-one}
@@ -8,17 +9,17 @@ use mathlib.Core.Bool.{Bool, true, false, not}
 use mathlib.Core.List.{List}
 use lib.ListN.{length, replicate}
 use Rattle.graph.proofs.Loops.{all-fails, all_more}
-use Rattle.refusal.specs.declared.Answer.TheVariants.{Accepted}
 use Rattle.molecule.specs.Record.{cell}
-use Rattle.bonds.specs.declared.Reading.{Reading}
 use Rattle.bonds.specs.Bonds.{Bond, atoms_kept, none_to_itself, none_twice, with_cell, with_bond, rows_of}
 use Rattle.bonds.specs.Reading.{read_bonds}
 use Rattle.bonds.proofs.Tables.{Kept, kept-fewer, tables, is_new, new-bond}
 use Rattle.bonds.proofs.Answers.{bonds-read}
+use Rattle.refusal.specs.declared.Refusal.{Refusal}
+use Rattle.molecule.specs.declared.Molecule.{Molecule}
 
 -- a record with given rows
-abbrev pub filled_reading : ℕ → ℕ → List ℕ → Reading
-filled_reading n m rows = record { answer = Accepted; molecule = record { atoms = n; bonds = m; rows = rows } }
+abbrev pub filled_reading : ℕ → ℕ → List ℕ → Result Molecule Refusal
+filled_reading n m rows = Ok (record { atoms = n; bonds = m; rows = rows })
 
 -- the rows are those of the first k bonds, no two of which are the same
 pub record Filled (bond : ℕ → Bond) (m k : ℕ) (rows : List ℕ) : Type 0 where

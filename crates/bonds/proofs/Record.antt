@@ -1,5 +1,6 @@
 -- The record of listed bonds that keep rules 6, 7 and 8 satisfies rule 9, and its pairs are those that are listed.
 -- From the table of the bonds: a cell is set exactly when a bond joins its two atoms.
+use Rattle.std.specs.Prelude.{Err, Ok, Result}
 use Prim.Native.Nat.{ℕ, suc, ◌-◌, ◌*◌, ◌≤◌}
 use native.Mathlib.Omega.{arith}
 use mathlib.Core.Path.{◌≡◌, refl, ap, sym, ◌∙◌}
@@ -10,21 +11,20 @@ use lib.Dec.{eqb}
 use borrow.Author.Tests.{eqb-true, eq-eqb}
 use Rattle.graph.proofs.Below.{either, and_parts}
 use Rattle.refusal.specs.declared.Refusal.{Refusal}
-use Rattle.refusal.specs.declared.Answer.TheVariants.{Accepted}
 use Rattle.molecule.specs.Record.{bonded, ones_of, well_formed}
 use Rattle.molecule.proofs.Rules.{rows-of-bytes, Sound, bytes-of-sound, rule-in-range}
 use Rattle.molecule.proofs.Bonds.{bonded-cell, bonded-facts}
-use Rattle.bonds.specs.declared.Reading.{Reading}
 use Rattle.bonds.specs.Bonds.{Bond, atoms_kept, none_to_itself, same_pair, none_twice, rows_of}
-use Rattle.bonds.specs.Reading.{refused_reading, accepted_reading, read_bonds}
+use Rattle.bonds.specs.Reading.{accepted_reading, read_bonds}
 use Rattle.bonds.proofs.Tables.{Kept, kept_of, Joins, joins-swaps, Table, tables}
+use Rattle.molecule.specs.declared.Molecule.{Molecule}
 
 -- a rule that was kept on the way to an accepted text
 pub kept_on :
-    (t : Bool) (x : Reading) (r : Refusal) → (cond t x (refused_reading r)).answer ≡ Accepted →
-    (t ≡ true) × (x.answer ≡ Accepted)
+    (t : Bool) (x : Result Molecule Refusal) (r : Refusal) {mol : Molecule} → cond t x (Err r) ≡ Ok mol →
+    (t ≡ true) × (x ≡ Ok mol)
 kept_on true x r e = (refl, e)
-kept_on false x r e = let z : ◌≡◌ {A = ℕ} 0 1 = cc in absurd (omega arith)
+kept_on false x r e = cc
 
 -- two pairs that are the same
 pub same-pair-cases :
@@ -130,7 +130,8 @@ pub record BondsTaken (n : ℕ) (bond : ℕ → Bond) (m : ℕ) : Type 0 where
   pub none-twice : none_twice bond m ≡ true
   pub reads : read_bonds n bond m ≡ accepted_reading n bond m
 
-pub bonds-taken : (n : ℕ) (bond : ℕ → Bond) (m : ℕ) → (read_bonds n bond m).answer ≡ Accepted → BondsTaken n bond m
+pub bonds-taken :
+    (n : ℕ) (bond : ℕ → Bond) (m : ℕ) {mol : Molecule} → read_bonds n bond m ≡ Ok mol → BondsTaken n bond m
 unfolding read_bonds
 bonds-taken n bond m e =
     let r6 = kept_on (atoms_kept n bond m) _ _ e in
@@ -147,9 +148,15 @@ module _ {n : ℕ} {bond : ℕ → Bond} {m : ℕ} (few : n ≤ 128) (taken : Bo
   pub taken-kept : Kept n bond m
   taken-kept = kept_of few taken.atoms-kept taken.none-to-itself
 
-  pub taken-size : length (read_bonds n bond m).molecule.rows ≡ 2048
-  taken-size = rw taken.reads (tables m taken-kept).bytes.size
+  -- ---- the molecule that they are read as
 
-  -- Their record satisfies rule 9
-  pub taken-well-formed : m ≤ 1024 → well_formed (read_bonds n bond m).molecule ≡ true
-  taken-well-formed light = rw taken.reads (record-well-formed n bond m taken-kept light taken.none-twice)
+  module _ {mol : Molecule} (is : read_bonds n bond m ≡ Ok mol) where
+    pub taken-is : mol ≡ record { atoms = n; bonds = m; rows = rows_of bond m }
+    taken-is = let e = sym is ∙ taken.reads in cc
+
+    pub taken-size : length mol.rows ≡ 2048
+    taken-size = rw taken-is (tables m taken-kept).bytes.size
+
+    -- Their record satisfies rule 9
+    pub taken-well-formed : m ≤ 1024 → well_formed mol ≡ true
+    taken-well-formed light = rw taken-is (record-well-formed n bond m taken-kept light taken.none-twice)

@@ -1,11 +1,15 @@
 -- Lists of bonds that agree read to the same record, with the same refusals.
 -- Every rule looks at the first m bonds alone.
-use Prim.Native.Nat.{ℕ, zero, suc, ◌<◌}
+use Prim.Native.Nat.{ℕ, zero, suc, ◌≤◌, ◌<◌}
 use native.Mathlib.Omega.{arith}
 use mathlib.Core.Path.{◌≡◌, refl, ap₂, sym, ◌∙◌}
 use mathlib.Core.Bool.{not}
+use mathlib.Core.List.{List}
+use lib.ListN.{length, take}
+use lib.Seq.{get_or-take, length-take-le}
 use Rattle.graph.proofs.Places.{all_same}
 use Rattle.bonds.specs.Bonds.{Bond, atoms_kept, none_to_itself, same_pair, none_twice, with_bond, rows_of}
+use Rattle.bonds.specs.Parts.{listed}
 use Rattle.bonds.specs.Reading.{read_bonds}
 use Rattle.bonds.proofs.Tables.{is_new}
 use Rattle.bonds.proofs.Stored.{within, differs, atoms-kept-is, none-to-itself-is}
@@ -46,3 +50,11 @@ pub bonds-same :
 unfolding read_bonds
 bonds-same n bond bond' m same =
     rw (atoms-same same n, itself-same same, twice_same same, rows_same bond bond' m same)
+
+-- the first m of a list of bonds, as a list
+pub listed-part :
+    (n : ℕ) (bonds : List Bond) (m : ℕ) → m ≤ length bonds →
+    read_bonds n (listed (take m bonds)) (length (take m bonds)) ≡ read_bonds n (listed bonds) m
+listed-part n bonds m fits =
+    rw (length-take-le m bonds fits)
+    (bonds-same n (listed (take m bonds)) (listed bonds) m (λ k h. get_or-take m bonds k (0, 0) h))

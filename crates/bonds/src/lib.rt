@@ -1,61 +1,28 @@
 // Listed bonds (document 01, "Turned back by number", rules 6, 7 and 8), and the molecule record that has just these.
 #![tactic(auto)]
 
-ghost use Rattle.std.specs.Prelude.{◌≡◌, ◌+◌};
+ghost use Rattle.std.specs.Prelude.{◌≡◌, ◌≤◌, length};
 ghost use Rattle.bonds.specs.Bonds.{with_cell};
-ghost use Rattle.bonds.specs.Reading.{refused_reading, read_bonds};
-ghost use Rattle.bonds.specs.Parts.{stored_bond, RoomFor, FitsRecord, Fillable, KeepsBonds, CellIn};
+ghost use Rattle.bonds.specs.Reading.{read_bonds};
+ghost use Rattle.bonds.specs.Parts.{listed, bonds_answer, Fillable, CellIn};
 
-use molecule::Molecule;
-use refusal::{Answer, Refusal};
-use widen::u16_usize;
+use molecule::{Molecule, is_atom, linked};
+use refusal::Refusal;
 
-// What a text is read as: its molecule, or a refusal with the fresh one.
-#[derive(Clone, Copy)]
-pub struct Reading {
-    pub answer: Answer,
-    pub molecule: Molecule,
-}
-
-// Whether the bonds keep rule 6, and rule 7.
-#[derive(Clone, Copy)]
-struct BondsKept {
-    pub atoms: bool,
-    pub apart: bool,
-}
-
-// Rules 6 and 7, in one pass: whether every bond's atoms are from 1 to n, and, where they are, whether no bond joins an
-// atom to itself.
-fn bonds_kept(values: &[u16], n: usize, m: usize) -> BondsKept
-    requires { RoomFor (m + 1) values.now }
-    ensures { KeepsBonds n (stored_bond values.now) m result }
+// Rules 6 and 7, in one pass: every bond's atoms are from 1 to n, and no bond joins an atom to itself.
+fn check_bonds(n: usize, bonds: &[(u16, u16)]) -> Result<(), Refusal>
+    ensures { result ≡ bonds_answer n (listed bonds.now) (length bonds.now) }
 {
-    let mut apart = true;
-    let mut k: usize = 0;
-    while k < m {
-        let left = u16_usize(values[2 * (k + 1)]);
-        let right = u16_usize(values[2 * (k + 1) + 1]);
-        if !molecule::is_atom(n, left) {
-            return BondsKept {
-                atoms: false,
-                apart: apart,
-            };
-        }
-        if !molecule::is_atom(n, right) {
-            return BondsKept {
-                atoms: false,
-                apart: apart,
-            };
+    let mut apart = Ok(());
+    for &(left, right) in bonds {
+        if !is_atom(n, usize::from(left)) || !is_atom(n, usize::from(right)) {
+            return Err(Refusal::BondAtom);
         }
         if left == right {
-            apart = false;
+            apart = Err(Refusal::SelfBond);
         }
-        k += 1;
     }
-    BondsKept {
-        atoms: true,
-        apart: apart,
-    }
+    apart
 }
 
 // Sets the bit of row i and column j, both counted from 0.
@@ -63,66 +30,35 @@ fn link(rows: &mut [u8], i: usize, j: usize)
     requires { CellIn rows.old i j }
     ensures { rows.new ≡ with_cell rows.old i j }
 {
-    let at = 16 * i + j / 8;
-    let k = j % 8;
-    let x = rows[at];
-    if (x >> k) % 2 == 1 {
-        return;
-    }
-    rows[at] = x + (1u8 << k);
+    rows[16 * i + j / 8] |= 1 << (j % 8);
 }
 
-// A refused text: the fresh molecule.
-pub fn refused(r: Refusal) -> Reading
-    ensures { result ≡ refused_reading r }
+// Rule 8, and the record with bonds that keep rules 6 and 7.
+fn fill(n: usize, bonds: &[(u16, u16)]) -> Result<Molecule, Refusal>
+    requires { Fillable n (listed bonds.now) (length bonds.now) }
+    ensures { result ≡ read_bonds n (listed bonds.now) (length bonds.now) }
 {
-    let molecule = molecule::fresh();
-    Reading {
-        answer: Answer::Refused(r),
-        molecule: molecule,
-    }
-}
-
-// Rule 8, and the rows of bonds that keep rules 6 and 7.
-fn fill(values: &[u16], n: usize, m: usize) -> Reading
-    requires { Fillable n values.now m }
-    ensures { result ≡ read_bonds n (stored_bond values.now) m }
-{
-    let mut rows = [0u8; 2048];
-    let mut k: usize = 0;
-    while k < m {
-        let i = u16_usize(values[2 * (k + 1)]) - 1;
-        let j = u16_usize(values[2 * (k + 1) + 1]) - 1;
-        if molecule::linked(&rows, i, j) {
-            return refused(Refusal::RepeatedBond);
+    let mut rows = [0; 2048];
+    for &(left, right) in bonds {
+        let (i, j) = (usize::from(left) - 1, usize::from(right) - 1);
+        if linked(&rows, i, j) {
+            return Err(Refusal::RepeatedBond);
         }
         link(&mut rows, i, j);
         link(&mut rows, j, i);
-        k += 1;
     }
-    let molecule = Molecule {
+    Ok(Molecule {
         atoms: n,
-        bonds: m,
-        rows: rows,
-    };
-    Reading {
-        answer: Answer::Accepted,
-        molecule: molecule,
-    }
+        bonds: bonds.len(),
+        rows,
+    })
 }
 
-// Rules 6, 7 and 8 on the bonds stored in some values, after the two numbers of place 0, and the record of n atoms with
-// them.
-pub fn read_bonds(values: &[u16], n: usize, m: usize) -> Reading
-    requires { FitsRecord n values.now m }
-    ensures { result ≡ read_bonds n (stored_bond values.now) m }
+// Rules 6, 7 and 8 on some bonds, and the record of n atoms with them.
+pub fn read_bonds(n: usize, bonds: &[(u16, u16)]) -> Result<Molecule, Refusal>
+    requires { n ≤ 128 }
+    ensures { result ≡ read_bonds n (listed bonds.now) (length bonds.now) }
 {
-    let kept = bonds_kept(values, n, m);
-    if !kept.atoms {
-        return refused(Refusal::BondAtom);
-    }
-    if !kept.apart {
-        return refused(Refusal::SelfBond);
-    }
-    fill(values, n, m)
+    check_bonds(n, bonds)?;
+    fill(n, bonds)
 }

@@ -9,12 +9,12 @@ use mathlib.Core.Path.{◌≡◌, refl, ap, sym, ◌∙◌}
 use mathlib.Core.Bool.{Bool, true, false, cond, true≢false}
 use mathlib.Core.List.{List, [], ◌∷◌, append-nil}
 use mathlib.Core.Logic.{inl, inr}
+use Rattle.std.specs.Prelude.{Option, Some, None}
 use lib.ListN.{length, take, drop, length-append, length-take}
 use lib.Dec.{leb, ltb, eqb}
 use borrow.Author.Tests.{lt-ltb, le-ltb, leb-true, eqb-true}
 use Rattle.fields.specs.declared.Number.{Number}
-use Rattle.fields.specs.declared.Number.TheVariants.{Value, Bad}
-use Rattle.fields.specs.Field.{limit, is_digit, digits, after_blanks, zero_first, read_field, columns}
+use Rattle.fields.specs.Field.{number, limit, is_digit, digits, after_blanks, zero_first, read_field, columns}
 use Rattle.fields.specs.Field.{field_text, zero_text, filled_text, is_value, value_of, value_at, Refilled}
 use Rattle.fields.proofs.Digits.{passed, both, digits-below, digits-limit, digits-report, zero-whole}
 use Rattle.fields.proofs.Blanks.{text-read, after-blanks}
@@ -30,7 +30,7 @@ record Read (zeros : Bool) (bs : List ℕ) (v : ℕ) (filled : Bool) : Type 0 wh
   most : v ≤ limit
 
 blanks-read :
-    (zeros : Bool) (bs : List ℕ) (v : ℕ) (filled : Bool) → after_blanks zeros bs ≡ Value v filled →
+    (zeros : Bool) (bs : List ℕ) (v : ℕ) (filled : Bool) → after_blanks zeros bs ≡ number v filled →
     Read zeros bs v filled
 unfolding after_blanks
 blanks-read zeros [] v filled e = let z : ◌≡◌ {A = ℕ} 0 1 = cc in absurd (omega arith)
@@ -41,9 +41,9 @@ blanks-read zeros (b ∷ bs) v filled e = go (blanks-read zeros bs v filled) (eq
 
     -- by whether b is a blank
     go :
-        (after_blanks zeros bs ≡ Value v filled → Read zeros bs v filled) →
-        (t : Bool) → cond t (after_blanks zeros bs) (cond (is_digit b) (digits zeros (b - 48) bs) Bad) ≡
-        Value v filled →
+        (after_blanks zeros bs ≡ number v filled → Read zeros bs v filled) →
+        (t : Bool) → cond t (after_blanks zeros bs) (cond (is_digit b) (digits zeros (b - 48) bs) None) ≡
+        number v filled →
         Read zeros (b ∷ bs) v filled
     go more true e =
         let read = more e in
@@ -59,7 +59,7 @@ blanks-read zeros (b ∷ bs) v filled e = go (blanks-read zeros bs v filled) (eq
 
 -- The value of blanks and digits fits their columns
 pub blanks-fit :
-    (zeros : Bool) (bs : List ℕ) (v : ℕ) (filled : Bool) → after_blanks zeros bs ≡ Value v filled → v < 10 ^ length bs
+    (zeros : Bool) (bs : List ℕ) (v : ℕ) (filled : Bool) → after_blanks zeros bs ≡ number v filled → v < 10 ^ length bs
 blanks-fit zeros bs v filled e = (blanks-read zeros bs v filled e).below
 
 -- a field that begins with a digit 0
@@ -71,7 +71,7 @@ zero-begins : (rest : List ℕ) → read_field (48 ∷ rest) ≡ digits true 0 r
 unfolding read_field after_blanks
 zero-begins rest = refl
 
-module _ (bs : List ℕ) (v : ℕ) (zeros : Bool) (reads : read_field bs ≡ Value v zeros) where
+module _ (bs : List ℕ) (v : ℕ) (zeros : Bool) (reads : read_field bs ≡ number v zeros) where
   told : Read (zero_first bs) bs v zeros
   unfolding read_field
   told = blanks-read (zero_first bs) bs v zeros reads
@@ -90,7 +90,7 @@ module _ (bs : List ℕ) (v : ℕ) (zeros : Bool) (reads : read_field bs ≡ Val
   read-is-written = go zeros (sym report-means) reads
     where
       go :
-          (filled : Bool) → zero_first bs ≡ filled → read_field bs ≡ Value v filled →
+          (filled : Bool) → zero_first bs ≡ filled → read_field bs ≡ number v filled →
           bs ≡ filled_text filled (length bs) v
       go false first e =
           after-blanks 0 bs v (rw first at e) ∙ ap (λ k. field_text k v) (zero-add (length bs))
@@ -103,9 +103,9 @@ module _ (bs : List ℕ) (v : ℕ) (zeros : Bool) (reads : read_field bs ≡ Val
 pub value-bounds : (bs : List ℕ) → let v = value_of (read_field bs) in (v < 10 ^ length bs) × (v ≤ limit)
 value-bounds bs = go (read_field bs) refl
   where
-    go : (x : Number) → read_field bs ≡ x → (value_of x < 10 ^ length bs) × (value_of x ≤ limit)
-    go (Value v zeros) e = read_fits bs v zeros e
-    go Bad e = (one-le-pow (length bs) 10 (omega arith), omega arith)
+    go : (x : Option Number) → read_field bs ≡ x → (value_of x < 10 ^ length bs) × (value_of x ≤ limit)
+    go (Some x) e = read_fits bs x.value x.zeros e
+    go None e = (one-le-pow (length bs) 10 (omega arith), omega arith)
 
 -- within bytes of any length
 pub value-fits : (c : ℕ) (bytes : List ℕ) (at : ℕ) → value_at c bytes at < 10 ^ c
@@ -119,16 +119,16 @@ value-fits c bytes at =
 
 -- A field that was accepted when blanks alone could fill one has the same value
 pub as_before :
-    (bs : List ℕ) (v : ℕ) (filled : Bool) → after_blanks false bs ≡ Value v filled →
-    read_field bs ≡ Value v (zero_first bs)
+    (bs : List ℕ) (v : ℕ) (filled : Bool) → after_blanks false bs ≡ number v filled →
+    read_field bs ≡ number v (zero_first bs)
 unfolding read_field
 as_before bs v filled e = go (zero_first bs) refl
   where
-    go : (zeros : Bool) → zero_first bs ≡ zeros → read_field bs ≡ Value v zeros
-    go false first = rw first (e ∙ ap (Value v) (blanks-read false bs v filled e).report)
+    go : (zeros : Bool) → zero_first bs ≡ zeros → read_field bs ≡ number v zeros
+    go false first = rw first (e ∙ ap (number v) (blanks-read false bs v filled e).report)
     go true first =
         let (rest, is) = first_byte bs first in
-        let alone : digits false 0 rest ≡ Value v filled = unfold after_blanks in (rw is at e) in
+        let alone : digits false 0 rest ≡ number v filled = unfold after_blanks in (rw is at e) in
         let (none, value) = zero-whole rest v filled alone in
         rw (is, none, value) (zero-begins [] ∙ unfold digits in refl)
 
@@ -136,12 +136,12 @@ as_before bs v filled e = go (zero_first bs) refl
 pub written-reads-back :
     (zeros : Bool) (k v : ℕ) → v < 10 ^ k → v ≤ limit → 0 < k →
     let text = filled_text zeros k v in
-    read_field text ≡ Value v (zero_first text)
+    read_field text ≡ number v (zero_first text)
 written-reads-back false k v below fits some = as_before (field_text k v) v false (text-read k v below fits some)
 written-reads-back true zero v below fits some = absurd (omega arith)
 written-reads-back true (suc k) v below fits some = go (dec_lt v (10 ^ k))
   where
-    go : Dec (v < 10 ^ k) → read_field (zero_text (suc k) v) ≡ Value v (zero_first (zero_text (suc k) v))
+    go : Dec (v < 10 ^ k) → read_field (zero_text (suc k) v) ≡ number v (zero_first (zero_text (suc k) v))
     go (yes room) = rw (zeros-lead k v room) (zero-begins (zero_text k v) ∙ zeros-digits k v room fits)
     go (no full) =
         let read = text-read (suc k) v below fits some in
@@ -171,13 +171,13 @@ blanks-report (suc (suc k)) v below wide =
 -- so each reads back with the right report: zeros fill the one where the number leaves a column,
 -- and never the other where there is more than one
 pub zeros-read-back :
-    (k v : ℕ) → v < 10 ^ suc k → v ≤ limit → read_field (zero_text (suc k) v) ≡ Value v (ltb v (10 ^ k))
+    (k v : ℕ) → v < 10 ^ suc k → v ≤ limit → read_field (zero_text (suc k) v) ≡ number v (ltb v (10 ^ k))
 zeros-read-back k v below fits =
-    written-reads-back true (suc k) v below fits (omega arith) ∙ ap (Value v) (zeros-report k v below)
+    written-reads-back true (suc k) v below fits (omega arith) ∙ ap (number v) (zeros-report k v below)
 
-pub blanks-read-back : (k v : ℕ) → v < 10 ^ k → v ≤ limit → 1 < k → read_field (field_text k v) ≡ Value v false
+pub blanks-read-back : (k v : ℕ) → v < 10 ^ k → v ≤ limit → 1 < k → read_field (field_text k v) ≡ number v false
 blanks-read-back k v below fits wide =
-    written-reads-back false k v below fits (omega arith) ∙ ap (Value v) (blanks-report k v below wide)
+    written-reads-back false k v below fits (omega arith) ∙ ap (number v) (blanks-report k v below wide)
 
 -- Fields that differ in filling only hold the same number, or none of them does
 pub refilled_same :
@@ -192,7 +192,7 @@ refilled_same k a b some (inr same) =
     back :
         (zeros : Bool) →
         let text = filled_text zeros k same.value in
-        read_field text ≡ Value same.value (zero_first text)
+        read_field text ≡ number same.value (zero_first text)
     back zeros = written-reads-back zeros k same.value same.below same.most some
 
 -- ---- a field has as many bytes as columns

@@ -9,22 +9,21 @@ use mathlib.Core.List.{List, [], ◌∷◌, ◌++◌, append-nil}
 use lib.ListN.{length}
 use lib.Seq.{append_snoc}
 use borrow.Author.Tests.{ne_eqb}
-use Rattle.fields.specs.declared.Number.TheVariants.{Value}
-use Rattle.fields.specs.Field.{limit, digits, zero_first, column, columns, field_text, zero_text}
+use Rattle.fields.specs.Field.{number, limit, digits, zero_first, column, columns, field_text, zero_text}
 use Rattle.fields.proofs.Digits.{digits-end-value, digit-read, digits-below, digits-snoc, one_more}
 
 -- the text filled with zeros is digits worth its number
-pub zeros-digits : (k v : ℕ) → v < 10 ^ k → v ≤ limit → digits true 0 (zero_text k v) ≡ Value v true
+pub zeros-digits : (k v : ℕ) → v < 10 ^ k → v ≤ limit → digits true 0 (zero_text k v) ≡ number v true
 unfolding zero_text digits
 zeros-digits zero v below fits =
     let none : 0 ≡ v = omega (arith, pow-zero 10) in
-    ap (λ x. Value x true) none
+    ap (λ x. number x true) none
 zeros-digits (suc k) v below fits =
     let power : 10 ^ suc k ≡ 10 ^ k * 10 = pow-suc 10 k in
     let whole : v / 10 * 10 + v % 10 ≡ v = omega arith in
     let front = zeros-digits k (v / 10) (omega arith) (omega arith) in
     digits-snoc true (v / 10) (v % 10) (omega arith) refl (omega arith) 0 (zero_text k (v / 10)) front
-    ∙ ap (λ x. Value x true) whole
+    ∙ ap (λ x. number x true) whole
 
 -- digits that follow a text are the text of the whole value
 zeros-on :
@@ -37,7 +36,7 @@ zeros-on k w b bs low high =
     rw (tenth, last) (sym (append_snoc (zero_text k w) b bs))
 
 zeros-text :
-    (k w : ℕ) (bs : List ℕ) (v : ℕ) → digits true w bs ≡ Value v true → zero_text k w ++ bs ≡
+    (k w : ℕ) (bs : List ℕ) (v : ℕ) → digits true w bs ≡ number v true → zero_text k w ++ bs ≡
     zero_text (k + length bs) v
 zeros-text k w [] v e = rw (add-zero, ← (digits-end-value true w v true e).0) (append-nil (zero_text k w))
 zeros-text k w (b ∷ bs) v e =
@@ -54,7 +53,7 @@ zeros-lead (suc k) v below =
     let power : 10 ^ suc k ≡ 10 ^ k * 10 = pow-suc 10 k in
     ap (λ l. l ++ ((48 + v % 10) ∷ [])) (zeros-lead k (v / 10) (omega arith))
 
-pub zeros-written : (bs : List ℕ) (v : ℕ) → digits true 0 bs ≡ Value v true → 48 ∷ bs ≡ zero_text (suc (length bs)) v
+pub zeros-written : (bs : List ℕ) (v : ℕ) → digits true 0 bs ≡ number v true → 48 ∷ bs ≡ zero_text (suc (length bs)) v
 unfolding zero_text
 zeros-written bs v e =
     let below = rw (zero-add (length bs)) at (digits-below true 0 0 bs v true (omega (arith, pow-zero 10)) e) in

@@ -1,102 +1,92 @@
 // Number fields (document 01, "Bond sheet" and "Marks"), of any number of columns.
 #![tactic(auto)]
 
-ghost use Rattle.std.specs.Prelude.{◌≡◌, ◌+◌, ◌≤◌, length, drop};
-ghost use Rattle.fields.specs.Field.{may_follow, digits, after_blanks, zero_first, read_field};
+ghost use Rattle.std.specs.Prelude.{◌≡◌, ◌+◌, ◌≤◌, length};
+ghost use Rattle.fields.specs.Field.{digit_of, may_follow, digits, after_blanks, zero_first, read_field};
 ghost use Rattle.fields.specs.Field.{column, field_text, field_at, blanks_only, value_at};
 
-use widen::u8_u64;
+// The limit of a count, and so of what a field may hold.
+pub const LIMIT: u64 = 9_999_999_999_999_999_999;
 
-// What a field holds: a value, and whether zeros fill the field.
-#[derive(Clone, Copy)]
-pub enum Number {
-    Value(u64, bool),
-    Bad,
+// A blank.
+const BLANK: u8 = b' ';
+
+// What a number field holds: its value, and whether zeros fill the field.
+#[derive(Clone, Copy, Debug, PartialEq, Eq)]
+pub struct Number {
+    pub value: u64,
+    pub zeros: bool,
+}
+
+// What a digit is worth.
+fn digit_of(b: u8) -> Option<u64>
+    ensures { result ≡ digit_of b }
+{
+    match b {
+        b'0'..=b'9' => Some(u64::from(b - b'0')),
+        _ => None,
+    }
 }
 
 // Whether a digit may follow digits worth v: unless leading zeros are allowed, a 0 stands alone.
 fn may_follow(v: u64, zeros: bool) -> bool
     ensures { result ≡ may_follow zeros v }
 {
-    if zeros {
-        return true;
-    }
-    0 < v
+    zeros || 0 < v
 }
 
-// The digits from `from` on, after digits that came to `first`.
-fn more_digits(s: &[u8], from: usize, first: u64, zeros: bool) -> Number
-    ensures { result ≡ digits zeros first (drop from s.now) }
+// The digits that follow digits worth `first`.
+fn more_digits(s: &[u8], first: u64, zeros: bool) -> Option<Number>
+    ensures { result ≡ digits zeros first s.now }
 {
-    let mut v = first;
-    let mut i = from;
-    while i < s.len() {
-        let b = s[i];
-        if b < 48 {
-            return Number::Bad;
+    let mut value = first;
+    for &b in s {
+        let digit = digit_of(b)?;
+        if !may_follow(value, zeros) || 999_999_999_999_999_999 < value {
+            return None;
         }
-        if 57 < b {
-            return Number::Bad;
-        }
-        if !may_follow(v, zeros) {
-            return Number::Bad;
-        }
-        if 999_999_999_999_999_999 < v {
-            return Number::Bad;
-        }
-        v = v * 10 + u8_u64(b - 48);
-        i += 1;
+        value = value * 10 + digit;
     }
-    Number::Value(v, zeros)
+    Some(Number { value, zeros })
 }
 
 // Whether zeros fill a field: a digit 0 in its first column.
 fn zero_first(s: &[u8]) -> bool
     ensures { result ≡ zero_first s.now }
 {
-    if s.len() == 0 {
-        return false;
-    }
-    s[0] == 48
+    s.first() == Some(&b'0')
 }
 
 // Reads a whole slice as blanks and then one digit or more; `zeros` says whether leading zeros are allowed, and is
 // handed on with the value.
-pub fn after_blanks(s: &[u8], zeros: bool) -> Number
+pub fn after_blanks(s: &[u8], zeros: bool) -> Option<Number>
     ensures { result ≡ after_blanks zeros s.now }
 {
-    let mut i: usize = 0;
-    while i < s.len() {
-        let b = s[i];
-        if b != 32 {
-            if b < 48 {
-                return Number::Bad;
-            }
-            if 57 < b {
-                return Number::Bad;
-            }
-            return more_digits(s, i + 1, u8_u64(b - 48), zeros);
+    for (i, &b) in s.iter().enumerate() {
+        if b != BLANK {
+            return more_digits(&s[i + 1..], digit_of(b)?, zeros);
         }
-        i += 1;
     }
-    Number::Bad
+    None
 }
 
 // Reads a whole slice as one number field.
-pub fn read_number(s: &[u8]) -> Number
+#[tactic(auto, unfolding(crate::specs::Field::read_field))]
+pub fn read_number(s: &[u8]) -> Option<Number>
     ensures { result ≡ read_field s.now }
 {
     after_blanks(s, zero_first(s))
 }
 
 // The byte of a column where v is what is left of the number: its last digit, or a blank where nothing is left.
+#[tactic(auto, unfolding(crate::specs::Field::column))]
 fn column_byte(v: u64) -> u8
     ensures { result ≡ column v }
 {
     if v == 0 {
-        return 32;
+        return BLANK;
     }
-    48 + (v % 10) as u8
+    b'0' + (v % 10) as u8
 }
 
 // Writes a number into the whole slice, right-justified, blanks in front.
@@ -104,27 +94,24 @@ fn column_byte(v: u64) -> u8
 pub fn write_number(out: &mut [u8], value: u64)
     ensures { out.new ≡ field_text (length out.old) value }
 {
-    let mut i = out.len();
-    if i == 0 {
+    let Some(last) = out.len().checked_sub(1) else {
         return;
-    }
-    i -= 1;
-    out[i] = 48 + (value % 10) as u8;
+    };
+    out[last] = b'0' + (value % 10) as u8;
     let mut v = value / 10;
-    while 0 < i {
-        i -= 1;
+    // By index: of what is written through `iter_mut().rev()` a proof knows nothing.
+    for i in (0..last).rev() {
         out[i] = column_byte(v);
-        v = v / 10;
+        v /= 10;
     }
 }
 
 // The field of so many columns at a place.
-pub fn number_at(bytes: &[u8], columns: usize, at: usize) -> Number
+pub fn number_at(bytes: &[u8], columns: usize, at: usize) -> Option<Number>
     requires { at + columns ≤ length bytes.now }
     ensures { result ≡ field_at columns bytes.now at }
 {
-    let end = at + columns;
-    read_number(&bytes[at..end])
+    read_number(&bytes[at..at + columns])
 }
 
 // Its value, 0 where it is no number field.
@@ -132,19 +119,12 @@ pub fn value_at(bytes: &[u8], columns: usize, at: usize) -> u64
     requires { at + columns ≤ length bytes.now }
     ensures { result ≡ value_at columns bytes.now at }
 {
-    let x = number_at(bytes, columns, at);
-    match x {
-        Number::Value(v, _) => v,
-        Number::Bad => 0,
-    }
+    number_at(bytes, columns, at).map_or(0, |x| x.value)
 }
 
 // Whether it is a number field that zeros do not fill.
-pub fn blanks_only(x: Number) -> bool
+pub fn blanks_only(x: Option<Number>) -> bool
     ensures { result ≡ blanks_only x }
 {
-    match x {
-        Number::Value(_, zeros) => !zeros,
-        Number::Bad => false,
-    }
+    x.is_some_and(|x| !x.zeros)
 }

@@ -7,8 +7,8 @@ use mathlib.Core.Path.{◌≡◌, refl, ap, sym, ◌∙◌}
 use mathlib.Core.Bool.{Bool, true, false, ◌&&◌, ◌||◌, not, beq}
 use mathlib.Core.List.{List}
 use lib.ListN.{length, get_or, get_or-eq_default}
-use lib.Dec.{ltb, eqb}
-use borrow.Author.Tests.{lt-ltb, ltb-true, le-leb, eq-eqb, eqb-true, ne_eqb, eqb-false, not-true}
+use lib.Dec.{leb, ltb, eqb}
+use borrow.Author.Tests.{lt-ltb, ltb-true, le-leb, leb-true, eq-eqb, eqb-true, ne_eqb, eqb-false, not-true}
 use Rattle.graph.specs.Every.{all_below}
 use Rattle.graph.proofs.Below.{all_below-at, all_below-of, and_parts, and_both, same_test, beq-true, beq_same}
 use Rattle.graph.proofs.Below.{false_of, not-of, apart, implies-intro, implies-elim}
@@ -167,28 +167,38 @@ rows-rules rows n =
     (λ e. bytes-of-sound rows n (sound-of-rules rows n e))
     (λ e. rules-of-sound rows n (sound-of-bytes rows n e))
 
--- Rule 9 where n and m are in range and the rows are bytes: rows that break their rules, or keep them
-module _ (mol : Molecule) (hn : mol.atoms ≤ 128) (hm : mol.bonds ≤ 1024) where
-  pub rows-broken : rows_sound mol.rows mol.atoms ≡ false → well_formed mol ≡ false
+-- Rule 9 where n and m are in range, the rows are bytes and keep their rules
+pub rule-in-range :
+    (mol : Molecule) → mol.atoms ≤ 128 → mol.bonds ≤ 1024 →
+    rows_of_bytes mol.rows ≡ true → rows_sound mol.rows mol.atoms ≡ true →
+    well_formed mol ≡ eqb (ones_of mol.rows) (2 * mol.bonds)
+unfolding well_formed
+rule-in-range mol hn hm bytes e =
+    rw (le-leb mol.atoms 128 hn, le-leb mol.bonds 1024 hm, bytes, rows-rules mol.rows mol.atoms, e)
+
+-- Rule 9 by the tests before the count of ones: one of them fails, or the count decides
+module _ (mol : Molecule) where
+  abbrev pub tests_kept : Bool
+  tests_kept = leb mol.atoms 128 && leb mol.bonds 1024 && rows_sound mol.rows mol.atoms
+
+  pub rule-broken : tests_kept ≡ false → well_formed mol ≡ false
   unfolding well_formed
-  rows-broken e = rw (le-leb mol.atoms 128 hn, le-leb mol.bonds 1024 hm) (go (rows_of_bytes mol.rows))
+  rule-broken e =
+      go (leb mol.atoms 128 && leb mol.bonds 1024) (rows_of_bytes mol.rows)
+      (rw (← rows-rules mol.rows mol.atoms) at e)
     where
       go :
-          (bytes : Bool) →
-          (bytes && symmetric mol.rows && loopless mol.rows && within mol.atoms mol.rows
+          (in_range bytes : Bool) →
+          (in_range && (symmetric mol.rows && loopless mol.rows && within mol.atoms mol.rows)) ≡ false →
+          (in_range && bytes && symmetric mol.rows && loopless mol.rows && within mol.atoms mol.rows
           && eqb (ones_of mol.rows) (2 * mol.bonds)) ≡ false
-      go true = rw (rows-rules mol.rows mol.atoms, e)
-      go false = refl
+      go true true e = rw e
+      go true false e = refl
+      go false bytes e = refl
 
-  pub rule-in-range :
-      rows_of_bytes mol.rows ≡ true → rows_sound mol.rows mol.atoms ≡ true →
-      well_formed mol ≡ eqb (ones_of mol.rows) (2 * mol.bonds)
-  unfolding well_formed
-  rule-in-range bytes e =
-      rw (
-        le-leb mol.atoms 128 hn,
-        le-leb mol.bonds 1024 hm,
-        bytes,
-        rows-rules mol.rows mol.atoms,
-        e,
-      )
+  pub rule-counts :
+      rows_of_bytes mol.rows ≡ true → tests_kept ≡ true → well_formed mol ≡ eqb (ones_of mol.rows) (2 * mol.bonds)
+  rule-counts bytes e =
+      let (ranges, sound) = and_parts (leb mol.atoms 128 && leb mol.bonds 1024) (rows_sound mol.rows mol.atoms) e in
+      let (few, light) = and_parts (leb mol.atoms 128) (leb mol.bonds 1024) ranges in
+      rule-in-range mol (leb-true mol.atoms 128 few) (leb-true mol.bonds 1024 light) bytes sound

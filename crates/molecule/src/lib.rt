@@ -6,9 +6,10 @@ ghost use Rattle.molecule.specs.Record.{is_atom, cell, fresh_molecule, neighbour
 ghost use Rattle.molecule.specs.Ends.{ends_answer};
 ghost use Rattle.molecule.specs.Parts.{mirrored, bit_sound, byte_sound, rows_sound, CountedOnes};
 
-use refusal::{Answer, Refusal};
+use refusal::Refusal;
 
 // Atoms, bonds, and for each of 128 atoms a row of 16 bytes.
+// Document 01 names the rows; the memory is fixed.
 #[derive(Clone, Copy)]
 pub struct Molecule {
     pub atoms: usize,
@@ -17,13 +18,14 @@ pub struct Molecule {
 }
 
 // No atoms and no bonds.
+#[tactic(auto, unfolding(crate::specs::Record::fresh_molecule))]
 pub fn fresh() -> Molecule
     ensures { result ≡ fresh_molecule }
 {
     Molecule {
         atoms: 0,
         bonds: 0,
-        rows: [0u8; 2048],
+        rows: [0; 2048],
     }
 }
 
@@ -31,29 +33,25 @@ pub fn fresh() -> Molecule
 pub fn is_atom(n: usize, a: usize) -> bool
     ensures { result ≡ is_atom n a }
 {
-    if a < 1 {
-        return false;
-    }
-    a <= n
+    1 <= a && a <= n
 }
 
 // Rules 10 and 11 of the ends of a path: s and t are atoms, and differ.
-pub fn check_ends(n: usize, s: usize, t: usize) -> Answer
+#[tactic(auto, unfolding(crate::specs::Ends::with_ends))]
+pub fn check_ends(n: usize, s: usize, t: usize) -> Result<(), Refusal>
     ensures { result ≡ ends_answer n s t }
 {
-    if !is_atom(n, s) {
-        return Answer::Refused(Refusal::PathEnd);
-    }
-    if !is_atom(n, t) {
-        return Answer::Refused(Refusal::PathEnd);
+    if !is_atom(n, s) || !is_atom(n, t) {
+        return Err(Refusal::PathEnd);
     }
     if s == t {
-        return Answer::Refused(Refusal::SameEnds);
+        return Err(Refusal::SameEnds);
     }
-    Answer::Accepted
+    Ok(())
 }
 
 // Whether row i has the bit of column j; atoms counted from 0.
+#[tactic(auto, unfolding(crate::specs::Record::cell))]
 pub fn linked(rows: &[u8; 2048], i: usize, j: usize) -> bool
     requires { (i < 128) × (j < 128) }
     ensures { result ≡ cell rows.now i j }
@@ -62,31 +60,21 @@ pub fn linked(rows: &[u8; 2048], i: usize, j: usize) -> bool
 }
 
 // Whether a bit in row i and column j is allowed and has its mirror image.
+#[tactic(auto, unfolding(crate::specs::Parts::mirrored))]
 fn is_mirrored(rows: &[u8; 2048], n: usize, i: usize, j: usize) -> bool
     requires { (i < 128) × (j < 128) }
     ensures { result ≡ mirrored rows.now n i j }
 {
-    if n <= i {
-        return false;
-    }
-    if n <= j {
-        return false;
-    }
-    if i == j {
-        return false;
-    }
-    linked(rows, j, i)
+    i < n && j < n && i != j && linked(rows, j, i)
 }
 
 // Whether bit k of the byte at `at` is clear, or is allowed and has its mirror image.
+#[tactic(auto, unfolding(crate::specs::Parts::bit_sound))]
 fn bit_sound(rows: &[u8; 2048], n: usize, at: usize, k: usize) -> bool
     requires { (at < 2048) × (k < 8) }
     ensures { result ≡ bit_sound rows.now n at k }
 {
-    if (rows[at] >> k) % 2 != 1 {
-        return true;
-    }
-    is_mirrored(rows, n, at / 16, at % 16 * 8 + k)
+    (rows[at] >> k) % 2 != 1 || is_mirrored(rows, n, at / 16, at % 16 * 8 + k)
 }
 
 // The same of each bit of the byte.
@@ -94,31 +82,14 @@ fn byte_sound(rows: &[u8; 2048], n: usize, at: usize) -> bool
     requires { at < 2048 }
     ensures { result ≡ byte_sound rows.now n at }
 {
-    if rows[at] == 0 {
-        return true;
-    }
-    let mut k: usize = 0;
-    while k < 8 {
-        if !bit_sound(rows, n, at, k) {
-            return false;
-        }
-        k += 1;
-    }
-    true
+    rows[at] == 0 || (0..8).all(|k| bit_sound(rows, n, at, k))
 }
 
 // Whether the rows are symmetric, with no atom bonded to itself and no bit beyond n.
 fn rows_sound(rows: &[u8; 2048], n: usize) -> bool
     ensures { result ≡ rows_sound rows.now n }
 {
-    let mut at: usize = 0;
-    while at < 2048 {
-        if !byte_sound(rows, n, at) {
-            return false;
-        }
-        at += 1;
-    }
-    true
+    (0..2048).all(|at| byte_sound(rows, n, at))
 }
 
 // How many bits of rows are one.
@@ -126,13 +97,7 @@ fn ones_of(rows: &[u8]) -> usize
     requires { length rows.now ≤ 2048 }
     ensures { CountedOnes rows.now result }
 {
-    let mut sum: usize = 0;
-    let mut i: usize = 0;
-    while i < rows.len() {
-        sum += u8::count_ones(rows[i]) as usize;
-        i += 1;
-    }
-    sum
+    rows.iter().map(|b| b.count_ones() as usize).sum()
 }
 
 // How many neighbours the atom of row i has, counted from 0.
@@ -141,25 +106,15 @@ pub fn neighbours(rows: &[u8], i: usize) -> usize
     ensures { result ≡ neighbours rows.now i }
 {
     let at = 16 * i;
-    let end = at + 16;
-    ones_of(&rows[at..end])
+    ones_of(&rows[at..at + 16])
 }
 
 // Rule 9: whether a molecule record follows every rule of its section.
 pub fn well_formed(m: Molecule) -> bool
     ensures { result ≡ well_formed m }
 {
-    let n = m.atoms;
-    let rows = m.rows;
-    if 128 < n {
-        return false;
-    }
-    let bonds = m.bonds;
-    if 1024 < bonds {
-        return false;
-    }
-    if !rows_sound(&rows, n) {
-        return false;
-    }
-    ones_of(&rows) == 2 * bonds
+    m.atoms <= 128
+        && m.bonds <= 1024
+        && rows_sound(&m.rows, m.atoms)
+        && ones_of(&m.rows) == 2 * m.bonds
 }

@@ -1,68 +1,39 @@
-// The refusals of document 01 ("Turned back by number") and of the requests of document 02, one variant a rule.
+// The refusals of document 01 ("Turned back by number") and of the requests of document 02, a variant and its number a
+// rule.
 #![tactic(auto)]
 
 ghost use Rattle.std.specs.Prelude.{◌≡◌};
 ghost use Rattle.refusal.specs.Number.{number_of};
 
-#[derive(Clone, Copy)]
+#[derive(Clone, Copy, Debug, PartialEq, Eq)]
 pub enum Refusal {
-    SheetLength,
-    SheetBytes,
-    TooManyAtoms,
-    TooManyBonds,
-    SheetSize,
-    BondAtom,
-    SelfBond,
-    RepeatedBond,
-    Record,
-    PathEnd,
-    SameEnds,
-    Search,
-    MarkRoom,
-    MarkBytes,
-    MarkMolecule,
-    MarkKind,
-    MarkPlace,
-    MolfileLines,
-    UnknownSymbol,
-    TooManyNeighbours,
-    RingSize,
-    TooManyPaths,
-}
-
-// The answer of an entry that makes a record or a search, and of rules 10 and 11.
-#[derive(Clone, Copy)]
-pub enum Answer {
-    Accepted,
-    Refused(Refusal),
+    SheetLength = 1,
+    SheetBytes = 2,
+    TooManyAtoms = 3,
+    TooManyBonds = 4,
+    SheetSize = 5,
+    BondAtom = 6,
+    SelfBond = 7,
+    RepeatedBond = 8,
+    Record = 9,
+    PathEnd = 10,
+    SameEnds = 11,
+    Search = 12,
+    MarkRoom = 13,
+    MarkBytes = 14,
+    MarkMolecule = 15,
+    MarkKind = 16,
+    MarkPlace = 17,
+    MolfileLines = 18,
+    UnknownSymbol = 19,
+    TooManyNeighbours = 20,
+    RingSize = 21,
+    TooManyPaths = 26,
 }
 
 // The rule's number.
 pub fn number(r: Refusal) -> u32
     ensures { result ≡ number_of r }
 {
-    match r {
-        Refusal::SheetLength => 1,
-        Refusal::SheetBytes => 2,
-        Refusal::TooManyAtoms => 3,
-        Refusal::TooManyBonds => 4,
-        Refusal::SheetSize => 5,
-        Refusal::BondAtom => 6,
-        Refusal::SelfBond => 7,
-        Refusal::RepeatedBond => 8,
-        Refusal::Record => 9,
-        Refusal::PathEnd => 10,
-        Refusal::SameEnds => 11,
-        Refusal::Search => 12,
-        Refusal::MarkRoom => 13,
-        Refusal::MarkBytes => 14,
-        Refusal::MarkMolecule => 15,
-        Refusal::MarkKind => 16,
-        Refusal::MarkPlace => 17,
-        Refusal::MolfileLines => 18,
-        Refusal::UnknownSymbol => 19,
-        Refusal::TooManyNeighbours => 20,
-        Refusal::RingSize => 21,
-        Refusal::TooManyPaths => 26,
-    }
+    r as u32
 }

@@ -1,111 +1,73 @@
 -- Rule 8, and the rows of the bonds.
 -- Invariant: the rows are those of the bonds passed, none of them twice; a set bit is a bond listed before.
-use Prim.Native.Nat.{ℕ, ◌-◌}
-use mathlib.Core.Path.{◌≡◌, refl, sym, ◌∙◌}
-use lib.ListN.{length}
-use native.Mathlib.Omega.{arith}
-use Rattle.molecule.specs.Record.{cell}
-use Rattle.bonds.specs.Parts.{stored_bond}
-use Rattle.bonds.proofs.Stored.{left, right, bond-read}
+use Rattle.std.proofs.Common.{◌∙◌, sym, refl, arith, length}
+use Rattle.bonds.specs.Parts.{listed}
 use Rattle.bonds.proofs.Tables.{kept_of}
 use Rattle.bonds.proofs.Answers.{bonds-twice}
-use Rattle.bonds.proofs.Filling.{AtBond, filled_none, filled_more, filled-all, rows-size}
-use Rattle.bonds.proofs.Filling.{atom-range, twice_found}
-use Rattle.bonds.proofs.fill.Lts as lts
-use Rattle.bonds.proofs.fill.Reads as reads
-use Rattle.bonds.proofs.fill.Tie as tie
+use Rattle.bonds.proofs.Filling.{AtBond, filled_none, filled_more, filled-all, rows-size, atom-range, twice_found}
 use Rattle.bonds.proofs.fill.Goals as goal
+use Rattle.bonds.proofs.fill.Goals.{After-from}
 
--- what is known at a place of the function
-abbrev Place : (lts.Claims → lts.Pre-type → lts.Post-type → lts.invariant-loop → lts.decreases-loop → Type 0) → Type 0
-Place place = place tie.the-claims reads.Pre reads.Post goal.the-invariant-loop-k goal.the-decreases-loop-k
-
--- ---- what is known there
-
--- the bond of the turn c has the atoms a and b
-abbrev Here : Place lts.In-loop → ℕ → ℕ → Type 0
-Here c a b =
-    let args = c.args in
-    let loop = c.loop-k in
-    AtBond args.n (stored_bond args.values.now) args.m loop.k loop.rows a b
-
--- its two numbers in the array are a and b
-abbrev Stored : Place lts.In-loop → ℕ → ℕ → Type 0
-Stored c a b =
-    let values = c.args.values.now in
-    let k = c.loop-k.k in
-    (a ≡ left values k) × (b ≡ right values k)
-
-at_turn : (c : Place lts.In-loop) {a b : ℕ} → Stored c a b → Here c a b
-at_turn c stored =
-    let pre = c.requires in
+-- the turn is at a bond
+turn :
+    (c : After-from) →
+    let bonds = c.args.bonds.now in
+    let x = listed bonds c.loop-left.left-index in
+    AtBond c.args.n (listed bonds) (length bonds) c.loop-left.left-index c.loop-left.rows x.0 x.1
+turn c =
     record {
-      kept = kept_of pre.fits.few pre.atoms pre.apart;
-      filled = c.loop-k.invariant;
-      more = c.loop-k-test.true;
-      atoms = bond-read _ _ ∙ rw (stored.0, stored.1);
+      kept = kept_of c.requires.few c.requires.atoms c.requires.apart;
+      filled = c.loop-left.invariant;
+      more = c.loop-left-test.true;
+      atoms = refl;
     }
 
--- from where the bond's atoms are read to where the turn begins
-abbrev turn : Place lts.After-u16_usize2 → Place lts.In-loop
-turn c = c.before.before.before.before
-
-at_read : (c : Place lts.After-u16_usize2) → Here (turn c) c.u16_usize-i.result c.u16_usize-j.result
-at_read c = at_turn (turn c) (c.u16_usize-i.ensures.same, c.u16_usize-j.ensures.same)
-
-size : (c : Place lts.After-linked) → length c.loop-k.rows ≡ 2048
-size c = let here = at_read c.before.before in rows-size here.filled here.kept
-
--- the cell that is looked at is the bond's
-cell-told :
-    (c : Place lts.After-linked) →
-    let a = c.u16_usize-i.result in
-    let b = c.u16_usize-j.result in
-    cell c.loop-k.rows (a - 1) (b - 1) ≡ c.linked.result
-cell-told c = sym c.linked.ensures
-
-pub loop-k-init : goal.loop-k-init
-loop-k-init c = filled_none
+pub loop-left-init : goal.loop-left-init
+loop-left-init c = filled_none
 
 pub overflow_sub-i : goal.overflow_sub-i
-overflow_sub-i c = (atom-range (at_turn (search) (c.u16_usize-i.ensures.same, refl))).0
+overflow_sub-i c = rw c.from.ensures (atom-range (turn (goal.at.overflow_sub-i c).After-from)).0
 
 pub overflow_sub-j : goal.overflow_sub-j
-overflow_sub-j c = (atom-range (at_read (search))).2
+overflow_sub-j c = rw c.from-in-loop-left.ensures (atom-range (turn (goal.at.overflow_sub-j c).After-from)).2
 
 pub linked-requires : goal.linked-requires
-linked-requires c = omega (arith, atom-range (at_read (search)))
+linked-requires c =
+    let range = atom-range (turn (goal.at.linked-requires c).After-from) in
+    omega (arith, c.from.ensures, c.from-in-loop-left.ensures)
 
 pub returns-then-linked : goal.returns-then-linked
 returns-then-linked c =
-    let twice = twice_found (at_read (search)) (cell-told (search) ∙ c.if-linked.true) in
-    c.refused.ensures ∙ sym (bonds-twice _ _ _ c.requires.atoms c.requires.apart twice)
-
-pub slice_bounds-link-end : goal.slice_bounds-link-end
-slice_bounds-link-end c = sym (size (search))
+    let told = rw (c.from.ensures, c.from-in-loop-left.ensures) at c.linked.ensures in
+    let twice = twice_found (turn (goal.at.returns-then-linked c).After-from) (sym told ∙ c.if-linked.true) in
+    sym (bonds-twice _ _ _ c.requires.atoms c.requires.apart twice)
 
 pub link-requires : goal.link-requires
 link-requires c =
-    let range = atom-range (at_read (search)) in
-    record { row_fits = omega arith; column_fits = omega arith; size = size (search) }
+    let at = turn (goal.at.link-requires c).After-from in
+    let range = atom-range at in
+    record {
+      row_fits = omega (arith, c.from.ensures);
+      column_fits = omega (arith, c.from-in-loop-left.ensures);
+      size = rows-size at.filled at.kept;
+    }
 
--- the rows are as long after the first link
-size-kept : (c : Place lts.After-link) → length c.link.new.rows ≡ 2048
-size-kept c = c.link.auto.rows ∙ size (search)
+pub link-requires-in-loop-left : goal.link-requires-in-loop-left
+link-requires-in-loop-left c =
+    let at = turn (goal.at.link-requires-in-loop-left c).After-from in
+    let range = atom-range at in
+    record {
+      row_fits = omega (arith, c.from-in-loop-left.ensures);
+      column_fits = omega (arith, c.from.ensures);
+      size = c.link.auto.rows ∙ rows-size at.filled at.kept;
+    }
 
-pub slice_bounds-link-end-in-loop-k : goal.slice_bounds-link-end-in-loop-k
-slice_bounds-link-end-in-loop-k c = sym (size-kept (search))
-
-pub link-requires-in-loop-k : goal.link-requires-in-loop-k
-link-requires-in-loop-k c =
-    let range = atom-range (at_read (search)) in
-    record { row_fits = omega arith; column_fits = omega arith; size = size-kept (search) }
-
-pub loop-k-preserved : goal.loop-k-preserved
-loop-k-preserved c =
-    let clear = cell-told (search) ∙ c.if-linked.false in
-    filled_more (at_read (search)) clear c.link.ensures c.link-in-loop-k.ensures
+pub loop-left-preserved : goal.loop-left-preserved
+loop-left-preserved c =
+    let told = rw (c.from.ensures, c.from-in-loop-left.ensures) at c.linked.ensures in
+    let first = rw (c.from.ensures, c.from-in-loop-left.ensures) at c.link.ensures in
+    let second = rw (c.from.ensures, c.from-in-loop-left.ensures) at c.link-in-loop-left.ensures in
+    filled_more (turn (goal.at.loop-left-preserved c).After-from) (sym told ∙ c.if-linked.false) first second
 
 pub returns : goal.returns
-returns c =
-    filled-all c.loop-k.invariant c.requires.atoms c.requires.apart c.loop-k-test.false
+returns c = filled-all c.loop-left.invariant c.requires.atoms c.requires.apart c.loop-left-test.false

@@ -1,13 +1,8 @@
 -- The digits that follow: the loop reads on exactly as `digits` does.
 -- Invariant: what is left to read, with the value so far, is what was to be read at the start.
-use Prim.Native.Nat.{◌-◌}
-use mathlib.Core.Path.{◌≡◌}
-use lib.ListN.{length, drop}
+use Rattle.std.proofs.Common.{◌≡◌, drop}
 use Rattle.fields.specs.Field.{digits}
 use Rattle.fields.proofs.more_digits.Given as goal
 
-abbrev pub invariant-loop-i : goal.invariant-loop-i
-invariant-loop-i l = digits l.zeros l.v (drop l.i l.s) ≡ digits l.zeros l.first (drop l.from l.s)
-
-abbrev pub decreases-loop-i : goal.decreases-loop-i
-decreases-loop-i l = length l.s - l.i
+abbrev pub invariant-loop-b : goal.invariant-loop-b
+invariant-loop-b l = digits l.zeros l.value (drop l.b-index l.s) ≡ digits l.zeros l.first l.s

@@ -1,26 +1,19 @@
 -- Every bit of a byte; a zero byte at once.
--- Invariant: the bits passed are sound.
-use mathlib.Core.Path.{sym}
-use Rattle.molecule.specs.Parts.{byte_sound}
-use Rattle.molecule.proofs.Checks.{zero-byte}
-use Rattle.graph.proofs.Passed.{none_passed, told-fails, told_more, all-passed}
+-- `all` over the places of its bits is `all_below`.
+use Rattle.std.proofs.Common.{◌∙◌, rules, tests, sym, refl}
+use Rattle.std.proofs.lemmas.Iterator.{YieldsList-from_range}
+use Rattle.std.proofs.lemmas.Iterator.Search.{all_from_yields_List}
+use Rattle.molecule.specs.Parts.{bit_sound, byte_sound}
+use Rattle.molecule.proofs.Checks.{zero-byte, all-range}
 use Rattle.molecule.proofs.byte_sound.Goals as goal
 
 pub returns-then-rows-at-eq0 : goal.returns-then-rows-at-eq0
-returns-then-rows-at-eq0 c = sym (zero-byte _ _ _ c.if-rows-at-eq0.true)
+returns-then-rows-at-eq0 c = simp c.if-rows-at-eq0.true (sym (zero-byte _ _ _ c.if-rows-at-eq0.true))
 
-pub loop-k-init : goal.loop-k-init
-loop-k-init c = none_passed
-
-pub returns-then-not-bit_sound : goal.returns-then-not-bit_sound
+pub returns-else-rows-at-eq0 : goal.returns-else-rows-at-eq0
 unfolding byte_sound
-returns-then-not-bit_sound c =
-    told-fails c.loop-k.invariant c.loop-k-test.true c.bit_sound.ensures c.if-not-bit_sound.true-raw
-
-pub loop-k-preserved : goal.loop-k-preserved
-loop-k-preserved c =
-    told_more c.loop-k.invariant c.loop-k-test.true c.bit_sound.ensures c.if-not-bit_sound.false-raw
-
-pub returns : goal.returns
-unfolding byte_sound
-returns c = all-passed c.loop-k.invariant c.loop-k-test.false
+returns-else-rows-at-eq0 c =
+    let test = bit_sound c.args.rows.now c.args.n c.args.at in
+    all_from_yields_List test _ _ _ c.all.ensures.ran (YieldsList-from_range 0 8 8 refl refl)
+    (λ x b q k. search (rules, tests))
+    ∙ all-range test 8
