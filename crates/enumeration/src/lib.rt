@@ -4,22 +4,17 @@
 ghost use Rattle.std.specs.Prelude.{◌≡◌};
 ghost use Rattle.enumeration.specs.Run.{stop_number};
 
-#[derive(Clone, Copy)]
+#[derive(Clone, Copy, Debug, PartialEq, Eq)]
 pub enum Stop {
-    Done,
-    Limit,
-    Spent,
-    Full,
+    Done = 101,
+    Limit = 102,
+    Spent = 103,
+    Full = 104,
 }
 
 // The stop's number.
 pub fn stop_number(stop: Stop) -> u32
     ensures { result ≡ stop_number stop }
 {
-    match stop {
-        Stop::Done => 101,
-        Stop::Limit => 102,
-        Stop::Spent => 103,
-        Stop::Full => 104,
-    }
+    stop as u32
 }

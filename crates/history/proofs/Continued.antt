@@ -1,15 +1,20 @@
 -- Calls that begin anew with the search as it stands go on with the list: the past calls and they are one history.
 -- What a call does to the search does not depend on the ring sheet and the trials that were there before.
+use Rattle.std.specs.Prelude.{Err, Ok, Result}
 use Prim.Native.Nat.{ℕ, ◌+◌}
-use native.Mathlib.Nat.{add-zero, add_assoc}
+use native.Mathlib.Nat.{add-zero}
+use native.Mathlib.Omega.{arith}
 use mathlib.Core.Path.{◌≡◌, refl, sym, ap, ◌∙◌}
 use mathlib.Core.Logic.{inl, inr}
-use mathlib.Core.Bool.{Bool, true, false, cond}
 use mathlib.Core.List.{List, [], ◌∷◌, ◌++◌, append_assoc, append-nil}
 use lib.ListN.{take}
 use Rattle.molecule.specs.declared.Molecule.{Molecule}
+use Rattle.refusal.specs.declared.Refusal.{Refusal}
+use Rattle.search.specs.declared.Search.{Search}
+use Rattle.search.specs.declared.Ran.{Ran}
 use Rattle.search.specs.Entries.{run_search, run_output}
-use Rattle.history.specs.Calls.{Call, runs, saves, restores, Standing, refused, after_accepted, after_call}
+use Rattle.search.specs.Mark.{restore_mark}
+use Rattle.history.specs.Calls.{Call, runs, saves, restores, Standing, after_run, after_restore, after_call}
 use Rattle.history.specs.Calls.{standing, Allowed, History}
 use Rattle.history.specs.Resumed.{restored_start}
 use Rattle.history.proofs.Joined.{standing-joined, history-joined}
@@ -21,32 +26,30 @@ record Behind (sheet : List ℕ) (made : ℕ) (x y : Standing) : Type 0 where
   made_is : x.made ≡ made + y.made
 
 module _ {sheet : List ℕ} {made : ℕ} where
-  by-refusal :
-      {x y x' y' : Standing} (t : Bool) → Behind sheet made x y → Behind sheet made x' y' →
-      Behind sheet made (cond t x x') (cond t y y')
-  by-refusal true before after = before
-  by-refusal false before after = after
-
-  behind-accepted :
-      {x y : Standing} (call : Call) → Behind sheet made x y →
-      Behind sheet made (after_accepted x call) (after_accepted y call)
-  unfolding after_accepted
-  behind-accepted {x} {y} (runs mol q budget out) b =
-      let r = run_search mol q budget out in
-      let more = take r.used (run_output mol q budget out) in
+  behind-run :
+      {x y : Standing} (out : List ℕ) (answer : Result Ran Refusal) → Behind sheet made x y →
+      Behind sheet made (after_run x out answer) (after_run y out answer)
+  behind-run {x} {y} out (Ok r) b =
+      let more = take r.used out in
       record {
         same_search = refl;
         sheet_is = ap (λ l. l ++ more) b.sheet_is ∙ append_assoc sheet y.sheet more;
-        made_is = ap (λ k. k + r.made) b.made_is ∙ add_assoc made y.made r.made;
+        made_is = omega (arith, b.made_is);
       }
-  behind-accepted (saves mol q buffer) b = b
-  behind-accepted (restores mol mark) b =
-      record { same_search = refl; sheet_is = b.sheet_is; made_is = b.made_is }
+  behind-run out (Err r) b = b
+
+  behind-restored :
+      {x y : Standing} (answer : Result Search Refusal) → Behind sheet made x y →
+      Behind sheet made (after_restore x answer) (after_restore y answer)
+  behind-restored (Ok q) b = record { same_search = refl; sheet_is = b.sheet_is; made_is = b.made_is }
+  behind-restored (Err r) b = b
 
   behind-call :
       {x y : Standing} (call : Call) → Behind sheet made x y → Behind sheet made (after_call x call) (after_call y call)
   unfolding after_call
-  behind-call call b = by-refusal (refused call) b (behind-accepted call b)
+  behind-call (runs mol q budget out) b = behind-run (run_output mol q budget out) (run_search mol q budget out) b
+  behind-call (saves mol q buffer) b = b
+  behind-call (restores mol mark) b = behind-restored (restore_mark mol mark) b
 
   behind-standing :
       {x y : Standing} (calls : List Call) → Behind sheet made x y →

@@ -1,5 +1,6 @@
 -- Demand 3 for rings, paths, rings up to a size and shortest paths, each from the search that its start entry returns.
 -- Instances of `demand3`: rule 16 takes kind 0, kinds 1 and 3 with s and t by rules 10 and 11, kind 2 with s by 21.
+use Rattle.std.specs.Prelude.{Ok}
 use Prim.Native.Nat.{ℕ}
 use mathlib.Core.Path.{◌≡◌, refl, sym, ap, ◌∙◌}
 use mathlib.Core.Bool.{true}
@@ -13,7 +14,7 @@ use Rattle.molecule.specs.declared.Molecule.{Molecule}
 use Rattle.molecule.specs.Record.{well_formed, bonded}
 use Rattle.molecule.proofs.Bonds.{rule9}
 use Rattle.search.specs.Place.{lists_paths, family_in, family_of, ends_kept, bound_kept, kind_kept}
-use Rattle.search.specs.Entries.{accepted_search, start_rings, start_paths, start_shortest, start_rings_up_to}
+use Rattle.search.specs.Entries.{start_rings, start_paths, start_shortest, start_rings_up_to}
 use Rattle.search.proofs.Readings.{all-sizes, kind-of, ends-facts}
 use Rattle.search.proofs.Starts.{is-rings, is-paths, is-shortest, is-size}
 use Rattle.search.proofs.Accepts.{kept-starts}
@@ -74,22 +75,22 @@ bounded-kept n k bound = kind-of n 2 k 0 (inr (inr (refl, bound, refl)))
 
 -- The start of a history is what the start entries return: a start that rule 16 allows is accepted
 module _ (R : Molecule) (good : well_formed R ≡ true) where
-  pub rings-start : start_rings R ≡ accepted_search (start 0 0 0).search
+  pub rings-start : start_rings R ≡ Ok (start 0 0 0).search
   unfolding start
   rings-start = sym (is-rings R) ∙ kept-starts R 0 0 0 good (rings_kept R.atoms)
 
   pub paths-start :
-      (s t : ℕ) → ends_kept R.atoms s t ≡ true → start_paths R s t ≡ accepted_search (start 1 s t).search
+      (s t : ℕ) → ends_kept R.atoms s t ≡ true → start_paths R s t ≡ Ok (start 1 s t).search
   unfolding start
   paths-start s t ends = sym (is-paths R s t) ∙ kept-starts R 1 s t good (paths-kept R.atoms 1 s t refl ends)
 
   pub shortest-start :
-      (s t : ℕ) → ends_kept R.atoms s t ≡ true → start_shortest R s t ≡ accepted_search (start 3 s t).search
+      (s t : ℕ) → ends_kept R.atoms s t ≡ true → start_shortest R s t ≡ Ok (start 3 s t).search
   unfolding start
   shortest-start s t ends =
       sym (is-shortest R s t) ∙ kept-starts R 3 s t good (paths-kept R.atoms 3 s t refl ends)
 
-  pub bounded-start : (k : ℕ) → bound_kept k ≡ true → start_rings_up_to R k ≡ accepted_search (start 2 k 0).search
+  pub bounded-start : (k : ℕ) → bound_kept k ≡ true → start_rings_up_to R k ≡ Ok (start 2 k 0).search
   unfolding start
   bounded-start k bound = sym (is-size R k) ∙ kept-starts R 2 k 0 good (bounded-kept R.atoms k bound)
 

@@ -1,5 +1,6 @@
 -- What runs, saves and restores answer when they are handed the search at a state: a run is the run of that state.
 -- From the definitions, rules 9 and 12 being kept.
+use Rattle.std.specs.Prelude.{Ok}
 use Prim.Native.Nat.{ℕ, ◌+◌, ◌≤◌}
 use native.Mathlib.Omega.{arith}
 use mathlib.Core.Path.{◌≡◌, refl, ap, ◌∙◌}
@@ -14,7 +15,6 @@ use Rattle.molecule.specs.declared.Molecule.{Molecule}
 use Rattle.molecule.specs.Record.{well_formed}
 use Rattle.search.specs.declared.Search.{Search}
 use Rattle.search.specs.declared.Ran.{Ran}
-use Rattle.search.specs.declared.Ended.TheVariants.{Stopped}
 use Rattle.search.specs.Place.{family_of, state_of, held, search_at, restorable}
 use Rattle.search.specs.Entries.{outcome, ran, run_search, run_output}
 use Rattle.search.specs.Mark.{mark_text, save_output}
@@ -24,7 +24,7 @@ use Rattle.history.specs.Calls.{Standing}
 -- what the run of a state returns for a search of a kind, s and t
 abbrev pub ran_at : ℕ → ℕ → ℕ → Outcome → Ran
 ran_at kind s t o = record {
-  ended = Stopped o.stop;
+  stop = o.stop;
   search = search_at kind s t o.state;
   used = length o.bytes;
   made = o.made;
@@ -51,7 +51,7 @@ prefix-size kind s t st h =
 module _ (R : Molecule) (good : well_formed R ≡ true) where
   run-answers :
       (q : Search) (budget : ℕ) (out : List ℕ) → restorable R q ≡ true →
-      run_search R q budget out ≡ ran q (outcome R q budget out)
+      run_search R q budget out ≡ Ok (ran q (outcome R q budget out))
   unfolding run_search
   run-answers q budget out e = rw (good, e)
 
@@ -84,11 +84,10 @@ module _ (R : Molecule) (good : well_formed R ≡ true) where
     pub run_at :
         (budget : ℕ) (out : List ℕ) →
         run_search R (search_at kind s t st) budget out ≡
-        ran_at kind s t (run (family_of R kind s t) budget (length out) st)
+        Ok (ran_at kind s t (run (family_of R kind s t) budget (length out) st))
     run_at budget out =
         run-answers (search_at kind s t st) budget out passes ∙
-        ran-at (outcome R (search_at kind s t st) budget out) ∙
-        ap (ran_at kind s t) (outcome-at budget out)
+        ap Ok (ran-at (outcome R (search_at kind s t st) budget out) ∙ ap (ran_at kind s t) (outcome-at budget out))
 
     pub wrote_at :
         (budget : ℕ) (out : List ℕ) →

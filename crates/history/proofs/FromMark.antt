@@ -1,5 +1,6 @@
 -- Calls from any accepted mark list the members that follow its place, first to last, and once done exactly those.
 -- What stands is the search of the mark after the trials made (`Reached`): the theory of valid searches says the rest.
+use Rattle.std.specs.Prelude.{Ok}
 use Prim.Native.Nat.{ℕ, ◌+◌, ◌-◌, ◌≤◌}
 use native.Mathlib.Omega.{arith}
 use mathlib.Core.Path.{◌≡◌, refl, sym, ap, ◌∙◌}
@@ -19,7 +20,6 @@ use Rattle.molecule.specs.declared.Molecule.{Molecule}
 use Rattle.molecule.specs.Record.{well_formed}
 use Rattle.search.specs.declared.Search.{Search}
 use Rattle.search.specs.Place.{family, beginning, state_of, search_at, kind_kept, restorable}
-use Rattle.search.specs.Entries.{accepted_search}
 use Rattle.search.specs.declared.Form.{Form}
 use Rattle.search.specs.declared.Form.TheVariants.{New}
 use Rattle.search.specs.Mark.{restore_mark}
@@ -193,7 +193,7 @@ module _ (R : Molecule) (q : Search) (good : well_formed R ≡ true) (passes : r
 
 -- Over every mark in either form that a restore accepts, and every list of calls from it
 pub form-from-mark :
-    (form : Form) (R : Molecule) (mark : List ℕ) (q : Search) → restore_in form R mark ≡ accepted_search q →
+    (form : Form) (R : Molecule) (mark : List ℕ) (q : Search) → restore_in form R mark ≡ Ok q →
     (calls : List Call) → History R (restored_start q) calls →
     FromMark R q calls (standing (restored_start q) calls)
 form-from-mark form R mark q e =
@@ -202,7 +202,7 @@ form-from-mark form R mark q e =
 
 -- and of a new mark
 pub from_mark :
-    (R : Molecule) (mark : List ℕ) (q : Search) → restore_mark R mark ≡ accepted_search q →
+    (R : Molecule) (mark : List ℕ) (q : Search) → restore_mark R mark ≡ Ok q →
     (calls : List Call) → History R (restored_start q) calls →
     FromMark R q calls (standing (restored_start q) calls)
 from_mark = form-from-mark New

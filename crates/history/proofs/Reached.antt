@@ -1,13 +1,14 @@
 -- What stands after any list of calls is the search that they began with after as many trials as were made, and the
 -- sheet what those trials list. By induction on the list: a run makes trials, every other call leaves all as it was.
+use Rattle.std.specs.Prelude.{Err, Ok, Result, is_err}
 use Prim.Native.Nat.{ℕ, ◌+◌, ◌≤◌}
 use native.Mathlib.Omega.{arith}
 use mathlib.Core.Path.{◌≡◌, refl, sym, ap, ◌∙◌}
 use mathlib.Core.Logic.{◌⊎◌, inl, inr}
-use mathlib.Core.Bool.{Bool, true, false, ◌||◌, cond, or-false, or_assoc}
+use mathlib.Core.Bool.{Bool, true, false, ◌||◌, or-false, or_assoc}
 use mathlib.Core.List.{List, [], ◌∷◌}
 use lib.ListN.{length, take}
-use Rattle.graph.proofs.Below.{clash, false_of}
+use Rattle.graph.proofs.Below.{clash}
 use Rattle.enumeration.specs.declared.Stop.{Stop}
 use Rattle.enumeration.specs.declared.Stop.TheVariants.{Done, Limit, Spent, Full}
 use Rattle.enumeration.specs.Machine.{State, is_done}
@@ -22,17 +23,18 @@ use Rattle.molecule.specs.declared.Molecule.{Molecule}
 use Rattle.molecule.specs.Record.{well_formed}
 use Rattle.molecule.proofs.Bonds.{rule9}
 use Rattle.search.specs.declared.Search.{Search}
-use Rattle.search.specs.declared.Ended.{Ended}
-use Rattle.search.specs.declared.Ended.TheVariants as ended
+use Rattle.search.specs.declared.Ran.{Ran}
 use Rattle.search.proofs.MarkLaws.{saved-restores}
 use Rattle.search.proofs.Readings.{family-atoms, family-lawful}
 use Rattle.search.proofs.Views.{state-search, valid-restorable}
 use Rattle.search.specs.Place.{family_of, state_of, search_at, kind_kept, restorable}
-use Rattle.search.specs.Entries.{accepted_search, run_search, run_output}
+use Rattle.search.specs.Entries.{run_search, run_output}
 use Rattle.search.specs.Mark.{mark_text, restore_mark}
-use Rattle.history.specs.Calls.{Call, runs, saves, restores, Standing, run_refused, refused, after_accepted, after_call, standing, Handed, Allowed, History, is_done_stop, ended_done, says_done, said_done}
+use Rattle.history.specs.Calls.{Call, runs, saves, restores, Standing, refused, after_call, standing, Handed, Allowed, History, is_done_stop, ran_done, says_done, said_done}
+use Rattle.history.specs.Calls as calls
 use Rattle.history.specs.Resumed.{restored_start}
 use Rattle.history.proofs.Entered.{ran_at, moved_by, prefix-size, run_at, wrote_at}
+use Rattle.refusal.specs.declared.Refusal.{Refusal}
 
 -- the search of a kind, s and t, k trials after the state that it began with
 abbrev pub state_at : Molecule → ℕ → ℕ → ℕ → State → ℕ → State
@@ -49,34 +51,41 @@ pub record Reached (R : Molecule) (kind s t : ℕ) (origin : State) (said : Bool
 
 -- ---- calls that change nothing
 
--- a run that says done is not refused
-done-accepted : (e : Ended) → ended_done e ≡ true → run_refused e ≡ true → ⊥
-done-accepted (ended.Stopped why) d r = clash false r refl
-done-accepted (ended.Refused r) d f = clash false d refl
-
 stop-done : (why : Stop) → is_done_stop why ≡ true → why ≡ Done
 stop-done Done e = refl
 stop-done Limit e = absurd (clash false e refl)
 stop-done Spent e = absurd (clash false e refl)
 stop-done Full e = absurd (clash false e refl)
 
-cond_same : {A : Type 0} (b : Bool) (x : A) → cond b x x ≡ x
-cond_same true x = refl
-cond_same false x = refl
+run-refused :
+    (x : Standing) (out : List ℕ) (answer : Result Ran Refusal) → is_err answer ≡ true →
+    calls.after_run x out answer ≡ x
+run-refused x out (Ok r) e = absurd (clash false e refl)
+run-refused x out (Err r) e = refl
+
+restore-refused :
+    (x : Standing) (answer : Result Search Refusal) → is_err answer ≡ true → calls.after_restore x answer ≡ x
+restore-refused x (Ok q) e = absurd (clash false e refl)
+restore-refused x (Err r) e = refl
 
 after-refused : (x : Standing) (call : Call) → refused call ≡ true → after_call x call ≡ x
-unfolding after_call
-after-refused x call e = rw e
+unfolding after_call refused
+after-refused x (runs mol q budget out) e = run-refused x (run_output mol q budget out) (run_search mol q budget out) e
+after-refused x (saves mol q buffer) e = refl
+after-refused x (restores mol mark) e = restore-refused x (restore_mark mol mark) e
 
 pub after-save : (x : Standing) (mol : Molecule) (q : Search) (buffer : List ℕ) → after_call x (saves mol q buffer) ≡ x
-unfolding after_call after_accepted
-after-save x mol q buffer = cond_same (refused (saves mol q buffer)) x
+unfolding after_call
+after-save x mol q buffer = refl
+
+-- a run that is refused does not say done
+not-done : (answer : Result Ran Refusal) → is_err answer ≡ true → ran_done answer ≡ false
+not-done (Ok r) e = absurd (clash false e refl)
+not-done (Err r) e = refl
 
 refused_says : (call : Call) → refused call ≡ true → says_done call ≡ false
 unfolding refused says_done
-refused_says (runs mol q budget out) e =
-    let answer = (run_search mol q budget out).ended in
-    false_of (ended_done answer) (λ d. done-accepted answer d e)
+refused_says (runs mol q budget out) e = not-done (run_search mol q budget out) e
 refused_says (saves mol q buffer) e = refl
 refused_says (restores mol mark) e = refl
 
@@ -123,7 +132,7 @@ module _ (R : Molecule) (kind s t : ℕ) (good : well_formed R ≡ true) (kept :
     pub reached-restorable : restorable R x.search ≡ true
     reached-restorable = rw r.search_is passes_at
 
-    pub reached-restores : restore_mark R (mark_text R x.search) ≡ accepted_search x.search
+    pub reached-restores : restore_mark R (mark_text R x.search) ≡ Ok x.search
     reached-restores =
         let size = prefix-size kind s t now (short-of now (valid-at k)) in
         saved-restores R x.search good reached-restorable (rw r.search_is size)
@@ -135,7 +144,7 @@ module _ (R : Molecule) (kind s t : ℕ) (good : well_formed R ≡ true) (kept :
     pub reached-runs :
         (budget : ℕ) (out : List ℕ) →
         run_search R x.search budget out ≡
-        ran_at kind s t (run (family_of R kind s t) budget (length out) (state_at R kind s t origin k))
+        Ok (ran_at kind s t (run (family_of R kind s t) budget (length out) (state_at R kind s t origin k)))
     reached-runs budget out =
         rw r.search_is (run_at R good kind s t now (back-of now (valid-at k)) passes_at budget out)
 
@@ -150,12 +159,12 @@ module _ (R : Molecule) (kind s t : ℕ) (good : well_formed R ≡ true) (kept :
         (budget : ℕ) (out : List ℕ) →
         after_call x (runs R x.search budget out) ≡
         moved_by kind s t x (run (family_of R kind s t) budget (length out) (state_at R kind s t origin k))
-    unfolding after_call refused after_accepted
+    unfolding after_call
     after_run budget out = rw (reached-runs budget out, reached-wrote budget out)
 
     -- a restore of its mark leaves all as it was
     pub after-restore : after_call x (restores R (mark_text R x.search)) ≡ x
-    unfolding after_call refused after_accepted
+    unfolding after_call
     after-restore = rw reached-restores
 
     -- the outcome of a run is reached too

@@ -1,8 +1,9 @@
 -- What holds of what stands whatever the calls began with: its parts, when it is done, and that calls handed it go on.
 -- It is the search that they began with after the trials made (`Reached`): the theory of a search says the rest.
+use Rattle.std.specs.Prelude.{Ok}
 use Prim.Native.Nat.{ℕ, ◌+◌, ◌*◌, ◌≤◌}
 use native.Mathlib.Omega.{arith}
-use mathlib.Core.Path.{◌≡◌, refl, sym, ap, ◌∙◌}
+use mathlib.Core.Path.{◌≡◌, refl, sym, ◌∙◌}
 use mathlib.Core.Logic.{◌⊎◌, inl, inr}
 use mathlib.Core.Bool.{Bool, true}
 use mathlib.Core.List.{List}
@@ -19,7 +20,6 @@ use Rattle.molecule.specs.declared.Molecule.{Molecule}
 use Rattle.molecule.specs.Record.{well_formed}
 use Rattle.search.specs.declared.Search.{Search}
 use Rattle.search.specs.declared.Ran.{Ran}
-use Rattle.search.specs.declared.Ended.TheVariants.{Stopped}
 use Rattle.search.specs.Place.{family_of, state_of, search_at, kind_kept}
 use Rattle.search.specs.Entries.{run_search}
 use Rattle.search.proofs.Readings.{family-atoms}
@@ -93,13 +93,16 @@ module _ (R : Molecule) (kind s t : ℕ) (good : well_formed R ≡ true) (kept :
     runs_as :
         (budget : ℕ) (out : List ℕ) →
         run_search R x.search budget out ≡
-        ran_at kind s t (run (family_of R kind s t) budget (length out) (state_at R kind s t origin k))
+        Ok (ran_at kind s t (run (family_of R kind s t) budget (length out) (state_at R kind s t origin k)))
     runs_as = reached-runs R kind s t good kept origin sound said k x r
 
     progresses :
-        (budget : ℕ) (out : List ℕ) → 2 * R.atoms * R.atoms ≤ budget → R.atoms + 1 ≤ length out →
-        Progress x.search (run_search R x.search budget out)
-    progresses budget out enough room = rw (runs_as budget out) (by o facts valid at-limit listing)
+        (budget : ℕ) (out : List ℕ) (ran : Ran) → 2 * R.atoms * R.atoms ≤ budget → R.atoms + 1 ≤ length out →
+        run_search R x.search budget out ≡ Ok ran → Progress x.search ran
+    progresses budget out ran enough room e =
+        let accepted = sym (runs_as budget out) ∙ e in
+        let same : ran_at kind s t o ≡ ran = cc in
+        rw (← same) (by o facts valid at-limit listing)
       where
         F : Family
         F = family_of R kind s t
@@ -137,16 +140,16 @@ module _ (R : Molecule) (kind s t : ℕ) (good : well_formed R ≡ true) (kept :
             Progress x.search (ran_at kind s t o)
         by o w v limit (inl more) =
             inl (omega (arith, parts-of.listed_is, (parts kind s t o.state).listed_is, w.listing))
-        by o w v limit (inr (inl done)) = inr (inl (ap Stopped done))
+        by o w v limit (inr (inl done)) = inr (inl done)
         by o w v limit (inr (inr stops)) =
             let back = back-of R kind s t good kept origin sound o.state v in
-            inr (inr (ap Stopped stops, rw back (limit stops)))
+            inr (inr (stops, rw back (limit stops)))
 
     pub goes_on : GoesOn R x
     goes_on =
         let passes = reached-restorable R kind s t good kept origin sound said k x r in
         record {
-          run_accepted = λ budget out. (_, ap (λ (a : Ran). a.ended) (runs_as budget out));
+          run_accepted = λ budget out. (_, runs_as budget out);
           restore_accepted = reached-restores R kind s t good kept origin sound said k x r;
           save_answers = λ buffer. save-allowed R x.search buffer good passes;
           save_writes = λ buffer. save-wrote R good x.search buffer passes;

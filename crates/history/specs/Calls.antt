@@ -1,20 +1,16 @@
 -- Lists of runs, saves and restores (document 01, "Marks"): which calls are refused, what stands after a list of them,
 -- which lists demand 3 speaks of. What a call answers is `run_search`, `save_answer` or `restore_mark`, as the
 -- contracts of the entries say.
-use Rattle.std.specs.Prelude.{ℕ, ◌+◌, ◌≡◌, ◌⊎◌, Bool, true, false, ◌||◌, cond, List, [], ◌∷◌, ◌++◌, take}
+use Rattle.std.specs.Prelude.{ℕ, ◌+◌, ◌≡◌, ◌⊎◌, Bool, true, false, ◌||◌, List, [], ◌∷◌, ◌++◌, take, Err, Ok, Result, is_err}
 use Rattle.enumeration.specs.declared.Stop.{Stop}
 use Rattle.enumeration.specs.declared.Stop.TheVariants.{Done, Limit, Spent, Full}
 use Rattle.molecule.specs.declared.Molecule.{Molecule}
 use Rattle.search.specs.declared.Search.{Search}
-use Rattle.refusal.specs.declared.Answer.{Answer}
-use Rattle.refusal.specs.declared.Answer.TheVariants as answer
-use Rattle.search.specs.declared.Ended.{Ended}
-use Rattle.search.specs.declared.Ended.TheVariants as ended
-use Rattle.search.specs.declared.Saved.{Saved}
-use Rattle.search.specs.declared.Saved.TheVariants as saved
+use Rattle.search.specs.declared.Ran.{Ran}
 use Rattle.search.specs.Place.{fresh_search}
 use Rattle.search.specs.Entries.{run_search, run_output}
 use Rattle.search.specs.Mark.{mark_text, save_answer, restore_mark}
+use Rattle.refusal.specs.declared.Refusal.{Refusal}
 
 -- A call, handed anything at all: a run with its budget and output, a save with its buffer,
 -- a restore with the bytes of a mark
@@ -36,43 +32,31 @@ start kind s t = record { search = fresh_search kind s t; sheet = []; made = 0 }
 
 -- ---- refusals
 
-abbrev pub run_refused : Ended → Bool
-run_refused (ended.Stopped why) = false
-run_refused (ended.Refused r) = true
-
-abbrev pub save_refused : Saved → Bool
-save_refused (saved.Written k) = false
-save_refused (saved.Refused r) = true
-
-abbrev pub restore_refused : Answer → Bool
-restore_refused answer.Accepted = false
-restore_refused (answer.Refused r) = true
-
 -- The call is refused
 unfoldable pub refused : Call → Bool
-refused (runs mol q budget out) = run_refused (run_search mol q budget out).ended
-refused (saves mol q buffer) = save_refused (save_answer mol q buffer)
-refused (restores mol mark) = restore_refused (restore_mark mol mark).answer
+refused (runs mol q budget out) = is_err (run_search mol q budget out)
+refused (saves mol q buffer) = is_err (save_answer mol q buffer)
+refused (restores mol mark) = is_err (restore_mark mol mark)
 
 -- ---- what stands after calls
 
--- After an accepted call: a run moves the search, adds the bytes that it used to the sheet and the trials that it made
--- to the sum; a save leaves all as it is; a restore puts the restored search in place
-unfoldable pub after_accepted : Standing → Call → Standing
-after_accepted x (runs mol q budget out) =
-    let r = run_search mol q budget out in
-    record {
-      search = r.search;
-      sheet = x.sheet ++ take r.used (run_output mol q budget out);
-      made = x.made + r.made;
-    }
-after_accepted x (saves mol q buffer) = x
-after_accepted x (restores mol mark) =
-    record { search = (restore_mark mol mark).search; sheet = x.sheet; made = x.made }
+-- A run moves the search, adds the bytes that it used of its output to the sheet and the trials that it made to the
+-- sum; a refused one changes nothing
+abbrev pub after_run : Standing → List ℕ → Result Ran Refusal → Standing
+after_run x out (Ok r) =
+    record { search = r.search; sheet = x.sheet ++ take r.used out; made = x.made + r.made }
+after_run x out (Err r) = x
 
--- After any call: a refused one changes nothing
+-- A restore puts the restored search in place; a refused one changes nothing
+abbrev pub after_restore : Standing → Result Search Refusal → Standing
+after_restore x (Ok q) = record { search = q; sheet = x.sheet; made = x.made }
+after_restore x (Err r) = x
+
+-- After any call; a save leaves all as it is
 unfoldable pub after_call : Standing → Call → Standing
-after_call x call = cond (refused call) x (after_accepted x call)
+after_call x (runs mol q budget out) = after_run x (run_output mol q budget out) (run_search mol q budget out)
+after_call x (saves mol q buffer) = x
+after_call x (restores mol mark) = after_restore x (restore_mark mol mark)
 
 -- After a list of calls, the first of the list made first
 unfoldable pub standing : Standing → List Call → Standing
@@ -106,13 +90,13 @@ is_done_stop Limit = false
 is_done_stop Spent = false
 is_done_stop Full = false
 
-abbrev pub ended_done : Ended → Bool
-ended_done (ended.Stopped why) = is_done_stop why
-ended_done (ended.Refused r) = false
+abbrev pub ran_done : Result Ran Refusal → Bool
+ran_done (Ok ran) = is_done_stop ran.stop
+ran_done (Err r) = false
 
 -- The call is a run that says done
 unfoldable pub says_done : Call → Bool
-says_done (runs mol q budget out) = ended_done (run_search mol q budget out).ended
+says_done (runs mol q budget out) = ran_done (run_search mol q budget out)
 says_done (saves mol q buffer) = false
 says_done (restores mol mark) = false
 

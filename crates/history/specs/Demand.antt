@@ -1,7 +1,6 @@
 -- Demand 3 of document 01: what holds of the search, the ring sheet and the trials after any list of calls.
-use Rattle.std.specs.Prelude.{ℕ, suc, ◌+◌, ◌-◌, ◌*◌, ◌≤◌, ◌<◌, ◌≡◌, ◌↔◌, ◌⊎◌, true, false, cond, length, take, drop, leb}
+use Rattle.std.specs.Prelude.{ℕ, suc, ◌+◌, ◌-◌, ◌*◌, ◌≤◌, ◌<◌, ◌≡◌, ◌↔◌, ◌⊎◌, true, false, cond, length, take, drop, leb, Err, Ok}
 use mathlib.Core.List.{List, ◌++◌, Memᴰ}
-use Rattle.enumeration.specs.declared.Stop.{Stop}
 use Rattle.enumeration.specs.declared.Stop.TheVariants.{Done, Limit}
 use Rattle.enumeration.specs.Words.{Family, begins, members}
 use Rattle.enumeration.specs.Machine.{fresh, is_empty, is_done}
@@ -12,10 +11,8 @@ use Rattle.refusal.specs.declared.Refusal.TheVariants as refusal
 use Rattle.molecule.specs.declared.Molecule.{Molecule}
 use Rattle.search.specs.declared.Search.{Search}
 use Rattle.search.specs.declared.Ran.{Ran}
-use Rattle.search.specs.declared.Ended.TheVariants.{Stopped}
-use Rattle.search.specs.declared.Saved.TheVariants.{Written, Refused}
 use Rattle.search.specs.Place.{family_of, state_of, search_at}
-use Rattle.search.specs.Entries.{accepted_search, run_search}
+use Rattle.search.specs.Entries.{run_search}
 use Rattle.search.specs.Mark.{mark_text, save_answer, save_output, restore_mark}
 use Rattle.history.specs.Calls.{Call, Standing, said_done}
 
@@ -46,8 +43,8 @@ pub record Whole (n : ℕ) (F : Family) (x : Standing) : Type 0 where
 abbrev pub Progress : Search → Ran → Type 0
 Progress q r =
     (q.listed < r.search.listed) ⊎
-    (r.ended ≡ Stopped Done) ⊎
-    ((r.ended ≡ Stopped Limit) × (at_limit (state_of r.search) ≡ true))
+    (r.stop ≡ Done) ⊎
+    ((r.stop ≡ Limit) × (at_limit (state_of r.search) ≡ true))
 
 -- Calls handed the record and the search as it stands
 pub record GoesOn (R : Molecule) (x : Standing) : Type 0 where
@@ -55,23 +52,23 @@ pub record GoesOn (R : Molecule) (x : Standing) : Type 0 where
   -- a save of it is refused only where the buffer is shorter than the mark, and otherwise writes the mark
   pub run_accepted :
       (budget : ℕ) (out : List ℕ) →
-      (why : Stop) × ((run_search R x.search budget out).ended ≡ Stopped why)
-  pub restore_accepted : restore_mark R (mark_text R x.search) ≡ accepted_search x.search
+      (ran : Ran) × (run_search R x.search budget out ≡ Ok ran)
+  pub restore_accepted : restore_mark R (mark_text R x.search) ≡ Ok x.search
   pub save_answers :
       (buffer : List ℕ) →
       save_answer R x.search buffer ≡
       cond (leb (length (mark_text R x.search)) (length buffer))
-      (Written (length (mark_text R x.search)))
-      (Refused refusal.MarkRoom)
+      (Ok (length (mark_text R x.search)))
+      (Err refusal.MarkRoom)
   pub save_writes :
       (buffer : List ℕ) → length (mark_text R x.search) ≤ length buffer →
       save_output R x.search buffer ≡
       mark_text R x.search ++ drop (length (mark_text R x.search)) buffer
   -- within 2 × n × n trials and n + 1 bytes a run lists a member or says done, unless a count stands at its limit
   pub progress :
-      (budget : ℕ) (out : List ℕ) →
+      (budget : ℕ) (out : List ℕ) (ran : Ran) →
       2 * R.atoms * R.atoms ≤ budget → R.atoms + 1 ≤ length out →
-      Progress x.search (run_search R x.search budget out)
+      run_search R x.search budget out ≡ Ok ran → Progress x.search ran
 
 -- What demand 3 says of what stands, x, after the calls on the record R
 -- that began with the fresh search of a kind, s and t

@@ -1,5 +1,6 @@
 -- A mark belongs to one molecule (request F-5): two on which the same bytes are accepted are one, and the mark of a
 -- molecule is refused by rule 15 on every other. The atoms and bonds that a mark names tell the record.
+use Rattle.std.specs.Prelude.{Err, Ok}
 use Prim.Native.Nat.{ℕ}
 use mathlib.Core.Path.{◌≡◌, ap, sym, ◌∙◌}
 use mathlib.Core.Bool.{true, false}
@@ -13,7 +14,6 @@ use Rattle.molecule.specs.Record.{bonded, well_formed}
 use Rattle.molecule.proofs.BondLaws.{listed-record}
 use Rattle.search.specs.declared.Search.{Search}
 use Rattle.search.specs.Place.{family_of, restorable}
-use Rattle.search.specs.Entries.{accepted_search, refused_search}
 use Rattle.search.specs.Mark.{mark_text, belongs, restore_by, restore_mark}
 use Rattle.search.proofs.Lines.{layout_of}
 use Rattle.search.proofs.Restores.{restored-facts}
@@ -42,8 +42,8 @@ alike e =
       same_lists = λ kind s t. ap (λ (m : Molecule). members (family_of m kind s t)) e;
     }
 
-module _ (A B : Molecule) (bytes : List ℕ) (p q : Search) (on-a : restore_mark A bytes ≡ accepted_search p)
-    (on-b : restore_mark B bytes ≡ accepted_search q) where
+module _ (A B : Molecule) (bytes : List ℕ) (p q : Search) (on-a : restore_mark A bytes ≡ Ok p)
+    (on-b : restore_mark B bytes ≡ Ok q) where
   -- Bytes that are accepted on two molecules: the two are one record, and one search is restored
   pub accepted-on-two : (A ≡ B) × (p ≡ q)
   accepted-on-two =
@@ -67,7 +67,7 @@ module _ (A B : Molecule) (q : Search) (formed-a : well_formed A ≡ true) (form
       (λ on-b. other (one-owner formed-a formed-b on-a (own-facts B (mark_text A q) on-b)))
 
   -- The mark of a molecule is refused on every other one, by rule 15: its layout is kept
-  pub other-refused : (A ≡ B → ⊥) → restore_mark B (mark_text A q) ≡ refused_search refusal.MarkMolecule
+  pub other-refused : (A ≡ B → ⊥) → restore_mark B (mark_text A q) ≡ Err refusal.MarkMolecule
   unfolding restore_mark restore_by
   other-refused other =
       rw (formed-b, layout_of (mark_text A q) (mark-layout A q formed-a kept full), not_own other)
@@ -76,10 +76,10 @@ module _ (A B : Molecule) (q : Search) (formed-a : well_formed A ≡ true) (form
   -- accepted where n and m agree: the old lister's fault.)
   pub isomer-refused :
       (a b : ℕ) → (bonded A.atoms A.rows a b ≡ bonded B.atoms B.rows a b → ⊥) →
-      restore_mark B (mark_text A q) ≡ refused_search refusal.MarkMolecule
+      restore_mark B (mark_text A q) ≡ Err refusal.MarkMolecule
   isomer-refused a b differ = other-refused (λ same. differ ((alike same).same-bonds a b))
 
   -- The mark of a molecule with another number of atoms
   pub other-atoms-refused :
-      (A.atoms ≡ B.atoms → ⊥) → restore_mark B (mark_text A q) ≡ refused_search refusal.MarkMolecule
+      (A.atoms ≡ B.atoms → ⊥) → restore_mark B (mark_text A q) ≡ Err refusal.MarkMolecule
   other-atoms-refused differ = other-refused (λ same. differ (alike same).same_atoms)

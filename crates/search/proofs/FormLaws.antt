@@ -1,9 +1,10 @@
 -- The laws of marks in either form: a saved one restores its search, an accepted one is saved again as the same bytes;
 -- their lengths, rule 13, and the numbers that a mark is refused by. By the law of each form.
+use Rattle.std.specs.Prelude.{Err, Ok, Result}
 use Prim.Native.Nat.{ℕ, ◌+◌, ◌*◌, ◌≤◌, ◌<◌}
 use native.Mathlib.Decide.{dec_le}
 use native.Mathlib.Omega.{arith}
-use mathlib.Core.Path.{◌≡◌, refl, ap}
+use mathlib.Core.Path.{◌≡◌, refl, sym}
 use mathlib.Core.Bool.{Bool, true}
 use mathlib.Core.List.{List, ◌++◌}
 use mathlib.Core.Logic.{◌⊎◌, inl, inr}
@@ -11,20 +12,16 @@ use lib.ListN.{length, length-take}
 use borrow.Author.Tests.{le-leb, lt-leb}
 use Rattle.refusal.specs.declared.Refusal.{Refusal}
 use Rattle.refusal.specs.declared.Refusal.TheVariants as refusal
-use Rattle.refusal.specs.declared.Answer.{Answer}
-use Rattle.refusal.specs.declared.Answer.TheVariants.{Accepted}
 use Rattle.refusal.proofs.Ranges.{Within, by-test}
+use Rattle.refusal.proofs.Passed.{not_taken}
 use Rattle.molecule.specs.declared.Molecule.{Molecule}
 use Rattle.molecule.specs.Record.{well_formed}
 use Rattle.molecule.specs.BondList.{bond_list}
 use Rattle.molecule.proofs.Bonds.{rule9}
 use Rattle.search.specs.declared.Search.{Search}
-use Rattle.search.specs.declared.Made.{Made}
-use Rattle.search.specs.declared.Saved.TheVariants.{Written, Refused}
 use Rattle.search.specs.declared.Form.{Form}
 use Rattle.search.specs.declared.Form.TheVariants.{Old, New}
 use Rattle.search.specs.Place.{family_of, beginning, kind_kept, place_kept, restorable}
-use Rattle.search.specs.Entries.{accepted_search}
 use Rattle.search.specs.Mark.{bond_lines, mark_text, write_answer}
 use Rattle.search.specs.Mark.{value_at, mark_beginning, layout_kept, belongs, placed_search, restore_by, restore_mark}
 use Rattle.search.specs.OldMark.{old_layout_kept, old_belongs, restore_old_mark}
@@ -34,27 +31,23 @@ use Rattle.search.proofs.MarkLaws.{mark-length, saved-restores, restored-saves, 
 use Rattle.search.proofs.OldMarkLaws.{old-mark-length, old-saved-restores, old-restored-saves}
 use Rattle.search.proofs.OldMarkLaws.{old-restored-restorable}
 
--- what is accepted is the search
-pub made-accepted : (x : Made) → x.answer ≡ Accepted → x ≡ accepted_search x.search
-made-accepted x e = ap (λ (a : Answer). record { answer = a; search = x.search }) e
-
 -- The mark of a search that rule 12 allows restores that search
 pub form-restores :
     (form : Form) (mol : Molecule) (q : Search) → well_formed mol ≡ true → restorable mol q ≡ true →
-    length q.prefix ≡ 128 → restore_in form mol (mark_in form mol q) ≡ accepted_search q
+    length q.prefix ≡ 128 → restore_in form mol (mark_in form mol q) ≡ Ok q
 form-restores Old = old-saved-restores
 form-restores New = saved-restores
 
 -- Any accepted mark, saved again, has the same bytes
 pub form-saves :
-    (form : Form) (mol : Molecule) (bytes : List ℕ) (q : Search) → restore_in form mol bytes ≡ accepted_search q →
+    (form : Form) (mol : Molecule) (bytes : List ℕ) (q : Search) → restore_in form mol bytes ≡ Ok q →
     mark_in form mol q ≡ bytes
 form-saves Old = old-restored-saves
 form-saves New = restored-saves
 
 -- An accepted mark restores a search that rule 12 allows, on a molecule that rule 9 allows
 pub form-restorable :
-    (form : Form) (mol : Molecule) (bytes : List ℕ) (q : Search) → restore_in form mol bytes ≡ accepted_search q →
+    (form : Form) (mol : Molecule) (bytes : List ℕ) (q : Search) → restore_in form mol bytes ≡ Ok q →
     (well_formed mol ≡ true) × (restorable mol q ≡ true) × (length q.prefix ≡ 128)
 form-restorable Old = old-restored-restorable
 form-restorable New = restored-restorable
@@ -92,17 +85,17 @@ form-most New mol q formed kept =
 -- ---- rule 13
 
 module _ (text out : List ℕ) where
-  pub write-fits : length text ≤ length out → write_answer text out ≡ Written (length text)
+  pub write-fits : length text ≤ length out → write_answer text out ≡ Ok (length text)
   write-fits h = rw (le-leb (length text) (length out) h)
 
-  pub write-short : length out < length text → write_answer text out ≡ Refused refusal.MarkRoom
+  pub write-short : length out < length text → write_answer text out ≡ Err refusal.MarkRoom
   write-short h = rw (lt-leb (length text) (length out) h)
 
   -- A mark is written, or has no room
   abbrev Ways : Type 0
   Ways =
-      ((length text ≤ length out) × (write_answer text out ≡ Written (length text))) ⊎
-      ((length out < length text) × (write_answer text out ≡ Refused refusal.MarkRoom))
+      ((length text ≤ length out) × (write_answer text out ≡ Ok (length text))) ⊎
+      ((length out < length text) × (write_answer text out ≡ Err refusal.MarkRoom))
 
   pub write-ways : Ways
   write-ways = go (dec_le (length text) (length out))
@@ -112,16 +105,16 @@ module _ (text out : List ℕ) where
       go (no h) = inr (omega arith, write-short (omega arith))
 
 -- bytes that were written are no refusal, and are as many as they are
-pub written-refused : {k : ℕ} {r : Refusal} → Written k ≡ Refused r → ⊥
-written-refused e = let z : ◌≡◌ {A = ℕ} 0 1 = cc in omega arith
+pub written-refused : {k : ℕ} {r : Refusal} → ◌≡◌ {A = Result ℕ Refusal} (Ok k) (Err r) → ⊥
+written-refused e = not_taken (sym e)
 
-pub written_same : {j k : ℕ} → Written j ≡ Written k → j ≡ k
+pub written_same : {j k : ℕ} → ◌≡◌ {A = Result ℕ Refusal} (Ok j) (Ok k) → j ≡ k
 written_same e = cc
 
 -- ---- the numbers of the refusals
 
-abbrev MarkRule : Made → Type 0
-MarkRule x = Within 14 17 x.answer
+abbrev MarkRule : Result Search Refusal → Type 0
+MarkRule x = Within 14 17 x
 
 by-rules :
     (layout own : Bool) (mol : Molecule) (bytes : List ℕ) → well_formed mol ≡ true →
@@ -141,7 +134,7 @@ by-rules layout own mol bytes formed =
 -- On a molecule that rule 9 allows, a mark is refused by rules 14 to 17
 pub form-rules :
     (form : Form) (mol : Molecule) (bytes : List ℕ) → well_formed mol ≡ true →
-    Within 14 17 (restore_in form mol bytes).answer
+    Within 14 17 (restore_in form mol bytes)
 unfolding restore_mark restore_old_mark
 form-rules Old mol bytes = by-rules (old_layout_kept bytes) (old_belongs mol bytes) mol bytes
 form-rules New mol bytes = by-rules (layout_kept bytes) (belongs mol bytes) mol bytes

@@ -1,9 +1,10 @@
 -- The laws of marks (document 01, rules 12 to 17, with F-5): saved ones restore, accepted ones are saved again as they
 -- were, rule 12 is what some mark restores. By the three lines of a mark (Restores, NamedSearch), then by its bonds.
+use Rattle.std.specs.Prelude.{Err, Ok, Result}
 use Prim.Native.Nat.{ℕ, ◌+◌, ◌*◌, ◌≤◌, ◌<◌}
 use native.Mathlib.Omega.{arith}
 use mathlib.Core.Path.{◌≡◌, refl, ap, ap₂, sym, ◌∙◌}
-use mathlib.Core.Bool.{Bool, true, false, cond}
+use mathlib.Core.Bool.{true, false}
 use mathlib.Core.List.{List, [], ◌∷◌, ◌++◌}
 use mathlib.Core.Logic.{◌↔◌}
 use lib.ListN.{length, take, drop, length-append, length-drop}
@@ -13,6 +14,7 @@ use borrow.Author.Tests.{le-leb, lt-leb, leb-true, eq-eqb, eqb-true}
 use Rattle.graph.proofs.Below.{and_parts}
 use Rattle.refusal.specs.declared.Refusal.{Refusal}
 use Rattle.refusal.specs.declared.Refusal.TheVariants as refusal
+use Rattle.refusal.proofs.Passed.{passed}
 use Rattle.molecule.specs.declared.Molecule.{Molecule}
 use Rattle.molecule.specs.Record.{bonded, well_formed}
 use Rattle.molecule.specs.BondList.{Bond, bond_list, same_bonds}
@@ -22,10 +24,7 @@ use Rattle.molecule.proofs.BondOrder.{bonds-ascend, same-list, same-itself}
 use Rattle.molecule.proofs.BondCount.{bonds-count}
 use Rattle.molecule.proofs.BondLaws.{bonds-bonded}
 use Rattle.search.specs.declared.Search.{Search}
-use Rattle.search.specs.declared.Saved.{Saved}
-use Rattle.search.specs.declared.Saved.TheVariants.{Written, Refused}
 use Rattle.search.specs.Place.{beginning, restorable}
-use Rattle.search.specs.Entries.{accepted_search}
 use Rattle.search.specs.Mark.{three_lines, bond_lines, mark_text, write_answer, save_answer, save_output, value_at}
 use Rattle.search.specs.Mark.{mark_bonds, bond_lines_kept, bonds_at, bonds_from, bonds_named, belongs, restore_mark}
 use Rattle.search.proofs.Text.{small-fits}
@@ -130,7 +129,7 @@ module _ (mol : Molecule) (q : Search) (formed : well_formed mol ≡ true) (kept
 -- The mark of a search that rule 12 allows restores that search
 pub saved-restores :
     (mol : Molecule) (q : Search) → well_formed mol ≡ true → restorable mol q ≡ true → length q.prefix ≡ 128 →
-    restore_mark mol (mark_text mol q) ≡ accepted_search q
+    restore_mark mol (mark_text mol q) ≡ Ok q
 saved-restores mol q formed kept full =
     restored-of mol (mark_text mol q) q (mark-restored mol q formed kept full)
 
@@ -161,13 +160,13 @@ module _ (mol : Molecule) (bytes : List ℕ) (q : Search) (f : Restored mol byte
 
 -- Any accepted mark, saved again, has the same bytes
 pub restored-saves :
-    (mol : Molecule) (bytes : List ℕ) (q : Search) → restore_mark mol bytes ≡ accepted_search q → mark_text mol q ≡
+    (mol : Molecule) (bytes : List ℕ) (q : Search) → restore_mark mol bytes ≡ Ok q → mark_text mol q ≡
     bytes
 restored-saves mol bytes q e = saves-again mol bytes q (restored-facts mol bytes q e)
 
 -- An accepted mark has, past its three lines, the bond lines of the molecule
 pub restored-bonds :
-    (mol : Molecule) (bytes : List ℕ) (q : Search) → restore_mark mol bytes ≡ accepted_search q →
+    (mol : Molecule) (bytes : List ℕ) (q : Search) → restore_mark mol bytes ≡ Ok q →
     (bonds_from bytes ≤ length bytes) × (drop (bonds_from bytes) bytes ≡ bond_lines (bond_list mol.rows))
 restored-bonds mol bytes q e =
     let f = restored-facts mol bytes q e in
@@ -175,7 +174,7 @@ restored-bonds mol bytes q e =
 
 -- An accepted mark restores a search that rule 12 allows, on a molecule that rule 9 allows
 pub restored-restorable :
-    (mol : Molecule) (bytes : List ℕ) (q : Search) → restore_mark mol bytes ≡ accepted_search q →
+    (mol : Molecule) (bytes : List ℕ) (q : Search) → restore_mark mol bytes ≡ Ok q →
     (well_formed mol ≡ true) × (restorable mol q ≡ true) × (length q.prefix ≡ 128)
 restored-restorable mol bytes q e =
     let f = restored-facts mol bytes q e in
@@ -184,7 +183,7 @@ restored-restorable mol bytes q e =
 -- Rule 12: a search is allowed exactly when it could be restored from some mark on this molecule
 pub rule12 :
     (mol : Molecule) (q : Search) → well_formed mol ≡ true → length q.prefix ≡ 128 →
-    (restorable mol q ≡ true) ↔ ((bytes : List ℕ) × (restore_mark mol bytes ≡ accepted_search q))
+    (restorable mol q ≡ true) ↔ ((bytes : List ℕ) × (restore_mark mol bytes ≡ Ok q))
 rule12 mol q formed full = (
   λ kept. (mark_text mol q, saved-restores mol q formed kept full),
   λ (bytes, restored). (restored-restorable mol bytes q restored).1,
@@ -192,22 +191,12 @@ rule12 mol q formed full = (
 
 -- ---- saving
 
--- the tests that were passed on the way to a written mark
-written-means :
-    (a b c : Bool) (n k : ℕ) (r s t : Refusal) →
-    cond a (cond b (cond c (Written n) (Refused r)) (Refused s)) (Refused t) ≡ Written k →
-    (a ≡ true) × (b ≡ true) × (c ≡ true) × (k ≡ n)
-written-means true true true n k r s t e = (refl, refl, refl, cc)
-written-means true true false n k r s t e = let z : ◌≡◌ {A = ℕ} 0 1 = cc in absurd (omega arith)
-written-means true false c n k r s t e = let z : ◌≡◌ {A = ℕ} 0 1 = cc in absurd (omega arith)
-written-means false b c n k r s t e = let z : ◌≡◌ {A = ℕ} 0 1 = cc in absurd (omega arith)
-
 module _ (mol : Molecule) (q : Search) (out : List ℕ) where
-  pub save-record : well_formed mol ≡ false → save_answer mol q out ≡ Refused refusal.Record
+  pub save-record : well_formed mol ≡ false → save_answer mol q out ≡ Err refusal.Record
   unfolding save_answer
   save-record e = rw e
 
-  pub save-search : well_formed mol ≡ true → restorable mol q ≡ false → save_answer mol q out ≡ Refused refusal.Search
+  pub save-search : well_formed mol ≡ true → restorable mol q ≡ false → save_answer mol q out ≡ Err refusal.Search
   unfolding save_answer
   save-search e f = rw (e, f)
 
@@ -219,13 +208,13 @@ module _ (mol : Molecule) (q : Search) (out : List ℕ) where
 
   pub save-room :
       well_formed mol ≡ true → restorable mol q ≡ true → length out < length (mark_text mol q) →
-      save_answer mol q out ≡ Refused refusal.MarkRoom
+      save_answer mol q out ≡ Err refusal.MarkRoom
   unfolding save_answer
   save-room e f h = rw (e, f, lt-leb (length (mark_text mol q)) (length out) h)
 
   pub save_writes :
       well_formed mol ≡ true → restorable mol q ≡ true → length (mark_text mol q) ≤ length out →
-      save_answer mol q out ≡ Written (length (mark_text mol q))
+      save_answer mol q out ≡ Ok (length (mark_text mol q))
   unfolding save_answer
   save_writes e f h = rw (e, f, le-leb (length (mark_text mol q)) (length out) h)
 
@@ -238,31 +227,28 @@ module _ (mol : Molecule) (q : Search) (out : List ℕ) where
     pub mark : take k (save_output mol q out) ≡ mark_text mol q
     pub rest : drop k (save_output mol q out) ≡ drop k out
 
-  written-output : (k : ℕ) → save_answer mol q out ≡ Written k → save_output mol q out ≡ mark_text mol q ++ drop k out
+  written-output : (k : ℕ) → save_answer mol q out ≡ Ok k → save_output mol q out ≡ mark_text mol q ++ drop k out
   unfolding save_output
   written-output k e = rw e
 
-  pub save-written : (k : ℕ) → save_answer mol q out ≡ Written k → Wrote k
+  pub save-written : (k : ℕ) → save_answer mol q out ≡ Ok k → Wrote k
+  unfolding save_answer
   save-written k e =
-      go (unfold save_answer in
-      (written-means (well_formed mol) (restorable mol q) (leb (length (mark_text mol q)) (length out))
-      (length (mark_text mol q)) k refusal.MarkRoom refusal.Search refusal.Record e))
-    where
-      go :
-          (well_formed mol ≡ true) × (restorable mol q ≡ true) ×
-          (leb (length (mark_text mol q)) (length out) ≡ true) × (k ≡ length (mark_text mol q)) → Wrote k
-      go (formed, kept, room, size) =
-          let fits : length (mark_text mol q) ≤ length out = leb-true (length (mark_text mol q)) (length out) room in
-          record {
-            formed = formed;
-            kept = kept;
-            size = size;
-            fits = omega arith;
-            mark = rw (written-output k e) (take_at (mark_text mol q) (drop k out) k (sym size));
-            rest = rw (written-output k e) (drop_at (mark_text mol q) (drop k out) k (sym size));
-          }
+      let (formed, e12) = passed (well_formed mol) _ refusal.Record e in
+      let (kept, e13) = passed (restorable mol q) _ refusal.Search e12 in
+      let (room, size) = passed (leb (length (mark_text mol q)) (length out)) _ refusal.MarkRoom e13 in
+      let fits : length (mark_text mol q) ≤ length out = leb-true (length (mark_text mol q)) (length out) room in
+      let same : length (mark_text mol q) ≡ k = cc in
+      record {
+        formed = formed;
+        kept = kept;
+        size = sym same;
+        fits = omega arith;
+        mark = rw (written-output k e) (take_at (mark_text mol q) (drop k out) k same);
+        rest = rw (written-output k e) (drop_at (mark_text mol q) (drop k out) k same);
+      }
 
-  pub save-refused : (r : Refusal) → save_answer mol q out ≡ Refused r → save_output mol q out ≡ out
+  pub save-refused : (r : Refusal) → save_answer mol q out ≡ Err r → save_output mol q out ≡ out
   unfolding save_output
   save-refused r e = rw e
 
@@ -270,8 +256,8 @@ module _ (mol : Molecule) (q : Search) (out : List ℕ) where
   pub save-length : length (save_output mol q out) ≡ length out
   save-length = go (save_answer mol q out) refl
     where
-      go : (x : Saved) → save_answer mol q out ≡ x → length (save_output mol q out) ≡ length out
-      go (Written k) e =
+      go : (x : Result ℕ Refusal) → save_answer mol q out ≡ x → length (save_output mol q out) ≡ length out
+      go (Ok k) e =
           let w = save-written k e in
           ap length (written-output k e) ∙ rw (length-append, length-drop) (omega arith)
-      go (Refused r) e = ap length (save-refused r e)
+      go (Err r) e = ap length (save-refused r e)

@@ -1,5 +1,6 @@
 -- The laws of marks as they were before request F-5: a saved one restores the search, an accepted one is saved again as
 -- the same bytes. By what is shown of the three lines of every mark: no byte stands past them.
+use Rattle.std.specs.Prelude.{Ok}
 use Prim.Native.Nat.{ℕ, ◌+◌, ◌*◌, ◌≤◌}
 use native.Mathlib.Omega.{arith}
 use mathlib.Core.Path.{◌≡◌, ap, sym, ◌∙◌}
@@ -13,7 +14,6 @@ use Rattle.molecule.specs.declared.Molecule.{Molecule}
 use Rattle.molecule.specs.Record.{well_formed}
 use Rattle.search.specs.declared.Search.{Search}
 use Rattle.search.specs.Place.{beginning, restorable}
-use Rattle.search.specs.Entries.{accepted_search}
 use Rattle.search.specs.Mark.{three_lines, value_at, mark_bonds, bonds_from}
 use Rattle.search.specs.OldMark.{old_mark_text, old_layout_kept, old_belongs, restore_old_mark}
 use Rattle.search.proofs.Lines.{three-lines-of, three-lines-facts}
@@ -41,7 +41,7 @@ module _ (mol : Molecule) (q : Search) (formed : well_formed mol ≡ true) (kept
       )
 
   -- The old mark of a search that rule 12 allows restores that search
-  pub old-saved-restores : restore_old_mark mol bytes ≡ accepted_search q
+  pub old-saved-restores : restore_old_mark mol bytes ≡ Ok q
   unfolding restore_old_mark
   old-saved-restores =
       by-of mol bytes q (old_layout_kept bytes) (old_belongs mol bytes)
@@ -53,14 +53,14 @@ abbrev pub OldRestored : Molecule → List ℕ → Search → Type 0
 OldRestored mol bytes q = RestoredBy (old_layout_kept bytes) (old_belongs mol bytes) mol bytes q
 
 pub old-restored-facts :
-    (mol : Molecule) (bytes : List ℕ) (q : Search) → restore_old_mark mol bytes ≡ accepted_search q →
+    (mol : Molecule) (bytes : List ℕ) (q : Search) → restore_old_mark mol bytes ≡ Ok q →
     OldRestored mol bytes q
 unfolding restore_old_mark
 old-restored-facts mol bytes q e = by-facts mol bytes q (old_layout_kept bytes) (old_belongs mol bytes) e
 
 -- Any accepted old mark, saved again, has the same bytes
 pub old-restored-saves :
-    (mol : Molecule) (bytes : List ℕ) (q : Search) → restore_old_mark mol bytes ≡ accepted_search q →
+    (mol : Molecule) (bytes : List ℕ) (q : Search) → restore_old_mark mol bytes ≡ Ok q →
     old_mark_text mol q ≡ bytes
 old-restored-saves mol bytes q e =
     let f = old-restored-facts mol bytes q e in
@@ -75,7 +75,7 @@ old-restored-saves mol bytes q e =
 
 -- An accepted old mark restores a search that rule 12 allows, on a molecule that rule 9 allows
 pub old-restored-restorable :
-    (mol : Molecule) (bytes : List ℕ) (q : Search) → restore_old_mark mol bytes ≡ accepted_search q →
+    (mol : Molecule) (bytes : List ℕ) (q : Search) → restore_old_mark mol bytes ≡ Ok q →
     (well_formed mol ≡ true) × (restorable mol q ≡ true) × (length q.prefix ≡ 128)
 old-restored-restorable mol bytes q e =
     let f = old-restored-facts mol bytes q e in

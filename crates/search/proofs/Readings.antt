@@ -1,5 +1,6 @@
 -- What the tests of a search say as plain facts, both ways: its kind (rule 16), its place (rule 17), and rule 12.
 -- The families are lawful whatever the kind, so an open beginning is short and its atoms are from 1 to n.
+use Rattle.std.specs.Prelude.{Err, Ok}
 use Prim.Native.Nat.{ℕ, suc, ◌-◌, ◌≤◌, ◌<◌}
 use native.Mathlib.Omega.{arith}
 use mathlib.Core.Path.{◌≡◌, refl, sym, subst, ◌∙◌}
@@ -23,7 +24,6 @@ use Rattle.chordless.proofs.UpTo.{upto-facts, upto-lawful, upto_all}
 use Rattle.chordless.proofs.Lawful.{rings-lawful, paths-lawful}
 use Rattle.chordless.proofs.ShortestPaths.{shortest-lawful}
 use Rattle.refusal.specs.declared.Refusal.{Refusal}
-use Rattle.refusal.specs.declared.Answer.TheVariants.{Accepted, Refused}
 use Rattle.molecule.specs.declared.Molecule.{Molecule}
 use Rattle.molecule.specs.Record.{is_atom, bonded}
 use Rattle.molecule.specs.Ends.{with_ends, ends_answer}
@@ -141,11 +141,11 @@ unfolding ends_kept
 ends_of n s t f = ends-go f _ true
 
 -- the answer of the two rules as a test
-pub ends-not-kept : (n s t : ℕ) {r : Refusal} → ends_answer n s t ≡ Refused r → ends_kept n s t ≡ false
+pub ends-not-kept : (n s t : ℕ) {r : Refusal} → ends_answer n s t ≡ Err r → ends_kept n s t ≡ false
 unfolding ends_kept
 ends-not-kept n s t e = ends-refused n s t _ _ e
 
-pub ends-are-kept : (n s t : ℕ) → ends_answer n s t ≡ Accepted → ends_kept n s t ≡ true
+pub ends-are-kept : (n s t : ℕ) → ends_answer n s t ≡ Ok _ → ends_kept n s t ≡ true
 unfolding ends_kept
 ends-are-kept n s t e = ends-accepted n s t _ _ e
 

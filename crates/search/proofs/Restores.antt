@@ -1,9 +1,10 @@
 -- A restore is accepted exactly where each of its rules is kept, and the three lines of a search's mark restore it.
 -- The tests of a restore are passed one after the other; the numbers of a search that rule 12 allows fit their columns.
+use Rattle.std.specs.Prelude.{Err, Ok, Result}
 use Prim.Native.Nat.{ℕ, suc, ◌+◌, ◌*◌, ◌≤◌}
 use native.Mathlib.Omega.{arith}
 use mathlib.Core.Path.{◌≡◌, refl, ap, sym, ◌∙◌}
-use mathlib.Core.Bool.{Bool, true, false, cond}
+use mathlib.Core.Bool.{Bool, true, cond}
 use mathlib.Core.List.{List, [], ◌∷◌, ◌++◌}
 use mathlib.Core.Logic.{inl, inr}
 use lib.ListN.{length, get_or, drop}
@@ -11,13 +12,12 @@ use Rattle.graph.proofs.All.{All, all_of, none, ◌◁◌}
 use Rattle.fields.specs.Field.{limit}
 use Rattle.refusal.specs.declared.Refusal.{Refusal}
 use Rattle.refusal.specs.declared.Refusal.TheVariants as refusal
+use Rattle.refusal.proofs.Passed.{passed}
 use Rattle.molecule.specs.declared.Molecule.{Molecule}
 use Rattle.molecule.specs.Record.{well_formed}
 use Rattle.molecule.proofs.Bonds.{rule9}
 use Rattle.search.specs.declared.Search.{Search}
-use Rattle.search.specs.declared.Made.{Made}
 use Rattle.search.specs.Place.{family_of, beginning, state_of, kind_kept, place_kept, restorable}
-use Rattle.search.specs.Entries.{accepted_search, refused_search}
 use Rattle.search.specs.Mark.{three_lines, value_at, mark_bonds, bonds_from, layout_kept, mark_beginning, mark_length}
 use Rattle.search.specs.Mark.{mark_search, belongs, placed_search, restore_by, restore_mark}
 use Rattle.search.proofs.Text.{Fits, small-fits, values_of, values-four}
@@ -43,16 +43,6 @@ pub record RestoredBy (laid owned : Bool) (mol : Molecule) (bytes : List ℕ) (q
 abbrev pub Restored : Molecule → List ℕ → Search → Type 0
 Restored mol bytes q = RestoredBy (layout_kept bytes) (belongs mol bytes) mol bytes q
 
--- a test that was passed on the way to an accepted answer
-passed :
-    (t : Bool) (x : Made) (r : Refusal) (q : Search) →
-    cond t x (refused_search r) ≡ accepted_search q → (t ≡ true) × (x ≡ accepted_search q)
-passed true x r q e = (refl, e)
-passed false x r q e =
-    let f = ap (λ (m : Made). m.answer) e in
-    let z : ◌≡◌ {A = ℕ} 0 1 = cc in
-    absurd (omega arith)
-
 module _ (mol : Molecule) (bytes : List ℕ) (q : Search) where
   -- the tests of rules 16 and 17, and what each rule leaves to the next
   abbrev kind-test : Bool
@@ -63,45 +53,45 @@ module _ (mol : Molecule) (bytes : List ℕ) (q : Search) where
       place_kept (family_of mol (value_at 4 bytes 0) (value_at 4 bytes 4) (value_at 4 bytes 8))
       (mark_beginning bytes) (value_at 4 bytes 24)
 
-  abbrev rule17 : Made
-  rule17 = cond place-test (accepted_search (mark_search bytes)) (refused_search refusal.MarkPlace)
+  abbrev rule17 : Result Search Refusal
+  rule17 = cond place-test (Ok (mark_search bytes)) (Err refusal.MarkPlace)
 
-  abbrev rule16 : Made
-  rule16 = cond kind-test rule17 (refused_search refusal.MarkKind)
+  abbrev rule16 : Result Search Refusal
+  rule16 = cond kind-test rule17 (Err refusal.MarkKind)
 
   module _ (laid owned : Bool) where
-    abbrev rule15 : Made
-    rule15 = cond owned rule16 (refused_search refusal.MarkMolecule)
+    abbrev rule15 : Result Search Refusal
+    rule15 = cond owned rule16 (Err refusal.MarkMolecule)
 
-    abbrev rule14 : Made
-    rule14 = cond laid rule15 (refused_search refusal.MarkBytes)
+    abbrev rule14 : Result Search Refusal
+    rule14 = cond laid rule15 (Err refusal.MarkBytes)
 
-    pub by-facts : restore_by laid owned mol bytes ≡ accepted_search q → RestoredBy laid owned mol bytes q
+    pub by-facts : restore_by laid owned mol bytes ≡ Ok q → RestoredBy laid owned mol bytes q
     unfolding restore_by placed_search
     by-facts e =
-        let (formed, e14) = passed (well_formed mol) rule14 refusal.Record q e in
-        let (layout, e15) = passed laid rule15 refusal.MarkBytes q e14 in
-        let (own, e16) = passed owned rule16 refusal.MarkMolecule q e15 in
-        let (kinds, e17) = passed kind-test rule17 refusal.MarkKind q e16 in
-        let (place, named) = passed place-test (accepted_search (mark_search bytes)) refusal.MarkPlace q e17 in
+        let (formed, e14) = passed (well_formed mol) rule14 refusal.Record e in
+        let (layout, e15) = passed laid rule15 refusal.MarkBytes e14 in
+        let (own, e16) = passed owned rule16 refusal.MarkMolecule e15 in
+        let (kinds, e17) = passed kind-test rule17 refusal.MarkKind e16 in
+        let (place, named) = passed place-test (Ok (mark_search bytes)) refusal.MarkPlace e17 in
         record {
           formed = formed;
           layout = layout;
           own = own;
           kinds = kinds;
           place = place;
-          search = ap (λ (m : Made). m.search) named;
+          search = cc;
         }
 
-    pub by-of : RestoredBy laid owned mol bytes q → restore_by laid owned mol bytes ≡ accepted_search q
+    pub by-of : RestoredBy laid owned mol bytes q → restore_by laid owned mol bytes ≡ Ok q
     unfolding restore_by placed_search
     by-of f = rw (f.formed, f.layout, f.own, f.kinds, f.place, f.search)
 
-  pub restored-facts : restore_mark mol bytes ≡ accepted_search q → Restored mol bytes q
+  pub restored-facts : restore_mark mol bytes ≡ Ok q → Restored mol bytes q
   unfolding restore_mark
   restored-facts e = by-facts (layout_kept bytes) (belongs mol bytes) e
 
-  pub restored-of : Restored mol bytes q → restore_mark mol bytes ≡ accepted_search q
+  pub restored-of : Restored mol bytes q → restore_mark mol bytes ≡ Ok q
   unfolding restore_mark
   restored-of f = by-of (layout_kept bytes) (belongs mol bytes) f
 

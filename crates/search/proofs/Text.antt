@@ -12,9 +12,9 @@ use lib.Seq.{take_at, drop_at, drop-drop, drop-cons, take-add, take-suc, get_or-
 use borrow.Author.Tests.{not-true}
 use Rattle.graph.proofs.Below.{apart, all_below-at, all_below-of}
 use Rattle.graph.proofs.All.{All, ◌◁◌}
+use Rattle.std.specs.Prelude.{Option, Some, None}
 use Rattle.fields.specs.declared.Number.{Number}
-use Rattle.fields.specs.declared.Number.TheVariants.{Value, Bad}
-use Rattle.fields.specs.Field.{limit, field_text}
+use Rattle.fields.specs.Field.{limit, field_text, number}
 use Rattle.fields.proofs.Laws.{blanks-read-back, read-is-written, field-length}
 use Rattle.search.specs.Mark.{fields_text, field_at, blanks_only, field_kept, value_of, value_at, fields_kept, values_at}
 
@@ -69,7 +69,7 @@ module _ (c : ℕ) (wide : 1 < c) (bytes : List ℕ) where
   -- where the bytes from a place on begin with the text of values, its fields read as them
   pub fields_read :
       (vs post : List ℕ) (at : ℕ) → All (Fits c) vs → drop at bytes ≡ fields_text c vs ++ post →
-      (i : ℕ) → i < length vs → field_at c bytes (at + c * i) ≡ Value (get_or vs i 0) false
+      (i : ℕ) → i < length vs → field_at c bytes (at + c * i) ≡ number (get_or vs i 0) false
   unfolding fields_text
   fields_read [] post at fits e i h = absurd (omega arith)
   fields_read (v ∷ vs) post at ((small, most) ◁ fits) e zero h =
@@ -90,11 +90,12 @@ module _ (c : ℕ) (wide : 1 < c) (bytes : List ℕ) where
       (λ i h. rw (fields_read vs post at fits e i (omega arith)))
 
   values-by :
-      (vs : List ℕ) (at : ℕ) → ((i : ℕ) → i < length vs → field_at c bytes (at + c * i) ≡ Value (get_or vs i 0) false) →
+      (vs : List ℕ) (at : ℕ) →
+      ((i : ℕ) → i < length vs → field_at c bytes (at + c * i) ≡ number (get_or vs i 0) false) →
       values_of c bytes at (length vs) ≡ vs
   values-by [] at f = refl
   values-by (v ∷ vs) at f =
-      let here : field_at c bytes at ≡ Value v false = rw (mul-zero, add-zero) at (f 0 (omega arith)) in
+      let here : field_at c bytes at ≡ number v false = rw (mul-zero, add-zero) at (f 0 (omega arith)) in
       let more = values-by vs (at + c) (λ i h. rw (← place-on c at i) (f (suc i) (omega arith))) in
       rw here (ap (λ l. v ∷ l) more)
 
@@ -104,9 +105,9 @@ module _ (c : ℕ) (wide : 1 < c) (bytes : List ℕ) where
   values-read vs post at k fits e l = rw (← l) (values-by vs at (fields_read vs post at fits e))
 
 -- a number field that zeros do not fill reads as its value
-value-of : (x : Number) → blanks_only x ≡ true → x ≡ Value (value_of x) false
-value-of (Value v zeros) e = ap (Value v) (not-true zeros e)
-value-of Bad e = absurd (apart (sym e))
+value-of : (x : Option Number) → blanks_only x ≡ true → x ≡ number (value_of x) false
+value-of (Some x) e = ap (number x.value) (not-true x.zeros e)
+value-of None e = absurd (apart (sym e))
 
 -- the other way round: fields that are kept are the text of their values
 module _ (c : ℕ) (bytes : List ℕ) where

@@ -1,18 +1,16 @@
 -- Marks (document 01, as request F-5 amends them): the text of a search on a molecule, and what bytes restore to.
-use Rattle.std.specs.Prelude.{ℕ, zero, suc, ◌+◌, ◌*◌, Bool, true, ◌&&◌, cond, List, [], ◌∷◌, ◌++◌, reverse, length, get_or, drop, leb, eqb}
+use Rattle.std.specs.Prelude.{ℕ, zero, suc, ◌+◌, ◌*◌, Bool, true, ◌&&◌, cond, List, [], ◌∷◌, ◌++◌, reverse, length, get_or, drop, leb, eqb, Err, Ok, Result}
 use Rattle.graph.specs.Every.{all_below}
 pub use Rattle.fields.specs.Field.{field_at, blanks_only, value_of, value_at}
 use Rattle.fields.specs.Field.{field_text}
 use Rattle.refusal.specs.declared.Refusal.TheVariants as refusal
+use Rattle.refusal.specs.Answers.{◌>>=◌, unless_refused}
 use Rattle.molecule.specs.declared.Molecule.{Molecule}
 use Rattle.molecule.specs.Record.{well_formed}
 use Rattle.molecule.specs.BondList.{Bond, bond_list, ascending, same_bonds}
 use Rattle.search.specs.declared.Search.{Search}
-use Rattle.search.specs.declared.Made.{Made}
-use Rattle.search.specs.declared.Saved.{Saved}
-use Rattle.search.specs.declared.Saved.TheVariants.{Written, Refused}
 use Rattle.search.specs.Place.{beginning, family_of, search_at, kind_kept, place_kept, restorable}
-use Rattle.search.specs.Entries.{accepted_search, refused_search}
+use Rattle.refusal.specs.declared.Refusal.{Refusal}
 
 -- numbers, each in a field of so many columns
 unfoldable pub fields_text : ℕ → List ℕ → List ℕ
@@ -39,20 +37,27 @@ unfoldable pub mark_text : Molecule → Search → List ℕ
 mark_text mol q = three_lines mol q ++ bond_lines (bond_list mol.rows)
 
 -- Rule 13: a mark is written where the output has its bytes; the number of bytes written
-abbrev pub write_answer : List ℕ → List ℕ → Saved
-write_answer text out = cond (leb (length text) (length out)) (Written (length text)) (Refused refusal.MarkRoom)
+abbrev pub write_answer : List ℕ → List ℕ → Result ℕ Refusal
+write_answer text out = cond (leb (length text) (length out)) (Ok (length text)) (Err refusal.MarkRoom)
 
 -- the bytes that an answer leaves in the output: the mark, and then the bytes that were there
-abbrev pub written_bytes : Saved → List ℕ → List ℕ → List ℕ
-written_bytes (Written k) text out = text ++ drop k out
-written_bytes (Refused r) text out = out
+abbrev pub written_bytes : Result ℕ Refusal → List ℕ → List ℕ → List ℕ
+written_bytes (Ok k) text out = text ++ drop k out
+written_bytes (Err r) text out = out
+
+-- The same where rules were tried before that the text comes of: the first refusal is the answer and leaves every byte
+abbrev pub answer_with : Result (List ℕ) Refusal → List ℕ → Result ℕ Refusal
+answer_with text out = text >>= λ t. write_answer t out
+
+abbrev pub output_with : Result (List ℕ) Refusal → List ℕ → List ℕ
+output_with text out = unless_refused text (λ r. out) (λ t. written_bytes (write_answer t out) t out)
 
 -- A save: rule 9, rule 12, rule 13
-unfoldable pub save_answer : Molecule → Search → List ℕ → Saved
+unfoldable pub save_answer : Molecule → Search → List ℕ → Result ℕ Refusal
 save_answer mol q out =
     cond (well_formed mol)
-    (cond (restorable mol q) (write_answer (mark_text mol q) out) (Refused refusal.Search))
-    (Refused refusal.Record)
+    (cond (restorable mol q) (write_answer (mark_text mol q) out) (Err refusal.Search))
+    (Err refusal.Record)
 
 -- Its output
 unfoldable pub save_output : Molecule → Search → List ℕ → List ℕ
@@ -142,25 +147,25 @@ unfoldable pub belongs : Molecule → List ℕ → Bool
 belongs mol bytes = eqb (value_at 4 bytes 12) mol.atoms && same_bonds (bonds_named bytes) (bond_list mol.rows)
 
 -- Rules 16 and 17 on the kind and the place that a mark names, and its search
-unfoldable pub placed_search : Molecule → List ℕ → Made
+unfoldable pub placed_search : Molecule → List ℕ → Result Search Refusal
 placed_search mol bytes =
     cond (kind_kept mol.atoms (value_at 4 bytes 0) (value_at 4 bytes 4) (value_at 4 bytes 8))
     (cond (place_kept (family_of mol (value_at 4 bytes 0) (value_at 4 bytes 4) (value_at 4 bytes 8))
     (mark_beginning bytes)
     (value_at 4 bytes 24))
-    (accepted_search (mark_search bytes))
-    (refused_search refusal.MarkPlace))
-    (refused_search refusal.MarkKind)
+    (Ok (mark_search bytes))
+    (Err refusal.MarkPlace))
+    (Err refusal.MarkKind)
 
 -- Rules 9, 14 and 15, the last two by whether each is kept, then 16 and 17
-unfoldable pub restore_by : Bool → Bool → Molecule → List ℕ → Made
+unfoldable pub restore_by : Bool → Bool → Molecule → List ℕ → Result Search Refusal
 restore_by layout own mol bytes =
     cond (well_formed mol)
     (cond layout
-    (cond own (placed_search mol bytes) (refused_search refusal.MarkMolecule))
-    (refused_search refusal.MarkBytes))
-    (refused_search refusal.Record)
+    (cond own (placed_search mol bytes) (Err refusal.MarkMolecule))
+    (Err refusal.MarkBytes))
+    (Err refusal.Record)
 
 -- A restore: rules 9, 14, 15, 16, 17
-unfoldable pub restore_mark : Molecule → List ℕ → Made
+unfoldable pub restore_mark : Molecule → List ℕ → Result Search Refusal
 restore_mark mol bytes = restore_by (layout_kept bytes) (belongs mol bytes) mol bytes

@@ -1,15 +1,18 @@
-// The search of document 01 and the answers of the entries on it. What they mean is in specs/.
+// The search of document 01 and what a run of it returns. What they mean, and what the entries on it answer, is in
+// specs/.
 #![tactic(auto)]
 
 ghost use Rattle.std.specs.Prelude.{◌≡◌};
 ghost use Rattle.search.specs.Place.{lists_paths, fresh_search, bound_kept};
-ghost use Rattle.search.specs.Entries.{accepted_search, refused_search, ended_number};
+ghost use Rattle.search.specs.Entries.{ended_number};
 
 use enumeration::Stop;
-use refusal::{Answer, Refusal};
+use refusal::Refusal;
 
 // Kind 0 lists rings, kind 1 paths from s to t, kind 2 rings of at most s atoms, kind 3 shortest paths from s to t.
 // The present beginning is the first `len` places of `prefix`; the places past it hold 0.
+// `kind` is a number, not an enum: rules 12 and 16 refuse every other number in a search or a mark that is handed in.
+// Document 01 names the array; the memory is fixed.
 #[derive(Clone, Copy)]
 pub struct Search {
     pub kind: usize,
@@ -23,37 +26,17 @@ pub struct Search {
     pub listed: u64,
 }
 
-// What an entry that makes a search returns.
-#[derive(Clone, Copy)]
-pub struct Made {
-    pub answer: Answer,
-    pub search: Search,
-}
-
-// The answer of a run.
-#[derive(Clone, Copy)]
-pub enum Ended {
-    Stopped(Stop),
-    Refused(Refusal),
-}
-
+// What a run that was not refused returns.
 #[derive(Clone, Copy)]
 pub struct Ran {
-    pub ended: Ended,
+    pub stop: Stop,
     pub search: Search,
     pub used: usize,
     pub made: u64,
 }
 
-// The answer of a save: the number of bytes written.
-#[derive(Clone, Copy)]
-pub enum Saved {
-    Written(usize),
-    Refused(Refusal),
-}
-
 // The form of a mark: old, without bond lines, as it was before request F-5, or new.
-#[derive(Clone, Copy)]
+#[derive(Clone, Copy, Debug, PartialEq, Eq)]
 pub enum Form {
     Old,
     New,
@@ -64,9 +47,9 @@ pub fn fresh_search(kind: usize, s: usize, t: usize) -> Search
     ensures { result ≡ fresh_search kind s t }
 {
     Search {
-        kind: kind,
-        s: s,
-        t: t,
+        kind,
+        s,
+        t,
         len: 0,
         prefix: [0u8; 128],
         next: 1,
@@ -80,49 +63,23 @@ pub fn fresh_search(kind: usize, s: usize, t: usize) -> Search
 pub fn lists_paths(kind: usize) -> bool
     ensures { result ≡ lists_paths kind }
 {
-    if kind == 1 {
-        return true;
-    }
-    kind == 3
+    matches!(kind, 1 | 3)
 }
 
 // Rule 21: whether k may be the largest size of a ring.
+#[tactic(auto, unfolding(crate::specs::Place::bound_kept))]
 pub fn bound_kept(k: usize) -> bool
     ensures { result ≡ bound_kept k }
 {
-    if k < 3 {
-        return false;
-    }
-    k <= 128
-}
-
-// The answer that accepts a search.
-pub fn accepted_search(q: Search) -> Made
-    ensures { result ≡ accepted_search q }
-{
-    Made {
-        answer: Answer::Accepted,
-        search: q,
-    }
-}
-
-// A refusal, which returns the fresh ring search.
-pub fn refused_search(refusal: Refusal) -> Made
-    ensures { result ≡ refused_search refusal }
-{
-    let q = fresh_search(0, 0, 0);
-    Made {
-        answer: Answer::Refused(refusal),
-        search: q,
-    }
+    matches!(k, 3..=128)
 }
 
 // The number of a run's answer: of its stop or of its refusal.
-pub fn ended_number(e: Ended) -> u32
-    ensures { result ≡ ended_number e }
+pub fn ended_number(answer: &Result<Ran, Refusal>) -> u32
+    ensures { result ≡ ended_number answer.now }
 {
-    match e {
-        Ended::Stopped(why) => enumeration::stop_number(why),
-        Ended::Refused(r) => refusal::number(r),
+    match answer {
+        Ok(ran) => enumeration::stop_number(ran.stop),
+        Err(r) => refusal::number(*r),
     }
 }
