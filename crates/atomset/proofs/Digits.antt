@@ -1,16 +1,15 @@
--- The bits of the words that the operations make: and, or, difference, one bit, the low bits, the lowest bit, and bytes
+-- The bits of the words that the operations make: and, or, difference, one bit, the low bits, and bytes
 -- joined. By induction on the place, a bit at a time from the lowest.
-use Prim.Native.Nat.{ℕ, zero, suc, ◌+◌, ◌-◌, ◌*◌, ◌/◌, ◌%◌, ◌^◌, ◌≤◌, ◌<◌, min}
+use Prim.Native.Nat.{ℕ, zero, suc, ◌+◌, ◌-◌, ◌*◌, ◌/◌, ◌%◌, ◌^◌, ◌≤◌, ◌<◌, min, max}
 use native.Mathlib.Nat.{zero-div, pow-suc, mod-lt, min-le_left, zero-lt-suc}
 use native.Mathlib.Omega.{arith}
 use native.Mathlib.Decide.{ℕ_discrete}
 use mathlib.Core.Path.{◌≡◌, refl, ap, ap₂, sym, ◌∙◌}
 use mathlib.Core.Bool.{Bool, true, false, ◌&&◌, ◌||◌, not}
-use mathlib.Core.Logic.{◌⊎◌, inl, inr}
-use lib.Dec.{ltb, eqb, eqb-suc-suc, eqb-zero-suc, eqb-suc-zero, leb-suc-suc}
+use lib.Dec.{ltb, eqb, leb-suc-suc}
+use Rattle.std.proofs.lemmas.Nat.Bits.{bit_at_and, bit_at_or, bit_at-pow_same, bit_at-pow_other}
 use lib.Pow.{pow_pos, shr-shr, high}
-use lib.Bits.{bit_and, bit_or, and_step, and_shr, or_shr, and_mod, or_mod, and_le_l, block_half, block_odd}
-use lib.Count.{count_trailing_zeros, under}
+use lib.Bits.{bit_and, bit_or, and_step, and_le_l, block_half, block_odd}
 use borrow.Author.Tests.{eqb-true, eq-eqb, ne_eqb, lt-ltb, le-ltb}
 use Rattle.molecule.specs.Record.{bit}
 use Rattle.molecule.proofs.Bits.{bit-first, bit-half}
@@ -23,15 +22,19 @@ digit x = mod-lt x (zero-lt-suc 1)
 
 -- and, or
 
-and-digit : (p q : ℕ) → p < 2 → q < 2 → eqb (bit_and p q) 1 ≡ (eqb p 1 && eqb q 1)
-and-digit zero q hp hq = refl
+and-digit : (p q : ℕ) → p < 2 → q < 2 → eqb (min p q) 1 ≡ (eqb p 1 && eqb q 1)
+and-digit zero zero hp hq = refl
+and-digit zero (suc zero) hp hq = refl
+and-digit zero (suc (suc q)) hp hq = absurd (omega arith)
 and-digit (suc zero) zero hp hq = refl
 and-digit (suc zero) (suc zero) hp hq = refl
 and-digit (suc zero) (suc (suc q)) hp hq = absurd (omega arith)
 and-digit (suc (suc p)) q hp hq = absurd (omega arith)
 
-or-digit : (p q : ℕ) → p < 2 → q < 2 → eqb (bit_or p q) 1 ≡ (eqb p 1 || eqb q 1)
-or-digit zero q hp hq = refl
+or-digit : (p q : ℕ) → p < 2 → q < 2 → eqb (max p q) 1 ≡ (eqb p 1 || eqb q 1)
+or-digit zero zero hp hq = refl
+or-digit zero (suc zero) hp hq = refl
+or-digit zero (suc (suc q)) hp hq = absurd (omega arith)
 or-digit (suc zero) zero hp hq = refl
 or-digit (suc zero) (suc zero) hp hq = refl
 or-digit (suc zero) (suc (suc q)) hp hq = absurd (omega arith)
@@ -41,15 +44,13 @@ pub bit-and : (x y k : ℕ) → bit (bit_and x y) k ≡ (bit x k && bit y k)
 bit-and x y k =
     let p = x / 2 ^ k in
     let q = y / 2 ^ k in
-    ap (λ (n : ℕ). eqb (n % 2) 1) (and_shr x y k) ∙ ap (λ (n : ℕ). eqb n 1) (and_mod p q 1) ∙
-    and-digit (p % 2) (q % 2) (digit p) (digit q)
+    rw (bit_at_and x y k) (and-digit (p % 2) (q % 2) (digit p) (digit q))
 
 pub bit-or : (x y k : ℕ) → bit (bit_or x y) k ≡ (bit x k || bit y k)
 bit-or x y k =
     let p = x / 2 ^ k in
     let q = y / 2 ^ k in
-    ap (λ (n : ℕ). eqb (n % 2) 1) (or_shr x y k) ∙ ap (λ (n : ℕ). eqb n 1) (or_mod p q 1) ∙
-    or-digit (p % 2) (q % 2) (digit p) (digit q)
+    rw (bit_at_or x y k) (or-digit (p % 2) (q % 2) (digit p) (digit q))
 
 -- a number less what it shares with another: no place borrows from the next
 
@@ -90,14 +91,10 @@ bit-less x y (suc k) =
 -- one bit
 
 pub bit-power : (i k : ℕ) → bit (2 ^ i) k ≡ eqb k i
-bit-power zero zero = refl
-bit-power zero (suc k) = bit-half 1 k ∙ bit-none k ∙ sym (eqb-suc-zero k)
-bit-power (suc i) zero =
-    let even : 2 ^ suc i % 2 ≡ 0 = rw (pow-suc 2 i) (omega arith) in
-    bit-first (2 ^ suc i) ∙ ap (λ (n : ℕ). eqb n 1) even ∙ sym (eqb-zero-suc i)
-bit-power (suc i) (suc k) =
-    let half : 2 ^ suc i / 2 ≡ 2 ^ i = rw (pow-suc 2 i) (omega arith) in
-    bit-half (2 ^ suc i) k ∙ ap (λ (n : ℕ). bit n k) half ∙ bit-power i k ∙ sym (eqb-suc-suc k i)
+bit-power i k = elim (ℕ_discrete k i) [
+  | yes e ↦ rw (e, bit_at-pow_same i, eq-eqb i i refl)
+  | no d ↦ rw (bit_at-pow_other i k d, ne_eqb k i d)
+]
 
 -- the low bits
 
@@ -109,59 +106,6 @@ bit-ones (suc i) zero =
 bit-ones (suc i) (suc k) =
     let half : (2 ^ suc i - 1) / 2 ≡ 2 ^ i - 1 = rw (pow-suc 2 i) (omega (arith, pow_pos i)) in
     bit-half (2 ^ suc i - 1) k ∙ ap (λ (n : ℕ). bit n k) half ∙ bit-ones i k ∙ sym (leb-suc-suc (suc k) i)
-
--- the lowest bit of a word
-
-low_digit : (n : ℕ) → (n % 2 ≡ 0) ⊎ (n % 2 ≡ 1)
-low_digit n = split (n % 2) refl (digit n)
-  where
-    split : (d : ℕ) → n % 2 ≡ d → d < 2 → (n % 2 ≡ 0) ⊎ (n % 2 ≡ 1)
-    split zero e h = inl e
-    split (suc zero) e h = inr e
-    split (suc (suc d)) e h = absurd (omega arith)
-
-pub trailing_below : (k n : ℕ) → 0 < n → n < 2 ^ k → count_trailing_zeros k n < k
-unfolding count_trailing_zeros
-trailing_below zero n p h = absurd (omega arith)
-trailing_below (suc k) n p h = split (low_digit n) (λ q. trailing_below k (n / 2) q half)
-  where
-    half : n / 2 < 2 ^ k
-    half = let small : n < 2 ^ k * 2 = rw (pow-suc 2 k) at h in omega arith
-
-    split :
-        (n % 2 ≡ 0) ⊎ (n % 2 ≡ 1) → (0 < n / 2 → count_trailing_zeros k (n / 2) < k) →
-        under (n % 2) (count_trailing_zeros k (n / 2)) < suc k
-    split (inl e) rest = let below : count_trailing_zeros k (n / 2) < k = rest (omega arith) in rw e (omega arith)
-    split (inr e) rest = rw e (omega arith)
-
-pub trailing-set : (k n : ℕ) → count_trailing_zeros k n < k → bit n (count_trailing_zeros k n) ≡ true
-unfolding count_trailing_zeros
-trailing-set zero n h = absurd (omega arith)
-trailing-set (suc k) n h = split (low_digit n) h (λ q. trailing-set k (n / 2) q)
-  where
-    split :
-        (n % 2 ≡ 0) ⊎ (n % 2 ≡ 1) → under (n % 2) (count_trailing_zeros k (n / 2)) < suc k →
-        (count_trailing_zeros k (n / 2) < k → bit (n / 2) (count_trailing_zeros k (n / 2)) ≡ true) →
-        bit n (under (n % 2) (count_trailing_zeros k (n / 2))) ≡ true
-    split (inl e) b rest =
-        let below : suc (count_trailing_zeros k (n / 2)) < suc k = rw e at b in
-        let set : bit (n / 2) (count_trailing_zeros k (n / 2)) ≡ true = rest (omega arith) in
-        ap (λ (d : ℕ). bit n (under d (count_trailing_zeros k (n / 2)))) e ∙
-        bit-half n (count_trailing_zeros k (n / 2)) ∙ set
-    split (inr e) b rest =
-        ap (λ (d : ℕ). bit n (under d (count_trailing_zeros k (n / 2)))) e ∙ bit-first n ∙ ap (λ (d : ℕ). eqb d 1) e
-
-pub trailing-least : (k n j : ℕ) → bit n j ≡ true → count_trailing_zeros k n ≤ j
-unfolding count_trailing_zeros
-trailing-least zero n j b = omega arith
-trailing-least (suc k) n zero b =
-    let odd : n % 2 ≡ 1 = eqb-true (n % 2) 1 (sym (bit-first n) ∙ b) in rw odd (omega arith)
-trailing-least (suc k) n (suc j) b = split (low_digit n) (trailing-least k (n / 2) j (sym (bit-half n j) ∙ b))
-  where
-    split : (n % 2 ≡ 0) ⊎ (n % 2 ≡ 1) → count_trailing_zeros k (n / 2) ≤ j →
-        under (n % 2) (count_trailing_zeros k (n / 2)) ≤ suc j
-    split (inl e) h = rw e (omega arith)
-    split (inr e) h = rw e (omega arith)
 
 -- one less: the lowest bit goes, those above it stay
 

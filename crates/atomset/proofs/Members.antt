@@ -8,17 +8,20 @@ use mathlib.Core.Path.{◌≡◌, refl, ap, ap₂, sym, ◌∙◌}
 use mathlib.Core.Bool.{Bool, true, false, ◌&&◌, ◌||◌, not, and-true}
 use mathlib.Core.List.{List, [], ◌∷◌}
 use mathlib.Core.Logic.{◌⊎◌, inl, inr}
-use lib.ListN.{get_or}
+use Rattle.std.specs.Int.{w64, bit_at}
+use Rattle.std.proofs.lemmas.Nat.Bits.{bit_at-trailing_zeros}
+use lib.ListN.{get_or, length}
+use lib.Pointwise.{pointwise}
 use lib.Dec.{leb, ltb, eqb}
 use lib.Pow.{shl_exact}
 use lib.Bits.{bit_and, bit_or}
 use lib.Count.{count_trailing_zeros}
-use borrow.Author.Tests.{le-leb, leb-true, leb-false, lt-leb, lt-ltb, le-ltb, ltb-true, ltb-false, eq-eqb, ne_eqb, eqb-true, eqb-false}
-use Rattle.graph.proofs.Below.{apart, clash, either, and_parts, and_both, same_test, false_of, not-of}
+use borrow.Author.Tests.{le-leb, leb-true, leb-false, lt-leb, lt-ltb, ltb-true, ltb-false, eq-eqb, ne_eqb, eqb-true, eqb-false}
+use Rattle.graph.proofs.Below.{clash, either, and_parts, and_both, same_test, false_of, not-of}
 use Rattle.molecule.specs.Record.{bit, is_atom}
 use Rattle.molecule.proofs.Bonds.{atom-of}
 use Rattle.atomset.specs.Set.{has, holds_none, Emptiness, Lowest, LowestBit, LowestLeft, AtMostOne}
-use Rattle.atomset.proofs.Digits.{bit-none, bit-and, bit-or, bit-less, bit-power, bit-ones, bit-cleared, trailing_below, trailing-set, trailing-least}
+use Rattle.atomset.proofs.Digits.{bit-none, bit-and, bit-or, bit-less, bit-power, bit-ones, bit-cleared}
 
 -- where an atom's bit is
 
@@ -198,25 +201,6 @@ has-up-to-second n l h a =
     (λ la ha. let upper = atom-upper n a (omega arith) in
     bit-ones (n - 64) (a - 65) ∙ ltb-less a n 64 (n - 64) la (omega arith) ∙ sym upper)
 
--- the atoms up to n that are not up to `low`
-pub range-test : (low n a : ℕ) → (is_atom n a && not (is_atom low a)) ≡ (ltb low a && leb a n)
-range-test low n a = split (either (leb 1 a)) (either (leb a low))
-  where
-    split :
-        (leb 1 a ≡ true) ⊎ (leb 1 a ≡ false) → (leb a low ≡ true) ⊎ (leb a low ≡ false) →
-        (is_atom n a && not (is_atom low a)) ≡ (ltb low a && leb a n)
-    split (inr z) m = let none = leb-false 1 a z in rw (z, le-ltb low a (omega arith))
-    split (inl l) (inl m) = rw (l, m, le-ltb low a (leb-true a low m)) (off (leb a n))
-      where
-        off : (t : Bool) → (t && false) ≡ false
-        off true = refl
-        off false = refl
-    split (inl l) (inr m) = rw (l, m, lt-ltb low a (leb-false a low m)) (on (leb a n))
-      where
-        on : (t : Bool) → (t && true) ≡ t
-        on true = refl
-        on false = refl
-
 -- emptiness, and the lowest atom
 
 pub empty-none : (words : List ℕ) → holds_none words ≡ true → (a : ℕ) → has words a ≡ false
@@ -282,9 +266,20 @@ lowest-second words j z b =
     rw same at (lowest-word words 1 j (omega arith) (λ w h. let first : w ≡ 0 = omega arith in rw first z) b)
 
 pub lowest-in : (word : ℕ) → (word ≡ 0 → ⊥) → word < 2 ^ 64 → LowestBit word (count_trailing_zeros 64 word)
-lowest-in word z h =
-    let below = trailing_below 64 word (omega arith) h in
-    record { below = below; set = trailing-set 64 word below; least = λ i b. trailing-least 64 word i b }
+lowest-in word z h = record { below = zeros.0; set = eq-eqb _ _ zeros.1; least = least }
+  where
+    zeros :
+        (count_trailing_zeros 64 word < 64) × (bit_at word (count_trailing_zeros 64 word) ≡ 1) ×
+        ((i : ℕ) → i < count_trailing_zeros 64 word → bit_at word i ≡ 0)
+    zeros = bit_at-trailing_zeros w64 word (omega arith) h
+
+    least : (i : ℕ) → bit word i ≡ true → count_trailing_zeros 64 word ≤ i
+    least i b = elim (either (ltb i (count_trailing_zeros 64 word))) [
+      | inl t ↦
+          let none : bit word i ≡ false = rw (zeros.2 i (ltb-true _ _ t)) in
+          absurd (clash (bit word i) b none)
+      | inr f ↦ ltb-false _ _ f
+    ]
 
 pub second_word : (words : List ℕ) → holds_none words ≡ false → get_or words 0 0 ≡ 0 → get_or words 1 0 ≡ 0 → ⊥
 unfolding holds_none
@@ -292,34 +287,42 @@ second_word words e z0 z1 =
     let both : holds_none words ≡ true = rw (eq-eqb (get_or words 0 0) 0 z0, eq-eqb (get_or words 1 0) 0 z1) in
     clash (holds_none words) both e
 
--- the test of emptiness, by the word that it ends at
+-- the test of emptiness
 
-pub not-empty-first : (words : List ℕ) → (get_or words 0 0 ≡ 0 → ⊥) → get_or words 0 0 < 2 ^ 64 → Emptiness words false
+two-zeros : (words : List ℕ) → length words ≡ 2 → pointwise eqb words (0 ∷ 0 ∷ []) ≡ holds_none words
 unfolding holds_none
-not-empty-first words z h =
-    record {
-      test = rw (ne_eqb (get_or words 0 0) 0 z);
-      none = λ e. absurd (apart (sym e));
-      some = λ e. (j + 1, (lowest-first words j (lowest-in (get_or words 0 0) z h)).member);
-    }
-  where
-    j : ℕ
-    j = count_trailing_zeros 64 (get_or words 0 0)
+two-zeros [] e = absurd (omega arith)
+two-zeros (x ∷ []) e = absurd (omega arith)
+two-zeros (x ∷ y ∷ []) e = rw (and-true (eqb y 0))
+two-zeros (x ∷ y ∷ z ∷ rest) e = absurd (omega arith)
 
-second-test : (words : List ℕ) → get_or words 0 0 ≡ 0 → eqb (get_or words 1 0) 0 ≡ holds_none words
-unfolding holds_none
-second-test words z = rw (eq-eqb (get_or words 0 0) 0 z)
-
-pub empty-second :
-    (words : List ℕ) → get_or words 0 0 ≡ 0 → get_or words 1 0 < 2 ^ 64 → Emptiness words (eqb (get_or words 1 0) 0)
-empty-second words z h =
-    record { test = second-test words z; none = λ e. empty-none words (sym (second-test words z) ∙ e); some = some }
+some-atom :
+    (words : List ℕ) → ((i : ℕ) → get_or words i 0 < 2 ^ 64) → holds_none words ≡ false →
+    (a : ℕ) × (has words a ≡ true)
+some-atom words fits some = split (either (eqb (get_or words 0 0) 0))
   where
-    some : eqb (get_or words 1 0) 0 ≡ false → (a : ℕ) × (has words a ≡ true)
-    some e =
+    split :
+        (eqb (get_or words 0 0) 0 ≡ true) ⊎ (eqb (get_or words 0 0) 0 ≡ false) → (a : ℕ) × (has words a ≡ true)
+    split (inl z) =
+        let first = eqb-true (get_or words 0 0) 0 z in
+        let low = lowest-in (get_or words 1 0) (second_word words some first) (fits 1) in
         let j = count_trailing_zeros 64 (get_or words 1 0) in
-        let low = lowest-in (get_or words 1 0) (eqb-false (get_or words 1 0) 0 e) h in
-        (j + 65, (lowest-second words j z low).member)
+        (j + 65, (lowest-second words j first low).member)
+    split (inr d) =
+        let low = lowest-in (get_or words 0 0) (eqb-false (get_or words 0 0) 0 d) (fits 0) in
+        let j = count_trailing_zeros 64 (get_or words 0 0) in
+        (j + 1, (lowest-first words j low).member)
+
+pub emptiness :
+    (words : List ℕ) → length words ≡ 2 → ((i : ℕ) → get_or words i 0 < 2 ^ 64) → {answer : Bool} →
+    answer ≡ pointwise eqb words (0 ∷ 0 ∷ []) → Emptiness words answer
+emptiness words two fits e =
+    let same = e ∙ two-zeros words two in
+    record {
+      test = same;
+      none = λ yes. empty-none words (sym same ∙ yes);
+      some = λ no. some-atom words fits (sym same ∙ no);
+    }
 
 -- what the answer tells, to be found by `search`
 pub none_of : {words : List ℕ} {answer : Bool} → Emptiness words answer → answer ≡ true → (a : ℕ) → has words a ≡ false
@@ -418,10 +421,6 @@ left_second words none z h =
 
 -- at most one atom
 
-pub none-sole : {words : List ℕ} → ((a : ℕ) → has words a ≡ false) → AtMostOne words true
-none-sole {words} none =
-    record { sole = λ e u v a b. absurd (clash (has words u) a (none u)); two = λ e. absurd (apart e) }
-
 -- the set has an atom, and the answer is whether the rest has none
 module _ {words rest : List ℕ} {answer : Bool} {v : ℕ} (l : Lowest words v) (r : LowestLeft words rest)
     (e : Emptiness rest answer) where
@@ -448,19 +447,6 @@ module _ {words rest : List ℕ} {answer : Bool} {v : ℕ} (l : Lowest words v) 
       }
 
 -- ---- the lowest atom alone, and whether it is in another set
-
--- what the set has and the rest has not
-pub lowest-alone :
-    {words rest : List ℕ} {alone : ℕ → Bool} → LowestLeft words rest →
-    ((u : ℕ) → alone u ≡ (has words u && not (has rest u))) → (v : ℕ) → Lowest words v → (u : ℕ) → alone u ≡ eqb u v
-lowest-alone {words} left alone_is v l u =
-    alone_is u ∙ rw (left.others v l u) (cases (has words u) (eqb u v) (λ e. rw (eqb-true u v e) l.member))
-  where
-    cases : (a same : Bool) → (same ≡ true → a ≡ true) → a && not (a && not same) ≡ same
-    cases true true h = refl
-    cases true false h = refl
-    cases false true h = h refl
-    cases false false h = refl
 
 -- `shared` has it if the other set does
 pub lowest-shared :

@@ -1,21 +1,20 @@
 -- The words of the rows: bytes joined to words keep their bits, and a word's bits are those of its row.
 -- A place of a word is a byte and a place in it.
 use Prim.Native.Nat.{ℕ, zero, suc, ◌+◌, ◌-◌, ◌*◌, ◌/◌, ◌%◌, ◌^◌, ◌≤◌, ◌<◌}
-use native.Mathlib.Nat.{add-zero}
+use native.Mathlib.Nat.{add-zero, mul-le-mul_right}
+use Rattle.std.proofs.lemmas.Nat.{pow-add}
 use native.Mathlib.Omega.{arith}
 use mathlib.Core.Path.{◌≡◌, refl, ap, ap₂, sym, ◌∙◌}
 use mathlib.Core.Bool.{true, false, ◌&&◌}
 use mathlib.Core.List.{List, [], ◌∷◌}
 use mathlib.Core.Logic.{◌⊎◌, inl, inr}
-use native.Mathlib.Decide.{ℕ_discrete}
-use lib.ListN.{length, get_or, set, replicate, length-set, length-replicate}
-use lib.Seq.{get_or-set_same, get_or-set_other}
+use lib.ListN.{length, get_or}
 use lib.Dec.{leb, ltb}
 use borrow.Author.Tests.{le-leb, leb-true, ltb-true, ltb-false}
-use Rattle.widen.specs.Widened.{Widened}
+use Rattle.std.specs.Int.{w64, from_le_bytes}
 use Rattle.graph.proofs.Below.{either, and_parts}
 use Rattle.molecule.specs.Record.{bit, cell, is_atom}
-use Rattle.atomset.specs.Set.{has, linked_by, Reads, Half, WordsOf}
+use Rattle.atomset.specs.Set.{has, linked_by, Reads, WordsOf}
 use Rattle.atomset.proofs.Digits.{bit-low, bit_high}
 
 pub reads_byte : (bytes : List ℕ) (at : ℕ) → Reads bytes at 8 (get_or bytes at 0)
@@ -45,35 +44,37 @@ reads-join bytes at m count lo hi small low high j h = split (either (ltb j (8 *
         high (j - 8 * m) (omega arith)
         ∙ ap₂ (λ (i k : ℕ). bit (get_or bytes i 0) k) byte place
 
--- the byte at a place, read into a word
-byte-read : (bytes : List ℕ) (at x : ℕ) → Widened 256 (get_or bytes at 0) x → Reads bytes at 8 x
-byte-read bytes at x w = rw w.same (reads_byte bytes at)
+-- the number that m bytes make, the lowest first
+record Joined (bytes : List ℕ) (at m word : ℕ) : Type 0 where
+  small : word < 2 ^ (8 * m)
+  bits : Reads bytes at (8 * m) word
 
-pub four_bytes :
-    {bytes : List ℕ} {at x0 x1 x2 x3 : ℕ} → Widened 256 (get_or bytes at 0) x0 →
-    Widened 256 (get_or bytes (at + 1) 0) x1 →
-    Widened 256 (get_or bytes (at + 2) 0) x2 → Widened 256 (get_or bytes (at + 3) 0) x3 →
-    Half bytes at (x0 + 256 * x1 + 65536 * x2 + 16777216 * x3)
-four_bytes {bytes} {at} {x0} {x1} {x2} {x3} w0 w1 w2 w3 =
-    let two = x1 * 256 + x0 in
-    let three = x2 * 65536 + two in
-    let r1 : Reads bytes at 8 x0 = byte-read bytes at x0 w0 in
-    let r2 : Reads bytes at 16 two = reads-join bytes at 1 8 x0 x1 w0.small r1 (byte-read bytes (at + 1) x1 w1) in
-    let r3 : Reads bytes at 24 three =
-    reads-join bytes at 2 8 two x2 (omega (arith, w0.small, w1.small)) r2 (byte-read bytes (at + 2) x2 w2) in
-    let r4 : Reads bytes at 32 (x3 * 16777216 + three) =
-    reads-join bytes at 3 8 three x3 (omega (arith, w0.small, w1.small, w2.small)) r3
-    (byte-read bytes (at + 3) x3 w3) in
-    let same : x3 * 16777216 + three ≡ x0 + 256 * x1 + 65536 * x2 + 16777216 * x3 = omega arith in
-    record { small = omega (arith, w0.small, w1.small, w2.small, w3.small); bits = rw same at r4 }
+module _ (bytes : List ℕ) (at : ℕ) (fits : (i : ℕ) → get_or bytes i 0 < 256) where
+  first-byte : Joined bytes at 1 (get_or bytes at 0)
+  first-byte = record { small = fits at; bits = reads_byte bytes at }
 
-pub two-halves :
-    {bytes : List ℕ} {at lo hi : ℕ} → Half bytes at lo → Half bytes (at + 4) hi →
-    Reads bytes at 64 (lo + 4294967296 * hi)
-two-halves {bytes} {at} {lo} {hi} l h =
-    let w : Reads bytes at 64 (hi * 4294967296 + lo) = reads-join bytes at 4 32 lo hi l.small l.bits h.bits in
-    let same : hi * 4294967296 + lo ≡ lo + 4294967296 * hi = omega arith in
-    rw same at w
+  more-bytes :
+      {lo : ℕ} (m : ℕ) → Joined bytes at m lo → Joined bytes at (m + 1) (lo + get_or bytes (at + m) 0 * 2 ^ (8 * m))
+  more-bytes {lo} m r =
+      let byte = get_or bytes (at + m) 0 in
+      let size : 8 * (m + 1) ≡ 8 * m + 8 = omega arith in
+      let power : 2 ^ (8 * m + 8) ≡ 2 ^ (8 * m) * 256 = pow-add 2 (8 * m) 8 in
+      let most : byte * 2 ^ (8 * m) ≤ 255 * 2 ^ (8 * m) =
+      mul-le-mul_right (2 ^ (8 * m)) (omega (arith, fits (at + m))) in
+      let order : byte * 2 ^ (8 * m) + lo ≡ lo + byte * 2 ^ (8 * m) = omega arith in
+      let bits = reads-join bytes at m 8 lo byte r.small r.bits (reads_byte bytes (at + m)) in
+      record { small = rw (size, power) (omega (arith, r.small)); bits = rw (size, ← order) bits }
+
+  pub eight-bytes :
+      {word : ℕ} →
+      word ≡
+      from_le_bytes w64
+      (get_or bytes at 0 ∷ get_or bytes (at + 1) 0 ∷ get_or bytes (at + 2) 0 ∷ get_or bytes (at + 3) 0 ∷
+      get_or bytes (at + 4) 0 ∷ get_or bytes (at + 5) 0 ∷ get_or bytes (at + 6) 0 ∷ get_or bytes (at + 7) 0 ∷ []) →
+      Reads bytes at 64 word
+  eight-bytes e =
+      let four = more-bytes 3 (more-bytes 2 (more-bytes 1 first-byte)) in
+      rw e (more-bytes 7 (more-bytes 6 (more-bytes 5 (more-bytes 4 four)))).bits
 
 -- a table that has every word of the rows has their bits
 pub table-linked :
@@ -116,26 +117,6 @@ pub record ReadTo (rows table : List ℕ) (i : ℕ) : Type 0 where
   pub within : i ≤ 256
   pub size : length table ≡ 256
   pub read : (k : ℕ) → k < i → Reads rows (8 * k) 64 (get_or table k 0)
-
-pub read_none : {rows : List ℕ} → ReadTo rows (replicate 256 0) 0
-read_none =
-    record { within = omega arith; size = length-replicate {A = ℕ} 256 0; read = λ k h. absurd (omega arith) }
-
--- one more
-pub read_more :
-    {rows table : List ℕ} {i : ℕ} (word : ℕ) → ReadTo rows table i → i < 256 → Reads rows (8 * i) 64 word →
-    ReadTo rows (set table i word) (i + 1)
-read_more {rows} {table} {i} word t h r =
-    record {
-      within = omega arith;
-      size = length-set table i word ∙ t.size;
-      read = λ k below. split k below (ℕ_discrete k i);
-    }
-  where
-    split : (k : ℕ) → k < i + 1 → Dec (k ≡ i) → Reads rows (8 * k) 64 (get_or (set table i word) k 0)
-    split k below (yes e) =
-        let inside : i < length table = omega (arith, t.size) in rw (e, get_or-set_same table i word 0 inside) r
-    split k below (no d) = rw (get_or-set_other table i k word 0 d) (t.read k (omega arith))
 
 pub read_all : {rows table : List ℕ} {i : ℕ} → ReadTo rows table i → 256 ≤ i → WordsOf rows table
 read_all {rows} {table} t h = table-linked rows table (λ k below. t.read k (omega arith))

@@ -54,8 +54,3 @@ WordsOf rows table = (a b : ℕ) → 1 ≤ a → a ≤ 128 → 1 ≤ b → b ≤
 -- the low `count` bits of a number are those of the bytes from place `at` on, the lowest first
 unfoldable pub Reads : List ℕ → ℕ → ℕ → ℕ → Type 0
 Reads bytes at count word = (j : ℕ) → j < count → bit word j ≡ bit (get_or bytes (at + j / 8) 0) (j % 8)
-
--- a number of 32 bits, read from four bytes
-pub record Half (bytes : List ℕ) (at word : ℕ) : Type 0 where
-  pub small : word < 4294967296
-  pub bits : Reads bytes at 32 word

@@ -3,11 +3,10 @@
 
 ghost use Rattle.std.specs.Prelude.{◌≡◌, false, ◌&&◌, ◌||◌, not, ℕ, ◌+◌, ◌-◌, ◌*◌, ◌/◌, ◌%◌, ◌^◌, ◌≤◌, ◌<◌, leb, ltb, eqb};
 ghost use Rattle.atomset.specs.Set.{has, holds_none, linked_by, Emptiness, Lowest, LowestBit, LowestLeft};
-ghost use Rattle.atomset.specs.Set.{AtMostOne, Reads, Half, WordsOf};
-
-use widen::u8_u64;
+ghost use Rattle.atomset.specs.Set.{AtMostOne, Reads, WordsOf};
 
 // The set without atoms.
+// A set is two words and an atom a number in every contract here: a type would ask callers for more.
 pub fn empty() -> [u64; 2]
     ensures { (a : ℕ) → has result a ≡ false }
 {
@@ -76,7 +75,7 @@ fn low_bits(k: usize) -> u64
     ensures { result ≡ 2 ^ k - 1 }
 {
     if k == 64 {
-        return 0xffff_ffff_ffff_ffff;
+        return u64::MAX;
     }
     (1u64 << k) - 1
 }
@@ -104,10 +103,7 @@ pub fn range(low: usize, n: usize) -> [u64; 2]
 pub fn is_empty(x: [u64; 2]) -> bool
     ensures { Emptiness x result }
 {
-    if x[0] != 0 {
-        return false;
-    }
-    x[1] == 0
+    x == [0, 0]
 }
 
 // The place of the lowest bit of a word that is not 0.
@@ -115,10 +111,12 @@ pub fn lowest_bit(word: u64) -> usize
     requires { word ≡ 0 → ⊥ }
     ensures { LowestBit word result }
 {
-    u64::trailing_zeros(word) as usize
+    word.trailing_zeros() as usize
 }
 
 // The lowest atom of a set that has one.
+// Loops over a set take its lowest atom and the rest: an iterator would give the atom alone, and `lowest_in` goes by
+// the rest, which is faster.
 pub fn lowest(x: [u64; 2]) -> usize
     requires { holds_none x ≡ false }
     ensures { Lowest x result }
@@ -162,32 +160,25 @@ pub fn lowest_in(x: [u64; 2], rest: [u64; 2], y: [u64; 2]) -> bool
 pub fn at_most_one(x: [u64; 2]) -> bool
     ensures { AtMostOne x result }
 {
-    if is_empty(x) {
-        return true;
-    }
-    let rest = without_lowest(x);
-    is_empty(rest)
-}
-
-// Four bytes as a number, the lowest first.
-fn half_at(rows: &[u8; 2048], at: usize) -> u64
-    requires { at < 2045 }
-    ensures { Half rows.now at result }
-{
-    u8_u64(rows[at])
-        + 256 * u8_u64(rows[at + 1])
-        + 65536 * u8_u64(rows[at + 2])
-        + 16777216 * u8_u64(rows[at + 3])
+    is_empty(x) || is_empty(without_lowest(x))
 }
 
 // Eight bytes as a word, the lowest first.
+// Byte by byte: a slice turned into an array would be an `unwrap` to be proved.
 fn word_at(rows: &[u8; 2048], at: usize) -> u64
     requires { at < 2041 }
     ensures { Reads rows.now at 64 result }
 {
-    let low = half_at(rows, at);
-    let high = half_at(rows, at + 4);
-    low + 4294967296 * high
+    u64::from_le_bytes([
+        rows[at],
+        rows[at + 1],
+        rows[at + 2],
+        rows[at + 3],
+        rows[at + 4],
+        rows[at + 5],
+        rows[at + 6],
+        rows[at + 7],
+    ])
 }
 
 // The word table of a molecule's rows.
@@ -195,10 +186,8 @@ pub fn words_of(rows: &[u8; 2048]) -> [u64; 256]
     ensures { WordsOf rows.now result }
 {
     let mut table = [0u64; 256];
-    let mut i: usize = 0;
-    while i < 256 {
+    for i in 0..256 {
         table[i] = word_at(rows, 8 * i);
-        i += 1;
     }
     table
 }

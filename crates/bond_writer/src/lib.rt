@@ -1,5 +1,6 @@
 // Number fields, line feeds and bond lines (document 01, "Bond sheet"; request F-5) written over a buffer from a place
 // on.
+// A place goes beside `out`: in a struct that holds both, a contract would speak of a field behind two borrows.
 #![tactic(auto)]
 
 ghost use Rattle.std.specs.Prelude.{◌≡◌, [], ◌∷◌, ◌+◌, ◌≤◌, ◌<◌, length};
@@ -14,8 +15,7 @@ pub fn put_field(out: &mut [u8], at: usize, columns: usize, v: u64)
     requires { at + columns ≤ length out.old }
     ensures { out.new ≡ spliced at (field_text columns v) out.old }
 {
-    let end = at + columns;
-    fields::write_number(&mut out[at..end], v);
+    fields::write_number(&mut out[at..at + columns], v);
 }
 
 // A line feed.
@@ -23,7 +23,7 @@ pub fn put_feed(out: &mut [u8], at: usize)
     requires { at < length out.old }
     ensures { out.new ≡ spliced at (10 ∷ []) out.old }
 {
-    out[at] = 10;
+    out[at] = b'\n';
 }
 
 // The line of one bond.
@@ -31,6 +31,7 @@ pub fn put_bond(out: &mut [u8], at: usize, a: usize, b: usize)
     requires { at + 9 ≤ length out.old }
     ensures { out.new ≡ spliced at (bond_lines ((a, b) ∷ [])) out.old }
 {
+    // `as`: u64 has no From<usize>.
     put_field(out, at, 4, a as u64);
     put_field(out, at + 4, 4, b as u64);
     put_feed(out, at + 8);
@@ -62,10 +63,8 @@ fn put_byte(out: &mut [u8], place: usize, rows: &[u8; 2048], at: usize) -> usize
         return place;
     }
     let mut end = place;
-    let mut k: usize = 0;
-    while k < 8 {
+    for k in 0..8 {
         end = put_cell(out, end, rows, at, k);
-        k += 1;
     }
     end
 }
@@ -75,12 +74,10 @@ fn put_row(out: &mut [u8], place: usize, rows: &[u8; 2048], n: usize, row: usize
     requires { RowFits rows.now n row out.old place }
     ensures { LinesPut (row_bonds rows.now row) place out.old out.new result }
 {
-    let last = (n + 7) / 8;
+    let last = n.div_ceil(8);
     let mut end = place;
-    let mut i = row / 8;
-    while i < last {
+    for i in row / 8..last {
         end = put_byte(out, end, rows, 16 * row + i);
-        i += 1;
     }
     end
 }
@@ -90,10 +87,8 @@ pub fn put_bonds(out: &mut [u8], at: usize, rows: &[u8; 2048], n: usize)
     requires { BondsFit rows.now n out.old at }
     ensures { out.new ≡ spliced at (bond_lines (bond_list rows.now)) out.old }
 {
-    let mut row: usize = 0;
     let mut place = at;
-    while row < n {
+    for row in 0..n {
         place = put_row(out, place, rows, n, row);
-        row += 1;
     }
 }

@@ -9,6 +9,7 @@ use mathlib.Core.Logic.{inl, inr, ◌↔◌}
 use lib.ListN.{length}
 use lib.Dec.{leb, eqb}
 use borrow.Author.Tests.{leb-false}
+use Rattle.std.specs.Prelude.{Err, Ok, Result}
 use Rattle.graph.specs.Chordless.{Adjacency}
 use Rattle.enumeration.specs.Words.{words, members}
 use Rattle.enumeration.specs.Run.{limit}
@@ -16,6 +17,7 @@ use Rattle.enumeration.proofs.Basics.{keep-none}
 use Rattle.chordless.specs.Families.{joins, is_shortest, shortest_paths}
 use Rattle.chordless.specs.Distance.{Atom}
 use Rattle.chordless.proofs.Number.{number-from-start, none-from-start}
+use Rattle.refusal.specs.declared.Refusal.{Refusal}
 use Rattle.refusal.specs.declared.Refusal.TheVariants.{Record, PathEnd, SameEnds, TooManyPaths}
 use Rattle.molecule.specs.declared.Molecule.{Molecule}
 use Rattle.molecule.specs.Record.{is_atom, bonded, well_formed}
@@ -26,8 +28,6 @@ use Rattle.atomset.proofs.Bonds.{linked-same, linked-symmetric}
 use Rattle.search.specs.Place.{family_in, family_of, ends_kept}
 use Rattle.search.proofs.Readings.{ends-facts}
 use Rattle.distance.specs.Capped.{capped, MeasuredEnds, Numbered}
-use Rattle.counter.specs.declared.Counted.{Counted}
-use Rattle.counter.specs.declared.Counted.TheVariants.{Number, Refused}
 use Rattle.counter.specs.Count.{shortest_number, count_shortest}
 use Rattle.counter.proofs.Answers.{count-above}
 
@@ -89,22 +89,22 @@ module _ (mol : Molecule) (s t : ℕ) where
 
 module _ (mol : Molecule) (s t : ℕ) where
   -- the parts of a definition by tests: rules 9, 10, 11 and 26
-  abbrev by_tests : Bool → Bool → Bool → Bool → Counted
+  abbrev by_tests : Bool → Bool → Bool → Bool → Result ℕ Refusal
   by_tests formed atoms same few =
       cond formed
       (cond atoms
-      (cond same (Refused SameEnds) (cond few (Number (shortest_number mol s t)) (Refused TooManyPaths)))
-      (Refused PathEnd))
-      (Refused Record)
+      (cond same (Err SameEnds) (cond few (Ok (shortest_number mol s t)) (Err TooManyPaths)))
+      (Err PathEnd))
+      (Err Record)
 
   -- a number that is answered is the number of shortest paths
-  pub count-exact : {k : ℕ} → count_shortest mol s t ≡ Number k → k ≡ shortest_number mol s t
+  pub count-exact : {k : ℕ} → count_shortest mol s t ≡ Ok k → k ≡ shortest_number mol s t
   unfolding count_shortest with_ends
   count-exact {k} e =
       go (well_formed mol) (is_atom mol.atoms s && is_atom mol.atoms t) (eqb s t)
       (leb (shortest_number mol s t) limit) e
     where
-      go : (formed atoms same few : Bool) → by_tests formed atoms same few ≡ Number k → k ≡ shortest_number mol s t
+      go : (formed atoms same few : Bool) → by_tests formed atoms same few ≡ Ok k → k ≡ shortest_number mol s t
       go true true true few e = cc
       go true true false true e = cc
       go true true false false e = cc
@@ -115,7 +115,7 @@ module _ (mol : Molecule) (s t : ℕ) where
   abbrev Above : Type 0
   Above = (well_formed mol ≡ true) × (ends_kept mol.atoms s t ≡ true) × (limit < shortest_number mol s t)
 
-  refused-above : count_shortest mol s t ≡ Refused TooManyPaths → Above
+  refused-above : count_shortest mol s t ≡ Err TooManyPaths → Above
   unfolding count_shortest ends_kept with_ends
   refused-above e =
       let (formed, kept, above) = go (well_formed mol) (is_atom mol.atoms s && is_atom mol.atoms t) (eqb s t)
@@ -123,7 +123,7 @@ module _ (mol : Molecule) (s t : ℕ) where
       (formed, kept, leb-false (shortest_number mol s t) limit above)
     where
       go :
-          (formed atoms same few : Bool) → by_tests formed atoms same few ≡ Refused TooManyPaths →
+          (formed atoms same few : Bool) → by_tests formed atoms same few ≡ Err TooManyPaths →
           (formed ≡ true) × (cond atoms (cond same false true) false ≡ true) × (few ≡ false)
       go true true true few e = absurd (let z : ◌≡◌ {A = ℕ} 0 1 = cc in omega arith)
       go true true false true e = absurd (let z : ◌≡◌ {A = ℕ} 0 1 = cc in omega arith)
@@ -133,6 +133,6 @@ module _ (mol : Molecule) (s t : ℕ) where
 
   -- rule 26: exactly where rules 9, 10 and 11 are kept and the number is above the limit of the counts
   pub too_many :
-      (count_shortest mol s t ≡ Refused TooManyPaths) ↔
+      (count_shortest mol s t ≡ Err TooManyPaths) ↔
       ((well_formed mol ≡ true) × (ends_kept mol.atoms s t ≡ true) × (limit < shortest_number mol s t))
   too_many = (refused-above, λ (formed, kept, above). count-above mol s t formed kept above)

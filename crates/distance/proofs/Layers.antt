@@ -16,7 +16,7 @@ use Rattle.chordless.specs.Reach.{Symmetric}
 use Rattle.chordless.proofs.Routes.{none_of, ways-here, here-ways, ways-step}
 use Rattle.chordless.proofs.Distances.{far-has, nearest}
 use Rattle.atomset.proofs.Size.{size, smaller}
-use Rattle.distance.specs.Layers.{Measured, NextLayer}
+use Rattle.distance.specs.Layers.{NextLayer}
 
 -- no list of d bonds or fewer leads from v to t
 abbrev pub Beyond : ℕ → Adjacency → ℕ → ℕ → ℕ → Type 0
@@ -30,24 +30,20 @@ pub record Layers (n : ℕ) (adj : Adjacency) (t d : ℕ) (front unseen : ℕ �
   pub unseen_far : (v : ℕ) → unseen v ≡ true → Beyond n adj t d v
   pub unseen_every : (v : ℕ) → Atom n v → Beyond n adj t d v → unseen v ≡ true
 
--- t may be in a set
-pub target-range : {n : ℕ} {adj : Adjacency} {t : ℕ} → Measured n adj t → (1 ≤ t) × (t ≤ 128)
-target-range m = (m.atom.low, omega (arith, m.few, m.atom.high))
-
 -- ---- at distance 0 is t alone
 
-module _ {n : ℕ} {adj : Adjacency} {t : ℕ} {all front unseen : ℕ → Bool} where
+module _ {n : ℕ} {adj : Adjacency} {t : ℕ} {front unseen : ℕ → Bool} where
   pub layers-start :
-      Atom n t → ((a : ℕ) → all a ≡ (leb 1 a && leb a n)) → ((a : ℕ) → unseen a ≡ (all a && not (eqb a t))) →
-      ((a : ℕ) → front a ≡ eqb a t) → Layers n adj t 0 front unseen
-  layers-start atom all-is unseen-is front-is = record {
+      Atom n t → ((a : ℕ) → unseen a ≡ ((leb 1 a && leb a n) && not (eqb a t))) → ((a : ℕ) → front a ≡ eqb a t) →
+      Layers n adj t 0 front unseen
+  layers-start atom unseen-is front-is = record {
     front_atom = λ v e. let same : v ≡ t = eqb-true v t (sym (front-is v) ∙ e) in rw same atom;
     front_far = λ v e.
         let same : v ≡ t = eqb-true v t (sym (front-is v) ∙ e) in
         record { joined = ways-here n adj t same; no_nearer = λ d h. absurd (omega arith) };
     front_every = λ v at far. front-is v ∙ eq-eqb v t (here-ways n adj t far.joined);
     unseen_atom = λ v e.
-        let (low, high) = and_parts (leb 1 v) (leb v n) (sym (all-is v) ∙ (parts v e).0) in
+        let (low, high) = and_parts (leb 1 v) (leb v n) (parts v e).0 in
         record { low = leb-true 1 v low; high = leb-true v n high };
     unseen_far = λ v e d h.
         let same : d ≡ 0 = omega arith in
@@ -56,11 +52,11 @@ module _ {n : ℕ} {adj : Adjacency} {t : ℕ} {all front unseen : ℕ → Bool}
     unseen_every = λ v at none.
         let other =
         false_of (eqb v t) (λ e. omega (arith, none 0 (omega arith), ways-here n adj t (eqb-true v t e))) in
-        rw (unseen-is v, all-is v, le-leb 1 v at.low, le-leb v n at.high, other);
+        rw (unseen-is v, le-leb 1 v at.low, le-leb v n at.high, other);
   }
     where
-      parts : (v : ℕ) → unseen v ≡ true → (all v ≡ true) × (not (eqb v t) ≡ true)
-      parts v e = and_parts (all v) (not (eqb v t)) (sym (unseen-is v) ∙ e)
+      parts : (v : ℕ) → unseen v ≡ true → (leb 1 v && leb v n ≡ true) × (not (eqb v t) ≡ true)
+      parts v e = and_parts (leb 1 v && leb v n) (not (eqb v t)) (sym (unseen-is v) ∙ e)
 
 -- ---- the next layer
 

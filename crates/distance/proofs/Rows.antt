@@ -18,7 +18,7 @@ use Rattle.atomset.specs.Set.{has, linked_by, Lowest, LowestLeft}
 use Rattle.atomset.proofs.Digits.{bit-none}
 use Rattle.atomset.proofs.Size.{rest-within}
 use Rattle.distance.specs.Layers.{RowsKept}
-use Rattle.distance.proofs.Replaced.{Replaced, replaced-start, replaced-more, replaced-end}
+use Rattle.distance.proofs.Replaced.{Replaced, replaced-more, replaced-end}
 
 -- a table of zeros has no bonds
 abbrev pub zeros : List ℕ
@@ -98,10 +98,6 @@ pub record Storing (adj : Adjacency) (front found left : ℕ → Bool) (old rows
   pub bonds : (b : ℕ) → Replaced found left (λ a. linked_by old a b) (λ a. adj a b && front b) (λ a. linked_by rows a b)
 
 module _ {adj : Adjacency} {front found : ℕ → Bool} {old : List ℕ} where
-  pub storing-start : length old ≡ 256 → Storing adj front found found old old
-  storing-start long =
-      record { long = long; within = λ a e. e; bonds = λ b. replaced-start found _ _ }
-
   pub storing-more :
       {left rest rows : List ℕ} {v : ℕ} (near : List ℕ) → Storing adj front found (has left) old rows → Lowest left v →
       LowestLeft left rest → ((b : ℕ) → has near b ≡ (adj v b && front b)) →

@@ -18,8 +18,8 @@ use Rattle.chordless.specs.Distance.{total}
 use Rattle.chordless.proofs.Sums.{total-same, total-zero, total-one, total-add}
 use Rattle.atomset.specs.Set.{has, Lowest, LowestLeft}
 use Rattle.atomset.proofs.Size.{rest-within}
-use Rattle.distance.specs.Capped.{capped, sum_over, SumsAsked, SumsKept}
-use Rattle.distance.proofs.Replaced.{Replaced, replaced-start, replaced-more, replaced-end}
+use Rattle.distance.specs.Capped.{capped, sum_over}
+use Rattle.distance.proofs.Replaced.{Replaced, replaced-more}
 
 -- ---- capped numbers
 
@@ -97,11 +97,6 @@ pub record Summed (numbers : List ℕ) (all left : ℕ → Bool) (sum : ℕ) : T
   pub rest : capped (sum + sum_over left numbers) ≡ capped (sum_over all numbers)
 
 module _ {numbers : List ℕ} {all : ℕ → Bool} where
-  pub summed-start : Summed numbers all all 0
-  summed-start =
-      let same : 0 + sum_over all numbers ≡ sum_over all numbers = omega arith in
-      record { within = omega arith; rest = ap capped same }
-
   pub summed-more :
       {left rest : List ℕ} {v sum more : ℕ} → Summed numbers all (has left) sum → Lowest left v → LowestLeft left rest →
       more ≡ capped (sum + get_or numbers v 0) → Summed numbers all (has rest) more
@@ -137,14 +132,6 @@ pub record Summing (adj : Adjacency) (front found left : ℕ → Bool) (old numb
   pub sums : Replaced found left (λ v. get_or old v 0) (sum_before adj front old) (λ v. get_or numbers v 0)
 
 module _ {adj : Adjacency} {front found : ℕ → Bool} {old : List ℕ} where
-  pub summing_start : SumsAsked front found old → Summing adj front found found old old
-  summing_start asked = record {
-    long = asked.size;
-    apart = asked.apart;
-    within = λ a e. e;
-    sums = replaced-start found _ _;
-  }
-
   -- the numbers of the atoms of `front` are still the old ones
   sum-still :
       {left near : ℕ → Bool} {numbers : List ℕ} (v : ℕ) → Summing adj front found left old numbers →
@@ -177,8 +164,3 @@ module _ {adj : Adjacency} {front found : ℕ → Bool} {old : List ℕ} where
     where
       inside : v < length numbers
       inside = omega (arith, s.long, lowest.high)
-
-  pub summing-end :
-      {left : ℕ → Bool} {numbers : List ℕ} → Summing adj front found left old numbers →
-      ((a : ℕ) → left a ≡ false) → SumsKept adj front found old numbers
-  summing-end s empty = record { size = s.long; sums = replaced-end empty s.sums }

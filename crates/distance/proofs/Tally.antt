@@ -18,7 +18,7 @@ use Rattle.chordless.proofs.Sums.{total-same, total-beyond}
 use Rattle.chordless.proofs.Routes.{none_of, ways-here, here-ways}
 use Rattle.chordless.proofs.Distances.{far-same, far-next, nearest}
 use Rattle.distance.specs.Layers.{NextLayer, Measured}
-use Rattle.distance.specs.Capped.{capped, SumsAsked, SumsKept, Numbered}
+use Rattle.distance.specs.Capped.{capped, SumsKept, Numbered}
 use Rattle.distance.proofs.Layers.{Layers, found-far, found-every, layers-next, none-farther}
 use Rattle.distance.proofs.Sums.{sum_before, capped_small, capped-total}
 
@@ -79,9 +79,6 @@ module _ {n : ℕ} {adj : Adjacency} {s : ℕ} where
         false_of (front v) (λ h.
         let same = far-same (found-far l measured.both_ways next v e) (l.front_far v h) in
         omega arith)
-
-    pub sums-asked : {numbers : List ℕ} → Tallied n adj s d unseen numbers → SumsAsked front found numbers
-    sums-asked tallied = record { size = tallied.size; apart = layers-apart }
 
     -- an atom that is not in this layer, bonded to one of the next, leads nowhere by d bonds
     leads-nowhere :

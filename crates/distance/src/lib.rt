@@ -2,20 +2,47 @@
 // bonds as can be join it to another.
 #![tactic(auto)]
 
-ghost use Rattle.std.specs.Prelude.{◌+◌, ◌≡◌, length};
+ghost use Rattle.std.specs.Prelude.{◌+◌, ◌≡◌, ◌≤◌, ◌&&◌, ℕ, eqb, leb, length, not};
 ghost use Rattle.chordless.specs.Distance.{Nearing};
 ghost use Rattle.atomset.specs.Set.{has, linked_by};
 ghost use Rattle.distance.specs.Layers.{Measured, NextLayer, RowsKept};
 ghost use Rattle.distance.specs.Capped.{capped, sum_over, SumsAsked, SumsKept, MeasuredEnds, Numbered};
 
-// The atoms of `unseen` that are bonded to an atom of `front`.
-fn next_layer(table: &[u64; 256], front: [u64; 2], unseen: [u64; 2]) -> [u64; 2]
-    ensures { NextLayer (linked_by table.now) (has front) (has unseen) (has result) }
-{
-    let low = sweep::near_word(table, front[0], 0);
-    let high = sweep::near_word(table, front[1], 1);
-    let near = atomset::union(low, high);
-    atomset::intersection(unseen, near)
+use fields::LIMIT;
+
+// Atoms by their distance from one of them: `front` are those at one distance, and `unseen` those further away.
+#[derive(Clone, Copy)]
+struct Layer {
+    front: [u64; 2],
+    unseen: [u64; 2],
+}
+
+impl Layer {
+    // Atom t alone, among n atoms.
+    fn first(n: usize, t: usize) -> Layer
+        requires few { n ≤ 128 }
+        requires atom { (1 ≤ t) × (t ≤ 128) }
+        ensures front { (a : ℕ) → has result.front a ≡ eqb a t }
+        ensures unseen { (a : ℕ) → has result.unseen a ≡ ((leb 1 a && leb a n) && not (eqb a t)) }
+    {
+        let front = atomset::single(t);
+        let all = atomset::up_to(n);
+        let unseen = atomset::without_atom(all, t);
+        Layer { front, unseen }
+    }
+
+    // The atoms of `unseen` that are bonded to an atom of `front`.
+    fn next(self, table: &[u64; 256]) -> Layer
+        ensures front { NextLayer (linked_by table.now) (has self.front) (has self.unseen) (has result.front) }
+        ensures unseen { (a : ℕ) → has result.unseen a ≡ (has self.unseen a && not (has result.front a)) }
+    {
+        let low = sweep::near_word(table, self.front[0], 0);
+        let high = sweep::near_word(table, self.front[1], 1);
+        let near = atomset::union(low, high);
+        let front = atomset::intersection(self.unseen, near);
+        let unseen = atomset::minus(self.unseen, front);
+        Layer { front, unseen }
+    }
 }
 
 // The row of each atom of `found` becomes its bonds to atoms of `front`; the other rows stay.
@@ -37,37 +64,32 @@ fn keep_rows(rows: &mut [u64; 256], table: &[u64; 256], front: [u64; 2], found: 
     }
 }
 
-// The bonds that lead one nearer to t, as rows. `front` are the atoms at one distance from t, `unseen` those further
-// away; a turn goes on to the next distance, and keeps the bonds from there to `front`.
+// The bonds that lead one nearer to t, as rows. A turn goes on to the next distance from t, and keeps the bonds from
+// there to the layer before.
+// `number` goes by the same layers: a closure for the step would hold the array that the loop fills.
 pub fn nearing(table: &[u64; 256], n: usize, t: usize) -> [u64; 256]
     requires { Measured n (linked_by table.now) t }
     ensures { Nearing n (linked_by table.now) t (linked_by result) }
 {
     let mut rows = [0u64; 256];
-    let all = atomset::up_to(n);
-    let mut unseen = atomset::without_atom(all, t);
-    let mut front = atomset::single(t);
-    while !atomset::is_empty(front) {
-        let found = next_layer(table, front, unseen);
-        keep_rows(&mut rows, table, front, found);
-        let further = atomset::minus(unseen, found);
-        unseen = further;
-        front = found;
+    let mut layer = Layer::first(n, t);
+    while !atomset::is_empty(layer.front) {
+        let next = layer.next(table);
+        keep_rows(&mut rows, table, layer.front, next.front);
+        layer = next;
     }
     rows
 }
 
 // The sum of two numbers, where it is at most the limit of a count; one above the limit otherwise.
+#[tactic(auto, unfolding(crate::specs::Capped::capped))]
 fn added(a: u64, b: u64) -> u64
     ensures { result ≡ capped (a + b) }
 {
-    if a > 9_999_999_999_999_999_999 {
-        return 10_000_000_000_000_000_000;
+    match a.checked_add(b) {
+        Some(sum) if sum <= LIMIT => sum,
+        _ => LIMIT + 1,
     }
-    if 9_999_999_999_999_999_999 - a < b {
-        return 10_000_000_000_000_000_000;
-    }
-    a + b
 }
 
 // The sum of the numbers of the atoms of a set, up to one above the limit.
@@ -113,15 +135,11 @@ pub fn number(table: &[u64; 256], n: usize, s: usize, t: usize) -> u64
 {
     let mut numbers = [0u64; 129];
     numbers[s] = 1;
-    let all = atomset::up_to(n);
-    let mut unseen = atomset::without_atom(all, s);
-    let mut front = atomset::single(s);
-    while !atomset::is_empty(front) {
-        let found = next_layer(table, front, unseen);
-        keep_sums(&mut numbers, table, front, found);
-        let further = atomset::minus(unseen, found);
-        unseen = further;
-        front = found;
+    let mut layer = Layer::first(n, s);
+    while !atomset::is_empty(layer.front) {
+        let next = layer.next(table);
+        keep_sums(&mut numbers, table, layer.front, next.front);
+        layer = next;
     }
     numbers[t]
 }

@@ -5,10 +5,10 @@ use native.Mathlib.Omega.{arith}
 use native.Mathlib.Numerals.{add-one}
 use native.Mathlib.Decide.{dec_lt}
 use mathlib.Core.Path.{◌≡◌, refl, sym, ap, subst, ◌∙◌}
-use mathlib.Core.Bool.{Bool, true, false}
+use mathlib.Core.Bool.{true, false}
 use mathlib.Core.List.{List, [], ◌∷◌, ◌++◌, append-nil, reverse, reverse-cons}
 use lib.ListN.{length, get_or, take, drop, set, length-set}
-use lib.Seq.{take-set-le, take-suc-set, get_or-set_same, get_or-set_other}
+use lib.Seq.{length-take-le, get_or-take, take-set-le, take-suc-set, get_or-set_same, get_or-set_other}
 use lib.Dec.{leb}
 use borrow.Author.Tests.{le-leb}
 use borrow.Rule.Slice.PartMut.{put_mid}
@@ -24,8 +24,8 @@ use Rattle.enumeration.proofs.Makes.{Rises, makes-join, makes-rises, makes-lists
 use Rattle.enumeration.proofs.Order.{range_at}
 use Rattle.enumeration.proofs.Open.{range-on, stack-short, stack_top}
 use Rattle.atomset.specs.Set.{has, linked_by, Lowest, LowestLeft}
-use Rattle.openness.specs.declared.Aim.{Aim}
-use Rattle.openness.specs.Plan.{family_by, most_atoms, first_length}
+use Rattle.openness.specs.declared.Wanted.{Wanted}
+use Rattle.openness.specs.Plan.{family_wanted, most_atoms, first_length}
 use Rattle.search.proofs.Readings.{open-short}
 use Rattle.openness.proofs.Arrays.{taken-length, open-atoms}
 use Rattle.openness.proofs.Plans.{family-by-atoms}
@@ -33,6 +33,8 @@ use Rattle.trial.specs.declared.Spot.{Spot}
 use Rattle.trial.specs.Parts.{stack_of, HeldWithRoom}
 use Rattle.trial.proofs.Arrays.{stack-length, stack-back, stack_push, held-push, Unwinding, unwinding-pop}
 use Rattle.trial.proofs.Bytes.{part-back, record-length}
+use Rattle.dive.specs.declared.Dived.{Dived}
+use Rattle.dive.specs.declared.Level.{Level}
 use Rattle.dive.specs.Levels.{LevelRoom, aim_in, rest_in, kept_rest, goes_on_by, LevelAdded, Stage}
 use Rattle.dive.specs.Parts.{Rising, listed_at, extended_at, dropped_at, Bounds, state_before}
 use Rattle.dive.specs.Parts.{Added, Descent, Listed, Left}
@@ -41,33 +43,34 @@ use Rattle.dive.proofs.Stages.{stage-same, stage-lowered, stage-added}
 use Rattle.dive.proofs.Stages.{lowest-from, lowest-goes-on, lowest-first, lowest-member, lowest-opens}
 use Rattle.dive.proofs.Listings.{listed-none, listed_more, listed-within}
 
-module _ {n : ℕ} {table : List ℕ} {kind s t most : ℕ} {from : Spot} {start : ℕ} {prefix₀ levels₀ out₀ : List ℕ}
-    (d : Descent n table kind s t most from start prefix₀ levels₀ out₀) where
+module _ {w : Wanted} {most : ℕ} {from : Dived} {prefix₀ : List ℕ} {levels₀ : List Level} {out₀ : List ℕ}
+    (d : Descent w most from prefix₀ levels₀ out₀) where
   abbrev F : Family
-  F = family_by n table kind s t
+  F = family_wanted w
 
-  atoms_are : F.atoms ≡ n
-  atoms_are = family-by-atoms n table kind s t
+  atoms_are : F.atoms ≡ w.n
+  atoms_are = family-by-atoms w.n w.table.now w.kind w.s w.t
 
-  abbrev StageHere : List ℕ → List ℕ → ℕ → ℕ → Type 0
-  StageHere prefix levels i c = Stage F (linked_by table) (most_atoms kind s) (first_length kind) prefix levels i c
+  abbrev StageHere : List ℕ → List Level → ℕ → ℕ → Type 0
+  StageHere prefix levels i c =
+      Stage F (linked_by w.table.now) (most_atoms w.kind w.s) (first_length w.kind) prefix levels i c
 
-  pub record Diving (prefix levels out : List ℕ) (at : Spot) (used : ℕ) : Type 0 where
+  pub record Diving (prefix : List ℕ) (levels : List Level) (out : List ℕ) (at : Spot) (used : ℕ) : Type 0 where
     pub bytes : List ℕ
     pub held : HeldWithRoom prefix at.len
     pub size : length levels ≡ length levels₀
     pub low : 1 ≤ at.next
-    pub high : at.next ≤ suc n
-    pub more : from.trials ≤ at.trials
+    pub high : at.next ≤ suc w.n
+    pub more : from.at.trials ≤ at.trials
     pub bounds : Bounds at most
     pub makes :
-        Makes F (state_before n prefix at) (state_before n prefix₀ from) (at.trials - from.trials) bytes
-    pub listing : Listed out₀ start bytes out used
+        Makes F (state_before w.n prefix at) (state_before w.n prefix₀ from.at) (at.trials - from.at.trials) bytes
+    pub listing : Listed out₀ from.used bytes out used
     -- the present beginning, and those that it went on from
-    pub here : from.len ≤ at.len → StageHere prefix levels at.len at.next
-    pub passed : (i : ℕ) → from.len ≤ i → i < at.len → StageHere prefix levels i (get_or prefix i 0 + 1)
+    pub here : from.at.len ≤ at.len → StageHere prefix levels at.len at.next
+    pub passed : (i : ℕ) → from.at.len ≤ i → i < at.len → StageHere prefix levels i (get_or prefix i 0 + 1)
 
-  pub diving-starts : Diving prefix₀ levels₀ out₀ from start
+  pub diving-starts : Diving prefix₀ levels₀ out₀ from.at from.used
   diving-starts = record {
     bytes = [];
     held = d.standing;
@@ -76,7 +79,7 @@ module _ {n : ℕ} {table : List ℕ} {kind s t most : ℕ} {from : Spot} {start
     high = omega (arith, d.first);
     more = omega arith;
     bounds = d.bounds;
-    makes = let z : from.trials - from.trials ≡ 0 = omega arith in rw z none;
+    makes = let z : from.at.trials - from.at.trials ≡ 0 = omega arith in rw z none;
     listing = listed-none d.in_room;
     here = λ h. rw d.first d.stage;
     passed = λ i l h. absurd (omega arith);
@@ -84,8 +87,8 @@ module _ {n : ℕ} {table : List ℕ} {kind s t most : ℕ} {from : Spot} {start
 
   -- ---- a turn
 
-  module _ {prefix levels out : List ℕ} {at : Spot} {used : ℕ} (k : Diving prefix levels out at used)
-      (deep : from.len ≤ at.len) (far : 129 ≤ most - at.trials) where
+  module _ {prefix : List ℕ} {levels : List Level} {out : List ℕ} {at : Spot} {used : ℕ}
+      (k : Diving prefix levels out at used) (deep : from.at.len ≤ at.len) (far : 129 ≤ most - at.trials) where
     abbrev stack : List ℕ
     stack = stack_of prefix at.len
 
@@ -98,8 +101,8 @@ module _ {n : ℕ} {table : List ℕ} {kind s t most : ℕ} {from : Spot} {start
     lawful : Lawful F
     lawful = stage.lawful
 
-    -- an open beginning is shorter than n, so there is room for its sets and those of a longer one
-    pub deep-most : suc at.len ≤ n
+    -- an open beginning is shorter than w.n, so there is room for its sets and those of a longer one
+    pub deep-most : suc at.len ≤ w.n
     deep-most =
         let taken = taken-length prefix at.len k.held.within.size k.held.within.most in
         omega (arith, open-short F lawful word stage.is_opened, atoms_are, d.some)
@@ -110,8 +113,8 @@ module _ {n : ℕ} {table : List ℕ} {kind s t most : ℕ} {from : Spot} {start
     word-is : (u : ℕ) → reverse (u ∷ stack) ≡ word ++ u ∷ []
     word-is u = reverse-cons u stack ∙ ap (λ (w : List ℕ). w ++ u ∷ []) (stack-back prefix at.len)
 
-    -- an atom that goes on is at most n
-    goes-most : (v : ℕ) → goes_on_by F word v ≡ true → v ≤ n
+    -- an atom that goes on is at most w.n
+    goes-most : (v : ℕ) → goes_on_by F word v ≡ true → v ≤ w.n
     goes-most v e = rw (atoms_are) at (split (or-either (F.member (word ++ v ∷ [])) (is_open F (word ++ v ∷ [])) e))
       where
         split : (F.member (word ++ v ∷ []) ≡ true) ⊎ (is_open F (word ++ v ∷ []) ≡ true) → v ≤ F.atoms
@@ -124,10 +127,10 @@ module _ {n : ℕ} {table : List ℕ} {kind s t most : ℕ} {from : Spot} {start
 
     -- j trials that only raise the next atom
     rises :
-        (j : ℕ) → at.next + j ≤ suc n → j ≤ 128 →
+        (j : ℕ) → at.next + j ≤ suc w.n → j ≤ 128 →
         ((u : ℕ) → at.next ≤ u → u < at.next + j → goes_on_by F word u ≡ false) →
-        Makes F (placed (unwound n stack (at.next + j)) (at.trials + j) at.extensions at.listed)
-        (state_before n prefix at) j []
+        Makes F (placed (unwound w.n stack (at.next + j)) (at.trials + j) at.extensions at.listed)
+        (state_before w.n prefix at) j []
     rises j high small idle =
         let e< : at.extensions < limit = omega (arith, k.bounds) in
         let l< : at.listed < limit = omega (arith, k.bounds) in
@@ -145,10 +148,11 @@ module _ {n : ℕ} {table : List ℕ} {kind s t most : ℕ} {from : Spot} {start
 
     -- trials after those that were made
     joins :
-        {last : State} {j trials' : ℕ} {more : List ℕ} → Makes F last (state_before n prefix at) j more →
-        trials' ≡ at.trials + j → Makes F last (state_before n prefix₀ from) (trials' - from.trials) (k.bytes ++ more)
+        {last : State} {j trials' : ℕ} {more : List ℕ} → Makes F last (state_before w.n prefix at) j more →
+        trials' ≡ at.trials + j →
+        Makes F last (state_before w.n prefix₀ from.at) (trials' - from.at.trials) (k.bytes ++ more)
     joins {j = j} {trials' = trials'} m e =
-        let made : trials' - from.trials ≡ at.trials - from.trials + j = omega (arith, k.more) in
+        let made : trials' - from.at.trials ≡ at.trials - from.at.trials + j = omega (arith, k.more) in
         rw made (makes-join k.makes m)
 
     -- ---- the last atom is dropped
@@ -158,7 +162,7 @@ module _ {n : ℕ} {table : List ℕ} {kind s t most : ℕ} {from : Spot} {start
       abbrev shorter : List ℕ
       shorter = set prefix (at.len - 1) 0
 
-      popped : Unwinding n prefix at.len (n + 1) shorter (at.len - 1) (last + 1)
+      popped : Unwinding w.n prefix at.len (w.n + 1) shorter (at.len - 1) (last + 1)
       popped =
           unwinding-pop (record { held = k.held.within; rest = refl }) (omega (arith, d.some)) refl last_is
 
@@ -171,12 +175,14 @@ module _ {n : ℕ} {table : List ℕ} {kind s t most : ℕ} {from : Spot} {start
           and_both (leb at.next u) (goes_on_by F word u) (le-leb at.next u h) e)
           (nothing u))
 
-      raised : Makes F (state_before n shorter (dropped_at at n last)) (state_before n prefix at) (n + 1 - at.next) []
+      raised :
+          Makes F (state_before w.n shorter (dropped_at at w.n last)) (state_before w.n prefix at)
+          (w.n + 1 - at.next) []
       raised =
-          let all : at.next + (n + 1 - at.next) ≡ n + 1 = omega (arith, k.high) in
+          let all : at.next + (w.n + 1 - at.next) ≡ w.n + 1 = omega (arith, k.high) in
           rw popped.rest
           (rw all at
-          (rises (n + 1 - at.next) (omega (arith, k.high)) (omega (arith, k.low, d.words.few))
+          (rises (w.n + 1 - at.next) (omega (arith, k.high)) (omega (arith, k.low, d.words.few))
           (λ u l h. idle u l)))
 
       -- the places of a shorter beginning are as they were
@@ -187,11 +193,12 @@ module _ {n : ℕ} {table : List ℕ} {kind s t most : ℕ} {from : Spot} {start
       atom_kept i h = get_or-set_other prefix (at.len - 1) i 0 0 (λ e. omega arith)
 
       stage-kept :
-          (i : ℕ) {c : ℕ} → from.len ≤ i → i ≤ at.len - 1 → StageHere prefix levels i c → StageHere shorter levels i c
+          (i : ℕ) {c : ℕ} → from.at.len ≤ i → i ≤ at.len - 1 → StageHere prefix levels i c →
+          StageHere shorter levels i c
       stage-kept i l h s =
           stage-same s (word_kept i h) (atom_kept (i - 1) (omega (arith, d.some))) refl (λ e. refl) refl
 
-      pub diving-drops : Diving shorter levels out (dropped_at at n last) used
+      pub diving-drops : Diving shorter levels out (dropped_at at w.n last) used
       diving-drops = record {
         bytes = k.bytes ++ [];
         held = record { within = popped.held; short = omega (arith, k.held.short) };
@@ -208,13 +215,13 @@ module _ {n : ℕ} {table : List ℕ} {kind s t most : ℕ} {from : Spot} {start
             rw (atom_kept i h) (stage-kept i l (omega arith) (k.passed i l (omega arith)));
       }
         where
-          last-most : last ≤ n
+          last-most : last ≤ w.n
           last-most =
               rw last_is
               (open-atoms prefix at.len lawful (atoms_are) k.held.within.size k.held.within.most
               stage.is_opened (at.len - 1) (omega (arith, d.some))).1
 
-          bounds' : Bounds (dropped_at at n last) most
+          bounds' : Bounds (dropped_at at w.n last) most
           bounds' = record {
             trials_most = omega (arith, k.bounds, k.low, d.words.few);
             most_limit = k.bounds.most_limit;
@@ -226,13 +233,13 @@ module _ {n : ℕ} {table : List ℕ} {kind s t most : ℕ} {from : Spot} {start
 
     module _ {v : ℕ} {others : List ℕ} (l : Lowest (rest_in levels at.len) v)
         (left : LowestLeft (rest_in levels at.len) others) where
-      abbrev levels' : List ℕ
+      abbrev levels' : List Level
       levels' = kept_rest levels at.len others
 
       v-from : at.next ≤ v
       v-from = lowest-from stage l
 
-      pub v-most : v ≤ n
+      pub v-most : v ≤ w.n
       v-most = goes-most v (lowest-goes-on stage l)
 
       size' : length levels' ≡ length levels₀
@@ -241,16 +248,16 @@ module _ {n : ℕ} {table : List ℕ} {kind s t most : ℕ} {from : Spot} {start
       lowered : StageHere prefix levels' at.len (v + 1)
       lowered = stage-lowered stage l deep_room left
 
-      passed' : (i : ℕ) → from.len ≤ i → i < at.len → StageHere prefix levels' i (get_or prefix i 0 + 1)
+      passed' : (i : ℕ) → from.at.len ≤ i → i < at.len → StageHere prefix levels' i (get_or prefix i 0 + 1)
       passed' i low h =
-          stage-same (k.passed i low h) refl refl (aim-past-rest levels at.len others i)
-          (λ e. aim-past-rest levels at.len others (suc i))
+          stage-same (k.passed i low h) refl refl (aim-past-rest levels at.len others deep_room i)
+          (λ e. aim-past-rest levels at.len others deep_room (suc i))
           (rest-kept-other levels at.len others i (λ e. omega arith))
 
       -- the trials before it
       before :
-          Makes F (placed (unwound n stack v) (at.trials + (v - at.next)) at.extensions at.listed)
-          (state_before n prefix at) (v - at.next) []
+          Makes F (placed (unwound w.n stack v) (at.trials + (v - at.next)) at.extensions at.listed)
+          (state_before w.n prefix at) (v - at.next) []
       before =
           let up : at.next + (v - at.next) ≡ v = omega (arith, v-from) in
           rw up at
@@ -260,9 +267,10 @@ module _ {n : ℕ} {table : List ℕ} {kind s t most : ℕ} {from : Spot} {start
       -- its trial, of which the state and the bytes are given
       with-last :
           {last : State} {bytes : List ℕ} →
-          Makes F last (placed (unwound n stack v) (at.trials + (v - at.next)) at.extensions at.listed) 1
+          Makes F last (placed (unwound w.n stack v) (at.trials + (v - at.next)) at.extensions at.listed) 1
           bytes →
-          Makes F last (state_before n prefix₀ from) (at.trials + (v + 1 - at.next) - from.trials) (k.bytes ++ bytes)
+          Makes F last (state_before w.n prefix₀ from.at) (at.trials + (v + 1 - at.next) - from.at.trials)
+          (k.bytes ++ bytes)
       with-last m = joins (makes-join before m) (omega (arith, v-from))
 
       counts' :
@@ -317,8 +325,8 @@ module _ {n : ℕ} {table : List ℕ} {kind s t most : ℕ} {from : Spot} {start
               rw record-size (back ∙ part-back out part bytes used (at.len + 2) (listed-within k.listing) put)
 
           member :
-              Makes F (state_before n prefix (listed_at at v))
-              (placed (unwound n stack v) (at.trials + (v - at.next)) at.extensions at.listed) 1
+              Makes F (state_before w.n prefix (listed_at at v))
+              (placed (unwound w.n stack v) (at.trials + (v - at.next)) at.extensions at.listed) 1
               (record_of (word ++ v ∷ []))
           member =
               let next : v + 1 ≡ suc v = add-one v in
@@ -345,7 +353,7 @@ module _ {n : ℕ} {table : List ℕ} {kind s t most : ℕ} {from : Spot} {start
         opens-stack : is_open F (reverse (v ∷ stack)) ≡ true
         opens-stack = ap (is_open F) (word-is v) ∙ opens
 
-        added-short : at.len + 1 < n
+        added-short : at.len + 1 < w.n
         added-short =
             let size = stack-length prefix at.len k.held.within in
             omega (arith, stack-short F lawful stack v opens-stack, atoms_are)
@@ -357,19 +365,29 @@ module _ {n : ℕ} {table : List ℕ} {kind s t most : ℕ} {from : Spot} {start
         room = omega (arith, k.held.within.size, k.held.short)
 
         -- the longer beginning, which is to be planned
-        added-here : Added n table kind s t (set prefix at.len v) levels' (at.len + 1) v
+        longer : take (at.len + 1) (set prefix at.len v) ≡ word ++ v ∷ []
+        longer = rw (add-one at.len, take-suc-set prefix at.len v room) refl
+
+        pub longer-length : length (take (at.len + 1) (set prefix at.len v)) ≡ at.len + 1
+        longer-length =
+            length-take-le (at.len + 1) (set prefix at.len v) (omega (arith, room, length-set prefix at.len v))
+
+        pub added-here : Added w (take (at.len + 1) (set prefix at.len v)) levels' v
         added-here =
-            let one : at.len + 1 - 1 ≡ at.len = omega arith in
+            let size = longer-length in
+            let one : length (take (at.len + 1) (set prefix at.len v)) - 1 ≡ at.len = omega arith in
             record {
               begun = record {
                 words = d.words;
                 kinds = d.kinds;
-                size = length-set prefix at.len v ∙ k.held.within.size;
-                short = short';
-                is_opened = rw (add-one at.len, take-suc-set prefix at.len v room) opens;
+                short = omega (arith, short');
+                is_opened = rw (longer) opens;
               };
               long = omega (arith, d.near);
-              last_is = rw one (sym (get_or-set_same prefix at.len v 0 room));
+              last_is =
+                  rw one
+                  (sym (get_or-take (at.len + 1) (set prefix at.len v) at.len 0 (omega arith)
+                  ∙ get_or-set_same prefix at.len v 0 room));
               low = l.low;
               high = l.high;
               sized = omega (arith, added-short, d.sized, size');
@@ -377,9 +395,9 @@ module _ {n : ℕ} {table : List ℕ} {kind s t most : ℕ} {from : Spot} {start
 
       -- it is added
       pub diving-extends :
-          {levels'' : List ℕ} → has (aim_in levels at.len).goal v ≡ false →
-          LevelAdded F (linked_by table) (most_atoms kind s) (first_length kind) v (at.len + 1) (set prefix at.len v)
-          levels' levels'' →
+          {levels'' : List Level} → has (aim_in levels at.len).goal v ≡ false →
+          LevelAdded F (linked_by w.table.now) (most_atoms w.kind w.s) (first_length w.kind) v (at.len + 1)
+          (take (at.len + 1) (set prefix at.len v)) levels' levels'' →
           Diving (set prefix at.len v) levels'' out (extended_at at v) used
       diving-extends {levels''} not-closing added = record {
         bytes = k.bytes ++ [];
@@ -397,7 +415,7 @@ module _ {n : ℕ} {table : List ℕ} {kind s t most : ℕ} {from : Spot} {start
         where
           -- the sets that were handed on to it
           next-kept :
-              (i : ℕ) → i ≤ at.len → Dec (i < at.len) → first_length kind ≤ i →
+              (i : ℕ) → i ≤ at.len → Dec (i < at.len) → first_length w.kind ≤ i →
               aim_in levels'' (suc i) ≡ aim_in levels' (suc i)
           next-kept i h (yes b) e = added.aims_kept (suc i) (omega arith)
           next-kept i h (no b) e =
@@ -406,7 +424,7 @@ module _ {n : ℕ} {table : List ℕ} {kind s t most : ℕ} {from : Spot} {start
 
           -- the beginnings that it goes on from
           kept :
-              (i : ℕ) {c : ℕ} → from.len ≤ i → i ≤ at.len → StageHere prefix levels' i c →
+              (i : ℕ) {c : ℕ} → from.at.len ≤ i → i ≤ at.len → StageHere prefix levels' i c →
               StageHere (set prefix at.len v) levels'' i c
           kept i low h s =
               stage-same s (take-set-le i prefix at.len v h)
@@ -414,7 +432,7 @@ module _ {n : ℕ} {table : List ℕ} {kind s t most : ℕ} {from : Spot} {start
               (added.aims_kept i (omega arith)) (next-kept i h (dec_lt i at.len)) (added.rests_kept i (omega arith))
 
           passed'' :
-              (i : ℕ) → from.len ≤ i → i < at.len + 1 →
+              (i : ℕ) → from.at.len ≤ i → i < at.len + 1 →
               StageHere (set prefix at.len v) levels'' i (get_or (set prefix at.len v) i 0 + 1)
           passed'' i low h = split (dec_lt i at.len)
             where
@@ -430,8 +448,8 @@ module _ {n : ℕ} {table : List ℕ} {kind s t most : ℕ} {from : Spot} {start
                   (kept at.len deep (omega arith) lowered)
 
           extended :
-              Makes F (state_before n (set prefix at.len v) (extended_at at v))
-              (placed (unwound n stack v) (at.trials + (v - at.next)) at.extensions at.listed) 1 []
+              Makes F (state_before w.n (set prefix at.len v) (extended_at at v))
+              (placed (unwound w.n stack v) (at.trials + (v - at.next)) at.extensions at.listed) 1 []
           extended =
               let len : at.len + 1 ≡ suc at.len = add-one at.len in
               let trials : at.trials + (v + 1 - at.next) ≡ suc (at.trials + (v - at.next)) =
@@ -454,24 +472,17 @@ module _ {n : ℕ} {table : List ℕ} {kind s t most : ℕ} {from : Spot} {start
 
 -- a turn that tries the lowest atom v: the beginning is not shorter than at the start, no stop is near, and the atoms
 -- still to be tried are kept without it
-pub record Tries (most : ℕ) (from at : Spot) (levels : List ℕ) (v : ℕ) (others kept : List ℕ) : Type 0 where
+pub record Tries (most : ℕ) (from at : Spot) (levels : List Level) (v : ℕ) (others : List ℕ) : Type 0 where
   pub deep : from.len ≤ at.len
   pub far : 129 ≤ most - at.trials
   pub lowest : Lowest (rest_in levels at.len) v
   pub left : LowestLeft (rest_in levels at.len) others
-  pub kept_is : kept ≡ kept_rest levels at.len others
 
-module _ {n : ℕ} {table : List ℕ} {kind s t most : ℕ} {from : Spot} {start : ℕ} {prefix₀ levels₀ out₀ : List ℕ}
-    (d : Descent n table kind s t most from start prefix₀ levels₀ out₀) {prefix levels out : List ℕ} {at : Spot}
+module _ {w : Wanted} {most : ℕ} {from : Dived} {prefix₀ : List ℕ} {levels₀ : List Level} {out₀ : List ℕ}
+    (d : Descent w most from prefix₀ levels₀ out₀) {prefix : List ℕ} {levels : List Level} {out : List ℕ} {at : Spot}
     {used : ℕ} (k : Diving d prefix levels out at used)
   where
-    pub drops :
-        from.len ≤ at.len → 129 ≤ most - at.trials → {last : ℕ} {at' : Spot} → last ≡ get_or prefix (at.len - 1) 0 →
-        ((u : ℕ) → has (rest_in levels at.len) u ≡ false) → at' ≡ dropped_at at n last →
-        Diving d (set prefix (at.len - 1) 0) levels out at' used
-    drops deep far last_is nothing e = rw e (diving-drops d k deep far last_is nothing)
-
-    module _ {v : ℕ} {others kept : List ℕ} (r : Tries most from at levels v others kept) where
+    module _ {v : ℕ} {others : List ℕ} (r : Tries most from.at at levels v others) where
       from_next : at.next ≤ v
       from_next = v-from d k r.deep r.far r.lowest r.left
 
@@ -483,47 +494,19 @@ module _ {n : ℕ} {table : List ℕ} {kind s t most : ℕ} {from : Spot} {start
         countable = omega (arith, k.bounds);
       }
 
-      pub kept-size : length kept ≡ length levels₀
-      kept-size = ap length r.kept_is ∙ size' d k r.deep r.far r.lowest r.left
-
       -- the trials that are left fall
       pub falls-by :
           129 * (most - (at.trials + (v + 1 - at.next))) + suc at.len < 129 * (most - at.trials) + at.len
       falls-by = omega (arith, from_next, k.low, r.lowest.high, r.far)
 
-      pub lists :
-          {out' part : List ℕ} {at' : Spot} → has (aim_in levels at.len).goal v ≡ true →
-          at.len + 2 ≤ length out - used →
-          part ≡ record_of (take at.len prefix ++ v ∷ []) ++
-          drop (at.len + 2) (take (length out - used) (drop used out)) →
-          out' ≡ put_mid used (length out - used) out part → at' ≡ listed_at at v →
-          Diving d prefix kept out' at' (used + (at.len + 2))
-      lists closes room put back e =
-          rw (e, r.kept_is)
-          (diving-lists d k r.deep r.far r.lowest r.left closes room put back refl)
-
-      pub extends-added :
-          has (aim_in levels at.len).goal v ≡ false →
-          Added n table kind s t (set prefix at.len v) kept (at.len + 1) v
-      extends-added not-closing =
-          rw r.kept_is (added-here d k r.deep r.far r.lowest r.left not-closing)
-
-      pub extends :
-          {planned : List ℕ} {at' : Spot} → has (aim_in levels at.len).goal v ≡ false →
-          LevelAdded (family_by n table kind s t) (linked_by table) (most_atoms kind s) (first_length kind) v
-          (at.len + 1) (set prefix at.len v) kept planned → at' ≡ extended_at at v →
-          Diving d (set prefix at.len v) planned out at' used
-      extends not-closing p e =
-          rw e
-          (diving-extends d k r.deep r.far r.lowest r.left not-closing (rw r.kept_is at p))
-
 -- ---- the loop is left
 
-module _ {n : ℕ} {table : List ℕ} {kind s t most : ℕ} {from : Spot} {start : ℕ} {prefix₀ levels₀ out₀ : List ℕ}
-    (d : Descent n table kind s t most from start prefix₀ levels₀ out₀) where
+module _ {w : Wanted} {most : ℕ} {from : Dived} {prefix₀ : List ℕ} {levels₀ : List Level} {out₀ : List ℕ}
+    (d : Descent w most from prefix₀ levels₀ out₀) where
   pub diving-left :
-      {prefix levels out : List ℕ} {at : Spot} {used : ℕ} → Diving d prefix levels out at used →
-      Left (family_by n table kind s t) n most prefix₀ from out₀ start prefix out (record { at = at; used = used })
+      {prefix : List ℕ} {levels : List Level} {out : List ℕ} {at : Spot} {used : ℕ} →
+      Diving d prefix levels out at used →
+      Left (family_wanted w) w.n most prefix₀ from out₀ prefix out (record { at = at; used = used })
   diving-left k = record {
     bytes = k.bytes;
     held = k.held;
@@ -534,12 +517,3 @@ module _ {n : ℕ} {table : List ℕ} {kind s t most : ℕ} {from : Spot} {start
     makes = k.makes;
     listing = k.listing;
   }
-
--- what the test of a closing atom tells, after the atoms to be tried were kept anew
-pub closing-told :
-    (levels : List ℕ) (len v : ℕ) (others : List ℕ) {levels' : List ℕ} {aim : Aim} {closes : Bool} →
-    levels' ≡ kept_rest levels len others → aim ≡ aim_in levels' len → closes ≡ has aim.goal v →
-    has (aim_in levels len).goal v ≡ closes
-closing-told levels len v others kept found e =
-    sym (e ∙ ap (λ (a : Aim). has a.goal v) (found ∙ ap (λ (k : List ℕ). aim_in k len) kept
-    ∙ aim-past-rest levels len others len))

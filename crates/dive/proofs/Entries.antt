@@ -1,161 +1,125 @@
 -- From a place of a run to what the fast loop starts from, and from where the fast loop leaves to the unwound place.
 -- The sets of the beginning, or its first plan, are kept and found again; a beginning whose next atom is 1 is unwound.
-use Prim.Native.Nat.{ℕ, suc, ◌+◌, ◌-◌, ◌≤◌, ◌<◌}
+use Prim.Native.Nat.{ℕ, suc, ◌-◌, ◌≤◌, ◌<◌}
 use native.Mathlib.Omega.{arith}
 use mathlib.Core.Path.{◌≡◌, refl, ap, ap₂, sym, ◌∙◌}
 use mathlib.Core.Bool.{◌||◌}
-use mathlib.Core.List.{List, []}
-use lib.ListN.{length, get_or, take, take-append-drop}
+use mathlib.Core.List.{List, [], ◌∷◌}
+use Rattle.std.specs.Prelude.{Option, Some}
+use lib.ListN.{length, get_or, take, set, take-append-drop}
+use lib.Seq.{take-length, get_or-set_same}
 use borrow.Author.Tests.{le-leb}
 use Rattle.enumeration.specs.Words.{Family}
 use Rattle.enumeration.specs.Machine.{placed}
+use Rattle.enumeration.specs.Lawful.{Lawful}
 use Rattle.enumeration.specs.Makes.{none}
 use Rattle.enumeration.proofs.Makes.{unwound-stays}
 use Rattle.atomset.specs.Set.{has, linked_by}
-use Rattle.search.specs.declared.Search.{Search}
 use Rattle.openness.specs.declared.Aim.{Aim}
 use Rattle.openness.specs.declared.FirstPlan.{FirstPlan}
-use Rattle.openness.specs.Plan.{family_by, most_atoms, steps_left, first_length, Everywhere, Steered}
+use Rattle.openness.specs.declared.Wanted.{Wanted}
+use Rattle.openness.specs.Plan.{family_wanted, most_atoms, steps_left, first_length, Everywhere, Steered}
 use Rattle.search.proofs.Readings.{open-short}
-use Rattle.openness.proofs.Arrays.{taken-length, one-taken, open-atoms}
-use Rattle.openness.proofs.Plans.{family-by-lawful, family-by-atoms, first-few}
-use Rattle.openness.proofs.Aims.{place-atom, begun-each, begun-steps}
+use Rattle.openness.proofs.Arrays.{taken-length}
+use Rattle.openness.proofs.Plans.{family-by-lawful, family-by-atoms}
+use Rattle.openness.proofs.Aims.{opened-each}
 use Rattle.trial.specs.declared.Spot.{Spot}
 use Rattle.trial.specs.declared.Place.{Place}
 use Rattle.trial.specs.Parts.{stack_of, state_at, Unwound}
 use Rattle.trial.proofs.Arrays.{stack-length, unwound-most}
 use Rattle.dive.specs.declared.Dived.{Dived}
-use Rattle.dive.specs.Levels.{LevelRoom, aim_in, kept_aim, kept_rest, LevelPlanned}
-use Rattle.dive.specs.Parts.{Bounds, Room, Starting, FirstStage, Descent, Left, Entering, Entered, Descended}
-use Rattle.dive.specs.Parts.{state_before}
-use Rattle.dive.proofs.Levels.{length-kept-aim, goal-kept-same, rest-kept-same, aim-past-rest}
+use Rattle.dive.specs.declared.Level.{Level}
+use Rattle.dive.specs.Levels.{no_level, LevelRoom, kept_aim, LevelPlanned}
+use Rattle.dive.specs.Parts.{Starting, StartPlanned, Descent, Left, Entering, Descended, state_before}
 use Rattle.dive.proofs.Levels.{kept-steers, planned-led}
+
+-- a list of one atom
+pub one-word : (p : List ℕ) {a : ℕ} → length p ≡ 1 → get_or p 0 0 ≡ a → p ≡ a ∷ []
+one-word [] size e = absurd (omega arith)
+one-word (x ∷ []) size e = ap (λ (y : ℕ). y ∷ []) e
+one-word (x ∷ y ∷ p) size e = absurd (omega arith)
 
 -- ---- what the fast loop starts from
 
-module _ {n : ℕ} {table : List ℕ} {q : Search} {at : Spot} {first : FirstPlan} {prefix levels : List ℕ}
-    (b : Starting n table q at first prefix levels) where
+module _ {w : Wanted} {p : List ℕ} {first : Option FirstPlan} {levels : List Level} (b : Starting w p first levels)
+    (some : 1 ≤ length p) where
   abbrev family : Family
-  family = family_by n table q.kind q.s q.t
+  family = family_wanted w
 
-  short-enough : at.len ≤ 128
-  short-enough = omega (arith, b.begun.short)
-
-  -- its last atom
-  last_of : {x : ℕ} → x ≡ get_or prefix (at.len - 1) 0 → (1 ≤ x) × (x ≤ n)
-  last_of e =
-      let L = family-by-lawful n table q.kind q.s q.t in
-      let A = family-by-atoms n table q.kind q.s q.t in
-      let last : at.len - 1 < at.len = omega (arith, b.entered.some) in
-      rw e (open-atoms prefix at.len L A b.begun.size short-enough b.begun.is_opened (at.len - 1) last)
-
-  pub begun-atoms : 1 ≤ n
-  begun-atoms =
-      let (low, high) = last_of refl in
-      omega arith
-
-  pub last-atom : {x : ℕ} → x ≡ get_or prefix (at.len - 1) 0 → (1 ≤ x) × (x ≤ 128)
-  last-atom e =
-      let (low, high) = last_of e in
-      (low, omega (arith, b.begun.words.few))
+  lawful : Lawful family
+  lawful = family-by-lawful w.n w.table.now w.kind w.s w.t
 
   -- it is shorter than n, so there is room for its sets and those of a longer one
-  pub longer-room : LevelRoom (suc at.len) levels
+  pub longer-room : LevelRoom (suc (length p)) levels
   longer-room =
-      let L = family-by-lawful n table q.kind q.s q.t in
-      let taken = taken-length prefix at.len b.begun.size short-enough in
-      let most = open-short family L (take at.len prefix) b.begun.is_opened in
-      omega (arith, most, family-by-atoms n table q.kind q.s q.t, b.entered.some, b.sized)
+      let most = open-short family lawful p b.begun.is_opened in
+      omega (arith, most, family-by-atoms w.n w.table.now w.kind w.s w.t, some, b.sized)
+
+  pub own-room : LevelRoom (length p) levels
+  own-room = omega (arith, longer-room)
 
   -- the sets steer it: they are kept for its length, and it is planned
   pub starts-steered :
-      {aim : Aim} {kept planned : List ℕ} {x steps : ℕ} → first_length q.kind ≤ at.len →
-      Steered family (linked_by table) (most_atoms q.kind q.s) (take at.len prefix)
-      (get_or prefix (at.len - 1) 0) aim →
-      kept ≡ kept_aim levels at.len aim → x ≡ get_or prefix (at.len - 1) 0 →
-      steps ≡ steps_left q.kind q.s at.len →
-      LevelPlanned (linked_by table) q.kind x at.len steps kept planned →
-      FirstStage n table q.kind q.s q.t prefix planned at.len
-  starts-steered {aim} {kept} {planned} {steps = steps} long steered kept_is last_is left given =
-      let plan : LevelPlanned (linked_by table) q.kind (get_or prefix (at.len - 1) 0) at.len steps
-      (kept_aim levels at.len aim) planned = rw (kept_is, last_is) at given in
-      let sets = kept-steers levels at.len aim (omega (arith, longer-room)) steered in
+      {aim : Aim} {planned : List Level} {x : ℕ} → first_length w.kind ≤ length p →
+      Steered family (linked_by w.table.now) (most_atoms w.kind w.s) p x aim → x ≡ get_or p (length p - 1) 0 →
+      LevelPlanned (linked_by w.table.now) w.kind x (length p) (steps_left w.kind w.s (length p))
+      (kept_aim levels (length p) aim) planned →
+      StartPlanned w p planned
+  starts-steered {aim} long steered last_is plan =
+      let sets = kept-steers levels (length p) aim own-room steered in
       record {
-        lawful = steered.lawful;
-        is_opened = steered.is_opened;
-        long = λ h. planned-led plan sets;
-        short = λ h. absurd (omega arith);
-        to_try = λ v some.
-            plan.to_try family _ (take at.len prefix) sets (begun-each b.begun b.entered.some refl)
-            (begun-steps b.begun left) v ∙ rw (le-leb 1 v some);
+        some = some;
+        stage = record {
+          lawful = steered.lawful;
+          is_opened = rw (take-length p) steered.is_opened;
+          long = λ h. rw (take-length p, ← last_is) (planned-led plan sets);
+          short = λ h. absurd (omega arith);
+          to_try = λ v low.
+              rw (take-length p, le-leb 1 v low)
+              (plan.to_try family _ p sets (opened-each b.begun some last_is) refl v);
+        };
       }
 
   -- it is too short for them: the first plan tells of it
-  module _ (few : at.len < first_length q.kind) where
-    first-plan : Everywhere family (take at.len prefix) first.plan
-    first-plan =
-        let (one, same) = b.entered.known few in
-        let low = (place-atom b.begun 0 (omega arith) (sym same)).0 in
-        rw (one, one-taken prefix b.begun.size, same) (b.tells low)
-
-    pub starts-short :
-        (rest : List ℕ) {kept planned : List ℕ} →
-        kept ≡ kept_aim levels at.len (record { goal = first.plan.members; free = first.plan.opens }) →
-        ((v : ℕ) → has rest v ≡ (has first.plan.members v || has first.plan.opens v)) →
-        planned ≡ kept_rest kept at.len rest →
-        FirstStage n table q.kind q.s q.t prefix planned at.len
-    starts-short rest {kept} {planned} kept_is rest-is planned-is =
-        let aim : Aim = record { goal = first.plan.members; free = first.plan.opens } in
-        let room : LevelRoom at.len levels = omega (arith, longer-room) in
-        let size = ap length kept_is ∙ length-kept-aim levels at.len aim in
-        let aim-is : aim_in planned at.len ≡ aim_in (kept_aim levels at.len aim) at.len =
-        ap (λ (k : List ℕ). aim_in k at.len) planned-is ∙ aim-past-rest kept at.len rest at.len
-        ∙ ap (λ (k : List ℕ). aim_in k at.len) kept_is in
-        record {
-          lawful = family-by-lawful n table q.kind q.s q.t;
-          is_opened = b.begun.is_opened;
+  pub starts-short :
+      {kept : FirstPlan} (rest : List ℕ) → length p < first_length w.kind → first ≡ Some kept →
+      p ≡ kept.atom ∷ [] → ((v : ℕ) → has rest v ≡ (has kept.plan.members v || has kept.plan.opens v)) →
+      StartPlanned w p
+      (set levels (length p)
+      (record { aim = record { goal = kept.plan.members; free = kept.plan.opens }; rest = rest }))
+  starts-short {kept} rest few is word rest-is =
+      let level : Level = record { aim = record { goal = kept.plan.members; free = kept.plan.opens }; rest = rest } in
+      let here = get_or-set_same levels (length p) level no_level own-room in
+      let tells : Everywhere family p kept.plan = rw word (b.tells kept is) in
+      record {
+        some = some;
+        stage = record {
+          lawful = lawful;
+          is_opened = rw (take-length p) b.begun.is_opened;
           long = λ h. absurd (omega arith);
-          short = λ h v.
-              ap (λ (k : Aim). has k.goal v) aim-is ∙ goal-kept-same levels at.len aim room v ∙
-              (first-plan v).members;
-          to_try = λ v some.
-              rw (planned-is, le-leb 1 v some)
-              (rest-kept-same kept at.len rest (omega (arith, size)) v ∙ rest-is v ∙
-              ap₂ ◌||◌ (first-plan v).members (first-plan v).opens);
-        }
-
--- a place that the fast loop enters
-pub starting :
-    {n : ℕ} {table : List ℕ} {q : Search} {at : Spot} {first : FirstPlan} {start : ℕ} {prefix levels out : List ℕ} →
-    Entering n table q at first start prefix levels out → Entered q.kind at prefix first.atom →
-    Starting n table q at first prefix levels
-starting e entered = record { begun = e.begun; entered = entered; tells = e.tells; sized = e.sized }
-
-pub descent-of :
-    {n : ℕ} {table : List ℕ} {q : Search} {at : Spot} {first : FirstPlan} {most start : ℕ}
-    {prefix levels out planned : List ℕ} → Entering n table q at first start prefix levels out →
-    Entered q.kind at prefix first.atom → Bounds at most →
-    FirstStage n table q.kind q.s q.t prefix planned at.len → length planned ≡ length levels →
-    Descent n table q.kind q.s q.t most at start prefix planned out
-descent-of {q = q} e entered bounds stage size = record {
-  words = e.begun.words;
-  kinds = e.begun.kinds;
-  sized = omega (arith, e.sized);
-  standing = e.standing;
-  some = entered.some;
-  near = omega (arith, first-few q.kind, entered.some);
-  first = entered.first;
-  stage = stage;
-  bounds = bounds;
-  in_room = e.in_room;
-}
+          short = λ h v. ap (λ (l : Level). has l.aim.goal v) here ∙ rw (take-length p) (tells v).members;
+          to_try = λ v low.
+              ap (λ (l : Level). has l.rest v) here ∙
+              rw (take-length p, le-leb 1 v low) (rest-is v ∙ ap₂ ◌||◌ (tells v).members (tells v).opens);
+        };
+      }
 
 -- ---- where the fast loop leaves, unwound
 
-module _ {F : Family} {n most : ℕ} {prefix₀ : List ℕ} {at : Spot} {out₀ : List ℕ} {start : ℕ}
-    {prefix out after : List ℕ} {r : Dived} {place : Place} (some : 1 ≤ n) (first : at.next ≡ 1)
-    (l : Left F n most prefix₀ at out₀ start prefix out r)
+pub descent-atoms :
+    {w : Wanted} {most : ℕ} {from : Dived} {prefix : List ℕ} {levels : List Level} {out : List ℕ} →
+    Descent w most from prefix levels out → 1 ≤ w.n
+descent-atoms {w} {from = from} {prefix = prefix} d =
+    let short = open-short (family_wanted w) d.stage.lawful (take from.at.len prefix) d.stage.is_opened in
+    let size = taken-length prefix from.at.len d.standing.within.size d.standing.within.most in
+    omega (arith, short, size, d.some, family-by-atoms w.n w.table.now w.kind w.s w.t)
+
+module _ {F : Family} {n most : ℕ} {prefix₀ : List ℕ} {from : Dived} {out₀ prefix out after : List ℕ} {r : Dived}
+    {place : Place} (some : 1 ≤ n) (first : from.at.next ≡ 1) (l : Left F n most prefix₀ from out₀ prefix out r)
     (u : Unwound n prefix r.at.len r.at.next after place) where
+  abbrev at : Spot
+  at = from.at
+
   abbrev end : Spot
   end = r.at
 
@@ -191,7 +155,7 @@ module _ {F : Family} {n most : ℕ} {prefix₀ : List ℕ} {at : Spot} {out₀ 
       ap (λ (p : List ℕ × ℕ). placed p end.trials end.extensions end.listed) (sym u.place_is)
 
   pub left-unwound :
-      Descended F prefix₀ at (most - at.trials) out₀ start after out (record { at = spot; used = r.used })
+      Descended F prefix₀ from (most - at.trials) out₀ after out (record { at = spot; used = r.used })
   left-unwound = record {
     bytes = l.bytes;
     held = record { within = u.within; short = unwound-short };
@@ -202,40 +166,13 @@ module _ {F : Family} {n most : ℕ} {prefix₀ : List ℕ} {at : Spot} {out₀ 
     same = λ other. absurd (other first);
   }
 
--- ---- the trials that are left
-
-pub room-bounds : {at : Spot} {left room : ℕ} → Room at left room → Bounds at (at.trials + room)
-room-bounds {at} {left} {room} k =
-    let spent : at.trials + room - at.trials ≡ room = omega arith in
-    record {
-      trials_most = omega arith;
-      most_limit = k.trials_most;
-      extensions_most = rw spent k.extensions_most;
-      listed_most = rw spent k.listed_most;
-    }
-
-pub descended-within :
-    {F : Family} {prefix₀ : List ℕ} {at : Spot} {left room : ℕ} {out₀ : List ℕ} {start : ℕ} {prefix out : List ℕ}
-    {r : Dived} → Room at left room →
-    Descended F prefix₀ at (at.trials + room - at.trials) out₀ start prefix out r →
-    Descended F prefix₀ at left out₀ start prefix out r
-descended-within k d = record {
-  bytes = d.bytes;
-  held = d.held;
-  more = d.more;
-  affordable = omega (arith, d.affordable, k.affordable);
-  makes = d.makes;
-  listing = d.listing;
-  same = d.same;
-}
-
 -- no trial is made
 pub none_made :
-    {n : ℕ} {table : List ℕ} {q : Search} {at : Spot} {first : FirstPlan} {start : ℕ} {prefix levels out : List ℕ}
-    (F : Family) (left : ℕ) → Entering n table q at first start prefix levels out →
-    Descended F prefix at left out start prefix out (record { at = at; used = start })
-none_made {at = at} {start = start} {prefix = prefix} {out = out} F left e =
-    let zero-trials : at.trials - at.trials ≡ 0 = omega arith in
+    {w : Wanted} {from : Dived} {first : Option FirstPlan} {prefix : List ℕ} {levels : List Level} {out : List ℕ}
+    (F : Family) (left : ℕ) → Entering w from first prefix levels out →
+    Descended F prefix from left out prefix out from
+none_made {from = from} {prefix = prefix} {out = out} F left e =
+    let zero-trials : from.at.trials - from.at.trials ≡ 0 = omega arith in
     record {
       bytes = [];
       held = e.standing;
@@ -245,7 +182,7 @@ none_made {at = at} {start = start} {prefix = prefix} {out = out} F left e =
       listing = record {
         used_is = omega arith;
         fits = omega (arith, e.in_room);
-        output = sym (take-append-drop start out);
+        output = sym (take-append-drop from.used out);
       };
       same = λ other. (refl, refl);
     }

@@ -19,15 +19,17 @@ use Rattle.enumeration.proofs.Basics.{or-either}
 use Rattle.chordless.proofs.Steers.{steers-more, steers-same, steers-member, steers-open}
 use Rattle.atomset.specs.Set.{has, Lowest, LowestLeft}
 use Rattle.openness.specs.declared.Aim.{Aim}
+use Rattle.dive.specs.declared.Level.{Level}
 use Rattle.openness.specs.Plan.{Steered}
 use Rattle.dive.specs.Levels.{LevelRoom, aim_in, rest_in, kept_rest, goes_on_by, Led, LevelAdded, Stage}
 use Rattle.dive.proofs.Levels.{rest-kept-same, aim-past-rest}
 
-module _ {F : Family} {adj : Adjacency} {longest first : ℕ} {prefix levels : List ℕ} {i c : ℕ}
+module _ {F : Family} {adj : Adjacency} {longest first : ℕ} {prefix : List ℕ} {levels : List Level} {i c : ℕ}
     (s : Stage F adj longest first prefix levels i c) where
   -- an array and kept sets that are the same there
   pub stage-same :
-      {prefix' levels' : List ℕ} → take i prefix' ≡ take i prefix → get_or prefix' (i - 1) 0 ≡ get_or prefix (i - 1) 0 →
+      {prefix' : List ℕ} {levels' : List Level} → take i prefix' ≡ take i prefix →
+      get_or prefix' (i - 1) 0 ≡ get_or prefix (i - 1) 0 →
       aim_in levels' i ≡ aim_in levels i → (first ≤ i → aim_in levels' (suc i) ≡ aim_in levels (suc i)) →
       rest_in levels' i ≡ rest_in levels i → Stage F adj longest first prefix' levels' i c
   stage-same p x a n r = record {
@@ -109,12 +111,13 @@ module _ {F : Family} {adj : Adjacency} {longest first : ℕ} {prefix levels : L
     stage-lowered {others} room left = record {
       lawful = s.lawful;
       is_opened = s.is_opened;
-      long = rw (aim-past-rest levels i others i, aim-past-rest levels i others (suc i)) s.long;
-      short = λ h u. ap (λ (aim : Aim). has aim.goal u) (aim-past-rest levels i others i) ∙ s.short h u;
+      long = rw (aim-past-rest levels i others room i, aim-past-rest levels i others room (suc i)) s.long;
+      short = λ h u. ap (λ (aim : Aim). has aim.goal u) (aim-past-rest levels i others room i) ∙ s.short h u;
       to_try = λ u some.
-          rest-kept-same levels i others room u ∙ left.others v l u ∙
+          rw (rest-kept-same levels i others room)
+          (left.others v l u ∙
           same_test (has (rest_in levels i) u && not (eqb u v)) (leb (v + 1) u && goes_on_by F here u)
-          (to u some) (back u some);
+          (to u some) (back u some));
     }
       where
         to :
@@ -139,11 +142,11 @@ module _ {F : Family} {adj : Adjacency} {longest first : ℕ} {prefix levels : L
             (not-of (eqb u v) (ne_eqb u v (λ q. omega arith)))
 
 -- an atom v that opens the beginning is added, and the longer one is planned
-module _ {F : Family} {adj : Adjacency} {longest first : ℕ} {prefix levels : List ℕ} {i c : ℕ} where
+module _ {F : Family} {adj : Adjacency} {longest first : ℕ} {prefix : List ℕ} {levels : List Level} {i c : ℕ} where
   pub stage-added :
-      {v : ℕ} {levels' : List ℕ} → Stage F adj longest first prefix levels i c → i < length prefix → first ≤ suc i →
+      {v : ℕ} {levels' : List Level} → Stage F adj longest first prefix levels i c → i < length prefix → first ≤ suc i →
       is_open F (take i prefix ++ v ∷ []) ≡ true →
-      LevelAdded F adj longest first v (i + 1) (set prefix i v) levels levels' →
+      LevelAdded F adj longest first v (i + 1) (take (i + 1) (set prefix i v)) levels levels' →
       Stage F adj longest first (set prefix i v) levels' (i + 1) 1
   stage-added {v} {levels'} s room near o added = record {
     lawful = s.lawful;

@@ -1,36 +1,36 @@
--- The sets kept by length: those of the beginnings of i atoms have 6 words from place 6 × i on, the lower word of each
--- set and then the upper ones. Nothing to believe: they serve the proof of the fast loop.
-use Rattle.std.specs.Prelude.{ℕ, suc, ◌+◌, ◌-◌, ◌*◌, ◌≤◌, ◌<◌, ◌≡◌, Bool, true, ◌&&◌, ◌||◌}
+-- What is kept by length: of the beginnings of i atoms at place i. Nothing to believe: it serves the proof of the fast
+-- loop.
+use Rattle.std.specs.Prelude.{ℕ, suc, ◌+◌, ◌-◌, ◌≤◌, ◌<◌, ◌≡◌, Bool, true, ◌&&◌, ◌||◌}
 use Rattle.std.specs.Prelude.{List, [], ◌∷◌, ◌++◌, length, get_or, take, set, leb}
 use Rattle.graph.specs.Chordless.{Adjacency}
 use Rattle.enumeration.specs.Words.{Family, is_open}
 use Rattle.enumeration.specs.Lawful.{Lawful}
 use Rattle.atomset.specs.Set.{has}
 use Rattle.openness.specs.declared.Aim.{Aim}
+use Rattle.dive.specs.declared.Level.{Level}
 use Rattle.openness.specs.Plan.{HandedOn, EachOpens, Steered}
 
+-- nothing is kept
+abbrev pub no_level : Level
+no_level = record { aim = record { goal = []; free = [] }; rest = [] }
+
 -- there is room for what is kept of the beginnings of i atoms, and so of shorter ones
-abbrev pub LevelRoom : ℕ → List ℕ → Type 0
-LevelRoom i levels = 6 * i + 6 ≤ length levels
+abbrev pub LevelRoom : ℕ → List Level → Type 0
+LevelRoom i levels = i < length levels
 
 -- the two sets that steer the beginnings of i atoms
-abbrev pub aim_in : List ℕ → ℕ → Aim
-aim_in levels i = record {
-  goal = get_or levels (6 * i) 0 ∷ get_or levels (6 * i + 3) 0 ∷ [];
-  free = get_or levels (6 * i + 1) 0 ∷ get_or levels (6 * i + 4) 0 ∷ [];
-}
+abbrev pub aim_in : List Level → ℕ → Aim
+aim_in levels i = (get_or levels i no_level).aim
 
 -- the atoms still to be tried at the beginning of i atoms
-abbrev pub rest_in : List ℕ → ℕ → List ℕ
-rest_in levels i = get_or levels (6 * i + 2) 0 ∷ get_or levels (6 * i + 5) 0 ∷ []
+abbrev pub rest_in : List Level → ℕ → List ℕ
+rest_in levels i = (get_or levels i no_level).rest
 
-abbrev pub kept_aim : List ℕ → ℕ → Aim → List ℕ
-kept_aim levels i aim =
-    set (set (set (set levels (6 * i) (get_or aim.goal 0 0)) (6 * i + 3) (get_or aim.goal 1 0))
-    (6 * i + 1) (get_or aim.free 0 0)) (6 * i + 4) (get_or aim.free 1 0)
+abbrev pub kept_aim : List Level → ℕ → Aim → List Level
+kept_aim levels i aim = set levels i (record { aim = aim; rest = rest_in levels i })
 
-abbrev pub kept_rest : List ℕ → ℕ → List ℕ → List ℕ
-kept_rest levels i rest = set (set levels (6 * i + 2) (get_or rest 0 0)) (6 * i + 5) (get_or rest 1 0)
+abbrev pub kept_rest : List Level → ℕ → List ℕ → List Level
+kept_rest levels i rest = set levels i (record { aim = aim_in levels i; rest = rest })
 
 -- v makes a member of the beginning p, or opens it
 abbrev pub goes_on_by : Family → List ℕ → ℕ → Bool
@@ -38,7 +38,7 @@ goes_on_by F p v = F.member (p ++ v ∷ []) || is_open F (p ++ v ∷ [])
 
 -- the beginning of `len` atoms with the last atom x, past which so many steps are left, is planned: the atoms to be
 -- tried are kept, and the sets handed on; the other lengths are as they were
-pub record LevelPlanned (adj : Adjacency) (kind x len steps : ℕ) (before after : List ℕ) : Type 0 where
+pub record LevelPlanned (adj : Adjacency) (kind x len steps : ℕ) (before after : List Level) : Type 0 where
   pub size : length after ≡ length before
   pub handed : HandedOn adj x (aim_in before len) (aim_in after (suc len))
   pub to_try :
@@ -53,25 +53,27 @@ pub record Led (F : Family) (adj : Adjacency) (longest : ℕ) (p : List ℕ) (x 
   pub steered : Steered F adj longest p x aim
   pub handed : HandedOn adj x aim next
 
--- the beginning of `len` atoms in the array, which has got its last atom x, is planned, in a search whose sets steer
--- the beginnings of `first` atoms or more: those of a longer one were handed on, those of one of `first` atoms are made
-pub record LevelAdded (F : Family) (adj : Adjacency) (longest first x len : ℕ) (prefix before after : List ℕ) : Type 0
+-- the beginning p of `len` atoms, which has got its last atom x, is planned, in a search whose sets steer beginnings of
+-- `first` atoms or more: those of a longer one were handed on, those of one of `first` atoms are made
+pub record LevelAdded (F : Family) (adj : Adjacency) (longest first x len : ℕ) (p : List ℕ) (before after : List Level)
+    : Type 0
   where
     pub size : length after ≡ length before
     pub aims_kept : (i : ℕ) → i < len → aim_in after i ≡ aim_in before i
     pub aim_kept : first < len → aim_in after len ≡ aim_in before len
     pub rests_kept : (i : ℕ) → i < len → rest_in after i ≡ rest_in before i
     pub led :
-        (first < len → Steered F adj longest (take len prefix) x (aim_in before len)) →
-        Led F adj longest (take len prefix) x (aim_in after len) (aim_in after (suc len))
+        (first < len → Steered F adj longest p x (aim_in before len)) →
+        Led F adj longest p x (aim_in after len) (aim_in after (suc len))
     pub to_try :
-        (first < len → Steered F adj longest (take len prefix) x (aim_in before len)) → (v : ℕ) →
-        has (rest_in after len) v ≡ goes_on_by F (take len prefix) v
+        (first < len → Steered F adj longest p x (aim_in before len)) → (v : ℕ) →
+        has (rest_in after len) v ≡ goes_on_by F p v
 
 -- an open beginning of i atoms on the way down, whose next atom is c, and what is kept for its length: from `first`
 -- atoms on the sets steer it; of a shorter one the atoms that make a member are kept as those that may close one. The
 -- atoms still to be tried are those from the next one on that make a member or open it
-pub record Stage (F : Family) (adj : Adjacency) (longest first : ℕ) (prefix levels : List ℕ) (i c : ℕ) : Type 0 where
+pub record Stage (F : Family) (adj : Adjacency) (longest first : ℕ) (prefix : List ℕ) (levels : List Level) (i c : ℕ)
+    : Type 0 where
   pub lawful : Lawful F
   pub is_opened : is_open F (take i prefix) ≡ true
   pub long :

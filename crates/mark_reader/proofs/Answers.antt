@@ -1,12 +1,12 @@
 -- The answers of a restore past rule 9, by the rules that lead to each; the definition goes by `cond`.
 -- The code tests the search that it has built from the stored atoms: its tests are those of the mark.
-use Prim.Native.Nat.{ℕ, ◌+◌, ◌*◌, ◌≤◌}
+use Rattle.std.specs.Prelude.{Err, Ok, Option, Some, None}
+use Prim.Native.Nat.{ℕ, ◌≤◌}
 use native.Mathlib.Omega.{arith}
 use mathlib.Core.Path.{◌≡◌, ap, sym, ◌∙◌}
-use mathlib.Core.Bool.{Bool, true, false, not, and_assoc, and-true}
+use mathlib.Core.Bool.{Bool, true, false, and_assoc, and-true}
 use mathlib.Core.List.{List, map, reverse-reverse}
 use lib.ListN.{length, take, length-reverse}
-use borrow.Author.Tests.{eq-eqb, ne_eqb, not-false}
 use Rattle.graph.proofs.Below.{and_right}
 use Rattle.enumeration.specs.Words.{Family}
 use Rattle.enumeration.specs.Lawful.{Lawful}
@@ -18,7 +18,6 @@ use Rattle.molecule.proofs.Bonds.{rule9}
 use Rattle.molecule.proofs.BondLaws.{ascending-bonds}
 use Rattle.search.specs.declared.Search.{Search}
 use Rattle.search.specs.Place.{family_of, family, beginning, held, search_at, kind_kept, place_kept}
-use Rattle.search.specs.Entries.{accepted_search, refused_search}
 use Rattle.search.specs.Mark.{value_at, values_at, mark_bonds, mark_length, mark_beginning, mark_search, bonds_from, bonds_named}
 use Rattle.search.specs.Mark.{three_lines_kept, bond_lines_kept, layout_kept, belongs, placed_search, restore_by, restore_mark}
 use Rattle.search.specs.OldMark.{restore_old_mark}
@@ -26,10 +25,10 @@ use Rattle.search.proofs.Lines.{ThreeLines, three-lines-of, three-lines-facts}
 use Rattle.search.proofs.BondLines.{bonds-at-length}
 use Rattle.search.proofs.Readings.{family-lawful, family-atoms, place-facts}
 use Rattle.search.proofs.Views.{held-take, held-length}
-use Rattle.mark_reader.specs.declared.BondsRead.{BondsRead}
 use Rattle.mark_reader.specs.Parts.{low, search_of, Placeable, names_own, own_search}
-use Rattle.mark_reader.specs.Bonds.{lines_after, ReadsBonds}
-use Rattle.mark_reader.proofs.Layouts.{failed, passed}
+use Rattle.mark_reader.specs.Bonds.{lines_after, bonds_read}
+use Rattle.mark_reader.proofs.BondReading.{none-where, some-where}
+use Rattle.molecule.specs.Parts.{each_bonded}
 use Rattle.mark_reader.proofs.Stored.{values-size, low-length, stored-open, place-stored}
 
 -- ---- the search that is built from the stored atoms
@@ -115,107 +114,75 @@ module _ {mol : Molecule} {bytes : List ℕ} {q : Search} (r : ReadFrom mol byte
 
   -- the code's two tests, and the answer that each leads to
   module _ {kind : Bool} (is-kind : kind ≡ kind_kept mol.atoms q.kind q.s q.t) where
-    pub refuses-kind : not kind ≡ true → refused_search refusal.MarkKind ≡ placed_search mol bytes
+    pub refuses-kind : kind ≡ false → Err refusal.MarkKind ≡ placed_search mol bytes
     unfolding placed_search
-    refuses-kind e = rw (same_kind ∙ failed is-kind e)
+    refuses-kind e = rw (same_kind ∙ sym is-kind ∙ e)
 
-    module _ (kept : not kind ≡ false) {place : Bool}
+    module _ (kept : kind ≡ true) {place : Bool}
         (is-place : place ≡ place_kept (family mol q) (beginning q) q.next) where
-      pub refuses-place : not place ≡ true → refused_search refusal.MarkPlace ≡ placed_search mol bytes
+      pub refuses-place : place ≡ false → Err refusal.MarkPlace ≡ placed_search mol bytes
       unfolding placed_search
-      refuses-place e = rw (same_kind ∙ passed is-kind kept, same_place ∙ failed is-place e)
+      refuses-place e = rw (same_kind ∙ sym is-kind ∙ kept, same_place ∙ sym is-place ∙ e)
 
-      pub accepts : not place ≡ false → accepted_search q ≡ placed_search mol bytes
+      pub accepts : place ≡ true → Ok q ≡ placed_search mol bytes
       unfolding placed_search
       accepts e =
-          let allowed = passed is-place e in
+          let allowed = sym is-place ∙ e in
           let named = r.read ∙ built-search mol bytes r.placeable.formed (rw r.read at allowed) in
-          rw (named, same_kind ∙ passed is-kind kept, same_place ∙ allowed)
-
--- ---- rule 15
-
-module _ (n m : ℕ) (bytes : List ℕ) (own : Bool) where
-  pub other-atoms : (value_at 4 bytes 12 ≡ n → ⊥) → false ≡ names_own n m bytes own
-  unfolding names_own
-  other-atoms differ = rw (ne_eqb (value_at 4 bytes 12) n differ)
-
-  module _ (atoms : value_at 4 bytes 12 ≡ n) where
-    pub other-bonds : (mark_bonds bytes ≡ m → ⊥) → false ≡ names_own n m bytes own
-    unfolding names_own
-    other-bonds differ = rw (eq-eqb (value_at 4 bytes 12) n atoms, ne_eqb (mark_bonds bytes) m differ)
-
-    pub same-counts : mark_bonds bytes ≡ m → own ≡ names_own n m bytes own
-    unfolding names_own
-    same-counts bonds = rw (eq-eqb (value_at 4 bytes 12) n atoms, eq-eqb (mark_bonds bytes) m bonds)
-
-module _ (mol : Molecule) (bytes : List ℕ) (own : Bool) {test : Bool}
-    (is : test ≡ names_own mol.atoms mol.bonds bytes own) where
-  pub refuses-molecule : not test ≡ true → refused_search refusal.MarkMolecule ≡ own_search mol bytes own
-  unfolding own_search
-  refuses-molecule e = rw (failed is e)
-
-  pub places : not test ≡ false → placed_search mol bytes ≡ own_search mol bytes own
-  unfolding own_search
-  places e = rw (passed is e)
+          rw (named, same_kind ∙ sym is-kind ∙ kept, same_place ∙ allowed)
 
 -- ---- rules 14 and 15
 
 module _ (mol : Molecule) (bytes : List ℕ) (formed : well_formed mol ≡ true) where
-  pub refuses-lines : three_lines_kept 9 bytes ≡ false → refused_search refusal.MarkBytes ≡ restore_mark mol bytes
+  pub refuses-lines : three_lines_kept 9 bytes ≡ false → Err refusal.MarkBytes ≡ restore_mark mol bytes
   unfolding restore_mark restore_by layout_kept
   refuses-lines e = rw (formed, e)
 
--- the three lines are kept, on a molecule that keeps rule 9, and the bond lines are read
-pub record LinesRead (mol : Molecule) (bytes : List ℕ) (r : BondsRead) : Type 0 where
-  pub formed : well_formed mol ≡ true
-  pub lines : ThreeLines 9 bytes
-  pub read : ReadsBonds mol.atoms mol.rows bytes (bonds_from bytes) (mark_bonds bytes) r
+  -- the three lines are kept, and the bond lines past them are read
+  module _ (lines : ThreeLines 9 bytes) where
+    abbrev pub read : Option Bool
+    read = bonds_read mol.atoms mol.rows bytes (bonds_from bytes) (mark_bonds bytes)
 
--- the bond lines are those past the three
-pub bonds-past-three :
-    {n : ℕ} {rows bytes : List ℕ} {k m : ℕ} {r : BondsRead} → k ≡ mark_length bytes → m ≡ mark_bonds bytes →
-    ReadsBonds n rows bytes (91 + 4 * k) m r → ReadsBonds n rows bytes (bonds_from bytes) (mark_bonds bytes) r
-bonds-past-three length-is bonds-is read = rw (length-is, bonds-is) at read
+    abbrev order : Bool
+    order = lines_after (0, 0) bytes (bonds_from bytes) (mark_bonds bytes)
 
-module _ {mol : Molecule} {bytes : List ℕ} {r : BondsRead} (l : LinesRead mol bytes r) where
-  layout_is : layout_kept bytes ≡ r.kept
-  unfolding layout_kept lines_after
-  layout_is = rw (three-lines-of 9 bytes l.lines) (sym l.read.kept)
+    layout_is : layout_kept bytes ≡ order
+    unfolding layout_kept lines_after
+    layout_is = rw (three-lines-of 9 bytes lines)
 
-  pub refuses-bonds : not r.kept ≡ true → refused_search refusal.MarkBytes ≡ restore_mark mol bytes
-  unfolding restore_mark restore_by
-  refuses-bonds e = rw (l.formed, failed (sym layout_is) e)
+    pub refuses-bonds : read ≡ None → Err refusal.MarkBytes ≡ restore_mark mol bytes
+    unfolding restore_mark restore_by bonds_read
+    refuses-bonds e = rw (formed, layout_is ∙ none-where order _ e)
 
-  pub lines-placeable : Placeable mol bytes
-  lines-placeable =
-      let lines = l.lines in
-      record { formed = l.formed; most = lines.most; room = omega arith }
+    pub lines-placeable : Placeable mol bytes
+    lines-placeable = record { formed = formed; most = lines.most; room = omega arith }
 
-  module _ (kept : not r.kept ≡ false) where
-    right : r.kept ≡ true
-    right = not-false r.kept kept
+    module _ (own : Bool) (is : read ≡ Some own) where
+      told_of : (order ≡ true) × (own ≡ each_bonded mol.atoms mol.rows (bonds_named bytes))
+      unfolding bonds_read
+      told_of = some-where order is
 
-    ordered : ascending (0, 0) (bonds_named bytes) ≡ true
-    unfolding lines_after
-    ordered =
-        let lines = bond_lines_kept bytes (bonds_from bytes) (mark_bonds bytes) in
-        and_right lines (ascending (0, 0) (bonds_named bytes)) (sym l.read.kept ∙ right)
+      ordered : ascending (0, 0) (bonds_named bytes) ≡ true
+      unfolding lines_after
+      ordered =
+          let lines = bond_lines_kept bytes (bonds_from bytes) (mark_bonds bytes) in
+          and_right lines (ascending (0, 0) (bonds_named bytes)) told_of.0
 
-    own_is : belongs mol bytes ≡ names_own mol.atoms mol.bonds bytes r.own
-    unfolding belongs names_own
-    own_is =
-        let same = ascending-bonds mol l.formed (bonds_named bytes) ordered in
-        let count = bonds-at-length bytes (bonds_from bytes) (mark_bonds bytes) in
-        rw (← same, count, l.read.own right, and_assoc)
+      own_is : belongs mol bytes ≡ names_own mol.atoms mol.bonds bytes own
+      unfolding belongs names_own
+      own_is =
+          let same = ascending-bonds mol formed (bonds_named bytes) ordered in
+          let count = bonds-at-length bytes (bonds_from bytes) (mark_bonds bytes) in
+          rw (← same, count, told_of.1, and_assoc)
 
-    pub goes_on : own_search mol bytes r.own ≡ restore_mark mol bytes
-    unfolding restore_mark restore_by own_search
-    goes_on = rw (l.formed, layout_is ∙ right, own_is)
+      pub goes_on : own_search mol bytes own ≡ restore_mark mol bytes
+      unfolding restore_mark restore_by own_search
+      goes_on = rw (formed, layout_is ∙ told_of.0, own_is)
 
 -- ---- the same of an old mark
 
 module _ (mol : Molecule) (bytes : List ℕ) (formed : well_formed mol ≡ true) where
-  pub refuses-old-lines : three_lines_kept 0 bytes ≡ false → refused_search refusal.MarkBytes ≡
+  pub refuses-old-lines : three_lines_kept 0 bytes ≡ false → Err refusal.MarkBytes ≡
       restore_old_mark mol bytes
   unfolding restore_old_mark restore_by
   refuses-old-lines e = rw (formed, e)

@@ -1,19 +1,18 @@
 -- What the parts of reading bond lines hold. Nothing to believe: the contract of a restore is the definition of marks.
-use Rattle.std.specs.Prelude.{ℕ, ◌+◌, ◌*◌, ◌≤◌, ◌≡◌, Bool, true, ◌&&◌, List, length, ltb}
+use Rattle.std.specs.Prelude.{ℕ, ◌+◌, ◌*◌, ◌≤◌, Bool, ◌&&◌, cond, List, length, ltb, Option, Some, None}
 use Rattle.molecule.specs.BondList.{Bond, ascending, comes_before}
 use Rattle.molecule.specs.Parts.{each_bonded}
-use Rattle.search.specs.Mark.{value_at, fields_kept, is_feed, bond_lines_kept, bonds_at}
-use Rattle.mark_reader.specs.declared.BondLine.{BondLine}
-use Rattle.mark_reader.specs.declared.BondsRead.{BondsRead}
+use Rattle.search.specs.Mark.{value_at, field_kept, fields_kept, is_feed, bond_lines_kept, bonds_at}
+
+-- the value of a field of 4 columns that zeros do not fill
+abbrev pub kept_at : List ℕ → ℕ → Option ℕ
+kept_at bytes at = cond (field_kept 4 bytes at) (Some (value_at 4 bytes at)) None
 
 -- the bond line at a place
-unfoldable pub line_at : List ℕ → ℕ → BondLine
+unfoldable pub line_at : List ℕ → ℕ → Option Bond
 line_at bytes at =
-    record {
-      kept = fields_kept 4 bytes at 2 && is_feed bytes (at + 8);
-      left = value_at 4 bytes at;
-      right = value_at 4 bytes (at + 4);
-    }
+    cond (fields_kept 4 bytes at 2 && is_feed bytes (at + 8)) (Some (value_at 4 bytes at, value_at 4 bytes (at + 4)))
+    None
 
 -- a bond has its lower atom first, and another comes before it
 unfoldable pub followed : Bond → Bond → Bool
@@ -28,7 +27,7 @@ pub record BondsIn (n : ℕ) (bytes : List ℕ) (at k : ℕ) : Type 0 where
   pub few : n ≤ 128
   pub room : at + 9 * k ≤ length bytes
 
--- whether k bond lines are right and in order, and, where they are, whether each is a bond of the record
-pub record ReadsBonds (n : ℕ) (rows bytes : List ℕ) (at k : ℕ) (r : BondsRead) : Type 0 where
-  pub kept : r.kept ≡ lines_after (0, 0) bytes at k
-  pub own : r.kept ≡ true → r.own ≡ each_bonded n rows (bonds_at bytes at k)
+-- where k bond lines are right and in order, whether each is a bond of the record
+unfoldable pub bonds_read : ℕ → List ℕ → List ℕ → ℕ → ℕ → Option Bool
+bonds_read n rows bytes at k =
+    cond (lines_after (0, 0) bytes at k) (Some (each_bonded n rows (bonds_at bytes at k))) None

@@ -1,13 +1,12 @@
 -- What the parts of restoring hold. Nothing to believe: the contract of a restore is the definition of marks.
-use Rattle.std.specs.Prelude.{ℕ, min, ◌+◌, ◌*◌, ◌≤◌, ◌≡◌, Bool, true, ◌&&◌, cond, List, length, eqb}
+use Rattle.std.specs.Prelude.{ℕ, min, ◌+◌, ◌*◌, ◌≤◌, ◌≡◌, Bool, true, ◌&&◌, cond, List, length, eqb, Err, Result}
 use Rattle.fields.specs.Field.{value_at}
 use Rattle.refusal.specs.declared.Refusal.TheVariants as refusal
 use Rattle.molecule.specs.declared.Molecule.{Molecule}
 use Rattle.molecule.specs.Record.{well_formed}
 use Rattle.search.specs.declared.Search.{Search}
-use Rattle.search.specs.declared.Made.{Made}
-use Rattle.search.specs.Entries.{refused_search}
 use Rattle.search.specs.Mark.{mark_bonds, mark_length, placed_search}
+use Rattle.refusal.specs.declared.Refusal.{Refusal}
 
 -- k atoms fit their array, and their fields are within the bytes
 pub record AtomsFit (bytes : List ℕ) (k : ℕ) : Type 0 where
@@ -44,6 +43,6 @@ unfoldable pub names_own : ℕ → ℕ → List ℕ → Bool → Bool
 names_own n m bytes own = eqb (value_at 4 bytes 12) n && eqb (mark_bonds bytes) m && own
 
 -- rules 15, 16 and 17 on three lines, where `own` tells whether the bonds named are the record's
-unfoldable pub own_search : Molecule → List ℕ → Bool → Made
+unfoldable pub own_search : Molecule → List ℕ → Bool → Result Search Refusal
 own_search mol bytes own =
-    cond (names_own mol.atoms mol.bonds bytes own) (placed_search mol bytes) (refused_search refusal.MarkMolecule)
+    cond (names_own mol.atoms mol.bonds bytes own) (placed_search mol bytes) (Err refusal.MarkMolecule)

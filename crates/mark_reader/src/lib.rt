@@ -2,35 +2,22 @@
 // allows, rules 14 to 17, in the new form or in the old one from before F-5.
 #![tactic(auto)]
 
-ghost use Rattle.std.specs.Prelude.{◌≡◌, true, ◌&&◌, map, ◌+◌, ◌*◌, ◌≤◌, length, eqb};
-ghost use Rattle.fields.specs.Field.{blanks_only, value_of, value_at};
+ghost use Rattle.std.specs.Prelude.{◌≡◌, true, map, ◌+◌, ◌*◌, ◌≤◌, length};
+ghost use Rattle.fields.specs.Field.{value_at};
 ghost use Rattle.molecule.specs.Record.{bonded, well_formed};
 ghost use Rattle.search.specs.Place.{held};
 ghost use Rattle.search.specs.Mark.{fields_kept, three_lines_kept, values_at, placed_search, restore_mark};
 ghost use Rattle.search.specs.OldMark.{restore_old_mark};
 ghost use Rattle.search.specs.Forms.{restore_in};
 ghost use Rattle.mark_reader.specs.Parts.{AtomsFit, low, search_of, Placeable, names_own, own_search};
-ghost use Rattle.mark_reader.specs.Bonds.{line_at, followed, BondsIn, ReadsBonds};
+ghost use Rattle.mark_reader.specs.Bonds.{kept_at, line_at, followed, BondsIn, bonds_read};
 
-use fields::Number;
 use molecule::Molecule;
-use refusal::{Answer, Refusal};
-use search::{Form, Made, Search};
+use refusal::Refusal;
+use search::{Form, Search};
 
-// A bond line: whether its bytes are right, and its two atoms.
-#[derive(Clone, Copy)]
-struct BondLine {
-    pub kept: bool,
-    pub left: usize,
-    pub right: usize,
-}
-
-// Bond lines: whether they are right and in order, and whether each is a bond of the molecule.
-#[derive(Clone, Copy)]
-struct BondsRead {
-    pub kept: bool,
-    pub own: bool,
-}
+// The most atoms of a beginning.
+const LONGEST: usize = 127;
 
 // The value of a field of 4 columns.
 fn small_at(bytes: &[u8], at: usize) -> usize
@@ -45,14 +32,10 @@ fn fields_kept(bytes: &[u8], columns: usize, at: usize, k: usize) -> bool
     requires { at + columns * k ≤ length bytes.now }
     ensures { result ≡ fields_kept columns bytes.now at k }
 {
-    let mut i: usize = 0;
-    let mut place = at;
-    while i < k {
-        if !fields::blanks_only(fields::number_at(bytes, columns, place)) {
+    for i in 0..k {
+        if !fields::blanks_only(fields::number_at(bytes, columns, at + columns * i)) {
             return false;
         }
-        place += columns;
-        i += 1;
     }
     true
 }
@@ -66,148 +49,80 @@ fn three_lines_kept(bytes: &[u8], per_bond: usize) -> bool
     if bytes.len() < 91 {
         return false;
     }
-    if !fields_kept(bytes, 4, 0, 7) {
-        return false;
-    }
-    if bytes[28] != 10 {
-        return false;
-    }
-    if !fields_kept(bytes, 20, 29, 3) {
-        return false;
-    }
-    if bytes[89] != 10 {
-        return false;
-    }
     let k = small_at(bytes, 20);
-    if 127 < k {
-        return false;
-    }
-    if bytes.len() != 91 + 4 * k + per_bond * small_at(bytes, 16) {
-        return false;
-    }
-    if !fields_kept(bytes, 4, 90, k) {
-        return false;
-    }
-    bytes[90 + 4 * k] == 10
+    fields_kept(bytes, 4, 0, 7)
+        && bytes[28] == b'\n'
+        && fields_kept(bytes, 20, 29, 3)
+        && bytes[89] == b'\n'
+        && k <= LONGEST
+        && bytes.len() == 91 + 4 * k + per_bond * small_at(bytes, 16)
+        && fields_kept(bytes, 4, 90, k)
+        && bytes[90 + 4 * k] == b'\n'
 }
 
-// The value of a field, 0 where it is no number field.
-fn small_of(x: Number) -> usize
-    ensures { result ≡ value_of x }
+// The value of a field of 4 columns that zeros do not fill; none where it is no such field.
+fn kept_at(bytes: &[u8], at: usize) -> Option<usize>
+    requires { at + 4 ≤ length bytes.now }
+    ensures { result ≡ kept_at bytes.now at }
 {
-    match x {
-        Number::Value(v, _) => v as usize,
-        Number::Bad => 0,
+    match fields::number_at(bytes, 4, at) {
+        Some(x) if !x.zeros => Some(x.value as usize),
+        _ => None,
     }
 }
 
-// Whether a line is two fields that zeros do not fill, and a line feed.
-fn line_kept(first: Number, second: Number, end: u8) -> bool
-    ensures { result ≡ (blanks_only first && blanks_only second && eqb end 10) }
-{
-    if !fields::blanks_only(first) {
-        return false;
-    }
-    if !fields::blanks_only(second) {
-        return false;
-    }
-    end == 10
-}
-
-// The bond line at a place.
-fn bond_line(bytes: &[u8], at: usize) -> BondLine
+// The bond line at a place: two such fields, its atoms, and a line feed.
+fn bond_line(bytes: &[u8], at: usize) -> Option<(usize, usize)>
     requires { at + 9 ≤ length bytes.now }
     ensures { result ≡ line_at bytes.now at }
 {
-    let first = fields::number_at(bytes, 4, at);
-    let second = fields::number_at(bytes, 4, at + 4);
-    let kept = line_kept(first, second, bytes[at + 8]);
-    let left = small_of(first);
-    let right = small_of(second);
-    BondLine {
-        kept: kept,
-        left: left,
-        right: right,
+    let left = kept_at(bytes, at)?;
+    let right = kept_at(bytes, at + 4)?;
+    if bytes[at + 8] != b'\n' {
+        return None;
     }
+    Some((left, right))
 }
 
-// Whether the bond c d has its lower atom first and comes after a b in dictionary order.
-fn follows(a: usize, b: usize, c: usize, d: usize) -> bool
-    ensures { result ≡ followed (a, b) (c, d) }
+// Whether a bond has its lower atom first and comes after the one above it in dictionary order.
+fn follows(above: (usize, usize), bond: (usize, usize)) -> bool
+    ensures { result ≡ followed above bond }
 {
-    if d <= c {
-        return false;
-    }
-    if a < c {
-        return true;
-    }
-    if a != c {
-        return false;
-    }
-    b < d
+    bond.0 < bond.1 && above < bond
 }
 
-// Whether a and b are bonded too, where `own` says that the pairs before them are.
-fn also_bonded(own: bool, rows: &[u8; 2048], n: usize, a: usize, b: usize) -> bool
+// Whether a and b are atoms that are bonded.
+fn bonded(rows: &[u8; 2048], n: usize, a: usize, b: usize) -> bool
     requires { n ≤ 128 }
-    ensures { result ≡ (own && bonded n rows.now a b) }
+    ensures { result ≡ bonded n rows.now a b }
 {
-    if !own {
-        return false;
-    }
-    if !molecule::is_atom(n, a) {
-        return false;
-    }
-    if !molecule::is_atom(n, b) {
-        return false;
-    }
-    molecule::linked(rows, a - 1, b - 1)
+    molecule::is_atom(n, a) && molecule::is_atom(n, b) && molecule::linked(rows, a - 1, b - 1)
 }
 
-// So many bond lines from a place on, in one pass: a b is the bond of the line above, or 0 0 above the first.
-fn read_bonds(rows: &[u8; 2048], n: usize, bytes: &[u8], from: usize, count: usize) -> BondsRead
+// So many bond lines from a place on, in one pass: none where one is not right or not in order; otherwise whether each
+// is a bond of the molecule.
+fn read_bonds(rows: &[u8; 2048], n: usize, bytes: &[u8], from: usize, count: usize) -> Option<bool>
     requires { BondsIn n bytes.now from count }
-    ensures { ReadsBonds n rows.now bytes.now from count result }
+    ensures { result ≡ bonds_read n rows.now bytes.now from count }
 {
-    let mut a: usize = 0;
-    let mut b: usize = 0;
+    let mut above = (0, 0);
     let mut own = true;
-    let mut at = from;
-    let mut rest = count;
-    while 0 < rest {
-        let line = bond_line(bytes, at);
-        if !line.kept {
-            return BondsRead {
-                kept: false,
-                own: false,
-            };
+    for i in 0..count {
+        let bond = bond_line(bytes, from + 9 * i)?;
+        if !follows(above, bond) {
+            return None;
         }
-        if !follows(a, b, line.left, line.right) {
-            return BondsRead {
-                kept: false,
-                own: false,
-            };
-        }
-        own = also_bonded(own, rows, n, line.left, line.right);
-        a = line.left;
-        b = line.right;
-        at += 9;
-        rest -= 1;
+        own = own && bonded(rows, n, bond.0, bond.1);
+        above = bond;
     }
-    BondsRead {
-        kept: true,
-        own: own,
-    }
+    Some(own)
 }
 
 // An atom in a byte. Above 255 it is 255, which is no atom either.
 fn low_byte(v: usize) -> u8
     ensures { result ≡ low v }
 {
-    if v < 255 {
-        return v as u8;
-    }
-    255
+    u8::try_from(v).unwrap_or(255)
 }
 
 // The k atoms of a mark in their array.
@@ -216,10 +131,9 @@ fn atoms_of(bytes: &[u8], k: usize) -> [u8; 128]
     ensures { result ≡ held (map low (values_at bytes.now 90 k)) }
 {
     let mut prefix = [0u8; 128];
-    let mut i: usize = 0;
-    while i < k {
+    // By index, which says where an atom's field is too.
+    for i in 0..k {
         prefix[i] = low_byte(small_at(bytes, 90 + 4 * i));
-        i += 1;
     }
     prefix
 }
@@ -229,24 +143,16 @@ fn search_of(bytes: &[u8], prefix: [u8; 128]) -> Search
     requires { 91 ≤ length bytes.now }
     ensures { result ≡ search_of bytes.now prefix }
 {
-    let kind = small_at(bytes, 0);
-    let s = small_at(bytes, 4);
-    let t = small_at(bytes, 8);
-    let len = small_at(bytes, 20);
-    let next = small_at(bytes, 24);
-    let trials = fields::value_at(bytes, 20, 29);
-    let extensions = fields::value_at(bytes, 20, 49);
-    let listed = fields::value_at(bytes, 20, 69);
     Search {
-        kind: kind,
-        s: s,
-        t: t,
-        len: len,
-        prefix: prefix,
-        next: next,
-        trials: trials,
-        extensions: extensions,
-        listed: listed,
+        kind: small_at(bytes, 0),
+        s: small_at(bytes, 4),
+        t: small_at(bytes, 8),
+        len: small_at(bytes, 20),
+        prefix,
+        next: small_at(bytes, 24),
+        trials: fields::value_at(bytes, 20, 29),
+        extensions: fields::value_at(bytes, 20, 49),
+        listed: fields::value_at(bytes, 20, 69),
     }
 }
 
@@ -255,76 +161,66 @@ fn is_own(n: usize, m: usize, bytes: &[u8], own: bool) -> bool
     requires { 91 ≤ length bytes.now }
     ensures { result ≡ names_own n m bytes.now own }
 {
-    if small_at(bytes, 12) != n {
-        return false;
-    }
-    if small_at(bytes, 16) != m {
-        return false;
-    }
-    own
+    small_at(bytes, 12) == n && small_at(bytes, 16) == m && own
 }
 
 // Rules 16 and 17: the search that three lines name, on a molecule that rule 9 allows.
-fn placed_search(m: Molecule, bytes: &[u8]) -> Made
+fn placed_search(m: Molecule, bytes: &[u8]) -> Result<Search, Refusal>
     requires { Placeable m bytes.now }
     ensures { result ≡ placed_search m bytes.now }
 {
-    let k = small_at(bytes, 20);
-    let q = search_of(bytes, atoms_of(bytes, k));
+    let q = search_of(bytes, atoms_of(bytes, small_at(bytes, 20)));
     if !search_rules::kind_kept(m.atoms, q.kind, q.s, q.t) {
-        return search::refused_search(Refusal::MarkKind);
+        return Err(Refusal::MarkKind);
     }
     if !search_rules::place_kept(m, q) {
-        return search::refused_search(Refusal::MarkPlace);
+        return Err(Refusal::MarkPlace);
     }
-    Made {
-        answer: Answer::Accepted,
-        search: q,
-    }
+    Ok(q)
 }
 
 // Rules 15, 16 and 17 on three lines that keep rule 14; `own` says whether the bonds named are the molecule's.
-fn own_search(m: Molecule, bytes: &[u8], own: bool) -> Made
+fn own_search(m: Molecule, bytes: &[u8], own: bool) -> Result<Search, Refusal>
     requires { Placeable m bytes.now }
     ensures { result ≡ own_search m bytes.now own }
 {
     if !is_own(m.atoms, m.bonds, bytes, own) {
-        return search::refused_search(Refusal::MarkMolecule);
+        return Err(Refusal::MarkMolecule);
     }
     placed_search(m, bytes)
 }
 
 // Restores a search from a mark, on a molecule that rule 9 allows: rules 14, 15, 16, 17.
-pub fn restore_checked(m: Molecule, bytes: &[u8]) -> Made
+// Rule 9 is a clause and no type: `docs/DECISIONS.md`, 10, names this function with the record.
+pub fn restore_checked(m: Molecule, bytes: &[u8]) -> Result<Search, Refusal>
     requires { well_formed m ≡ true }
     ensures { result ≡ restore_mark m bytes.now }
 {
     if !three_lines_kept(bytes, 9) {
-        return search::refused_search(Refusal::MarkBytes);
+        return Err(Refusal::MarkBytes);
     }
-    let rows = m.rows;
     let from = 91 + 4 * small_at(bytes, 20);
-    let bonds = read_bonds(&rows, m.atoms, bytes, from, small_at(bytes, 16));
-    if !bonds.kept {
-        return search::refused_search(Refusal::MarkBytes);
-    }
-    own_search(m, bytes, bonds.own)
+    let Some(own) = read_bonds(&m.rows, m.atoms, bytes, from, small_at(bytes, 16)) else {
+        return Err(Refusal::MarkBytes);
+    };
+    own_search(m, bytes, own)
 }
 
 // Restores a search from an old mark, on a molecule that rule 9 allows: rules 14, 15, 16, 17. It names no bonds, so
 // rule 15 compares n and m.
-fn restore_old(m: Molecule, bytes: &[u8]) -> Made
+fn restore_old(m: Molecule, bytes: &[u8]) -> Result<Search, Refusal>
     requires { well_formed m ≡ true }
     ensures { result ≡ restore_old_mark m bytes.now }
 {
     if !three_lines_kept(bytes, 0) {
-        return search::refused_search(Refusal::MarkBytes);
+        return Err(Refusal::MarkBytes);
     }
     own_search(m, bytes, true)
 }
 
 // Restores a search from a mark in either form, on a molecule that rule 9 allows: rules 14, 15, 16, 17.
-pub fn restore_in(m: Molecule, bytes: &[u8], form: Form) -> Made
+// By its form, as `restore_in` in specs/.
+pub fn restore_in(m: Molecule, bytes: &[u8], form: Form) -> Result<Search, Refusal>
     requires { well_formed m ≡ true }
     ensures { result ≡ restore_in form m bytes.now }
 {

@@ -1,5 +1,6 @@
 -- The answers of a save past rules 9 and 12: rule 13, or the mark written.
 -- A mark is 91 + 4 × length + 9 × m bytes, so the test of the code is the definition's.
+use Rattle.std.specs.Prelude.{Err, Ok, Result}
 use Prim.Native.Nat.{ℕ, ◌+◌, ◌*◌, ◌≤◌, ◌<◌}
 use native.Mathlib.Omega.{arith}
 use mathlib.Core.Path.{◌≡◌, ap, sym, ◌∙◌}
@@ -12,9 +13,7 @@ use Rattle.molecule.specs.declared.Molecule.{Molecule}
 use Rattle.molecule.specs.Record.{well_formed}
 use Rattle.molecule.proofs.Bonds.{rule9}
 use Rattle.search.specs.declared.Search.{Search}
-use Rattle.search.specs.declared.Saved.TheVariants.{Written, Refused}
 use Rattle.search.specs.Place.{restorable}
-use Rattle.search.specs.declared.Saved.{Saved}
 use Rattle.search.specs.Mark.{mark_text, write_answer, written_bytes, save_answer, save_output}
 use Rattle.search.specs.OldMark.{old_mark_text}
 use Rattle.search.proofs.Readings.{restorable-facts}
@@ -24,6 +23,7 @@ use Rattle.search.proofs.OldMarkLaws.{old-mark-length}
 use Rattle.bond_writer.specs.Parts.{spliced}
 use Rattle.mark_writer.specs.Parts.{LinesFit, MarkFits}
 use Rattle.bond_writer.proofs.Splices.{splice-start}
+use Rattle.refusal.specs.declared.Refusal.{Refusal}
 
 -- what a save past rules 9 and 12 knows
 pub record Saving (mol : Molecule) (q : Search) : Type 0 where
@@ -49,7 +49,7 @@ module _ {mol : Molecule} {q : Search} (s : Saving mol q) where
   module _ (out : List ℕ) where
     pub saved-room :
         length out < size →
-        (Refused refusal.MarkRoom ≡ save_answer mol q out) × (out ≡ save_output mol q out)
+        (Err refusal.MarkRoom ≡ save_answer mol q out) × (out ≡ save_output mol q out)
     saved-room h =
         let answer = save-room mol q out s.formed s.kept (omega (arith, mark-size)) in
         (sym answer, sym (save-refused mol q out refusal.MarkRoom answer))
@@ -64,7 +64,7 @@ module _ {mol : Molecule} {q : Search} (s : Saving mol q) where
 
       pub saved-written :
           {last : List ℕ} → last ≡ spliced 0 (mark_text mol q) out →
-          (Written size ≡ save_answer mol q out) × (last ≡ save_output mol q out)
+          (Ok size ≡ save_answer mol q out) × (last ≡ save_output mol q out)
       unfolding save_output
       saved-written put =
           let answer = save_writes mol q out s.formed s.kept (omega (arith, mark-size)) in
@@ -74,7 +74,7 @@ module _ {mol : Molecule} {q : Search} (s : Saving mol q) where
     old-size : length (old_mark_text mol q) ≡ 91 + 4 * q.len
     old-size = old-mark-length mol q ∙ ap (λ k. 91 + 4 * k) (beginning-length q s.full saving-short)
 
-    pub old-room : length out < 91 + 4 * q.len → Refused refusal.MarkRoom ≡ write_answer (old_mark_text mol q) out
+    pub old-room : length out < 91 + 4 * q.len → Err refusal.MarkRoom ≡ write_answer (old_mark_text mol q) out
     old-room h = let size = old-size in rw (lt-leb (length (old_mark_text mol q)) (length out) (omega arith))
 
     module _ (room : 91 + 4 * q.len ≤ length out) where
@@ -83,8 +83,8 @@ module _ {mol : Molecule} {q : Search} (s : Saving mol q) where
 
       pub old-written :
           {last : List ℕ} → last ≡ spliced 0 (old_mark_text mol q) out →
-          (Written (91 + 4 * q.len) ≡ write_answer (old_mark_text mol q) out) ×
-          (last ≡ written_bytes (Written (91 + 4 * q.len)) (old_mark_text mol q) out)
+          (Ok (91 + 4 * q.len) ≡ write_answer (old_mark_text mol q) out) ×
+          (last ≡ written_bytes (Ok (91 + 4 * q.len)) (old_mark_text mol q) out)
       old-written put =
           let size = old-size in
           let fits = le-leb (length (old_mark_text mol q)) (length out) (omega arith) in
@@ -92,10 +92,10 @@ module _ {mol : Molecule} {q : Search} (s : Saving mol q) where
 
     -- the new mark, whose save tries rules 9 and 12 too
     pub new-saved :
-        {r : Saved} {last : List ℕ} → (r ≡ save_answer mol q out) × (last ≡ save_output mol q out) →
+        {r : (Result ℕ Refusal)} {last : List ℕ} → (r ≡ save_answer mol q out) × (last ≡ save_output mol q out) →
         (r ≡ write_answer (mark_text mol q) out) × (last ≡ written_bytes r (mark_text mol q) out)
     unfolding save_output
     new-saved (answer, output) = (
       answer ∙ save-allowed mol q out s.formed s.kept,
-      output ∙ ap (λ (x : Saved). written_bytes x (mark_text mol q) out) (sym answer),
+      output ∙ ap (λ (x : Result ℕ Refusal). written_bytes x (mark_text mol q) out) (sym answer),
     )

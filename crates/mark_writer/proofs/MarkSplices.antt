@@ -1,5 +1,6 @@
 -- The parts of a mark put over a list, each where the one before it ends, are its text put over the front.
 -- The bond lines are made, or copied from a mark of the same molecule, which has the same ones.
+use Rattle.std.specs.Prelude.{Ok}
 use Prim.Native.Nat.{ℕ, ◌+◌, ◌*◌, ◌≤◌}
 use native.Mathlib.Omega.{arith}
 use mathlib.Core.Path.{◌≡◌, refl, ap, sym, ◌∙◌}
@@ -11,7 +12,6 @@ use Rattle.molecule.proofs.Bonds.{rule9}
 use Rattle.molecule.proofs.BondCount.{bonds-count}
 use Rattle.search.specs.declared.Search.{Search}
 use Rattle.search.specs.Place.{beginning}
-use Rattle.search.specs.Entries.{accepted_search}
 use Rattle.search.specs.Mark.{fields_text, line_feed, three_lines, bond_lines, bonds_from, mark_text, restore_mark}
 use Rattle.search.proofs.Text.{fields-length}
 use Rattle.search.proofs.Views.{beginning-length}
@@ -67,7 +67,7 @@ own-lines-none mol mark none = record { whole = λ h. absurd (omega arith); line
 
 -- an accepted mark has the bond lines of its molecule
 pub own-lines-restored :
-    (mol : Molecule) (mark : List ℕ) (q : Search) → restore_mark mol mark ≡ accepted_search q → OwnLines mol mark
+    (mol : Molecule) (mark : List ℕ) (q : Search) → restore_mark mol mark ≡ Ok q → OwnLines mol mark
 own-lines-restored mol mark q e =
     let (whole, lines) = restored-bonds mol mark q e in
     record { whole = λ h. whole; lines = λ h. lines }

@@ -14,33 +14,18 @@ ghost use Rattle.mark_writer.specs.Parts.{CopyFits, LinesFit, MarkFits, OwnLines
 
 use molecule::Molecule;
 use refusal::Refusal;
-use search::{Form, Saved, Search};
+use search::{Form, Search};
 
 // Numbers, each in a field of so many columns.
+// The place goes on by a width: of `columns * i` each step would have to be multiplied out.
 fn put_fields(out: &mut [u8], at: usize, columns: usize, values: &[u64])
     requires { at + columns * length values.now ≤ length out.old }
     ensures { out.new ≡ spliced at (fields_text columns values.now) out.old }
 {
-    let mut i: usize = 0;
     let mut place = at;
-    while i < values.len() {
-        bond_writer::put_field(out, place, columns, values[i]);
+    for &v in values {
+        bond_writer::put_field(out, place, columns, v);
         place += columns;
-        i += 1;
-    }
-}
-
-// Atoms, each in a field of 4 columns.
-fn put_atoms(out: &mut [u8], at: usize, atoms: &[u8])
-    requires { at + 4 * length atoms.now ≤ length out.old }
-    ensures { out.new ≡ spliced at (fields_text 4 atoms.now) out.old }
-{
-    let mut i: usize = 0;
-    let mut place = at;
-    while i < atoms.len() {
-        bond_writer::put_field(out, place, 4, widen::u8_u64(atoms[i]));
-        place += 4;
-        i += 1;
     }
 }
 
@@ -51,8 +36,8 @@ fn copy_bonds(out: &mut [u8], at: usize, mark: &[u8])
         out.new ≡ spliced at (drop (bonds_from bytes) bytes) out.old }
 {
     let from = 91 + 4 * (fields::value_at(mark, 4, 20) as usize);
-    let end = at + (mark.len() - from);
-    out[at..end].copy_from_slice(&mark[from..]);
+    let lines = &mark[from..];
+    out[at..at + lines.len()].copy_from_slice(lines);
 }
 
 // The three lines of a mark, of a search that need not keep rule 12.
@@ -61,7 +46,6 @@ fn put_three_lines(m: Molecule, q: Search, out: &mut [u8])
     ensures { out.new ≡ spliced 0 (three_lines m q) out.old }
 {
     let len = q.len;
-    let prefix = q.prefix;
     let head = [
         q.kind as u64,
         q.s as u64,
@@ -72,73 +56,71 @@ fn put_three_lines(m: Molecule, q: Search, out: &mut [u8])
         q.next as u64,
     ];
     let counts = [q.trials, q.extensions, q.listed];
+    let atoms = q.prefix.map(u64::from);
     put_fields(out, 0, 4, &head);
     bond_writer::put_feed(out, 28);
     put_fields(out, 29, 20, &counts);
     bond_writer::put_feed(out, 89);
-    put_atoms(out, 90, &prefix[..len]);
+    put_fields(out, 90, 4, &atoms[..len]);
     bond_writer::put_feed(out, 90 + 4 * len);
 }
 
 // The mark of a search: its three lines, and then a line for each bond. The search need not keep rule 12.
 // The bond lines of `mark`, a mark of the same molecule, are copied, which is faster than to make them; where it has no
-// bytes they are made.
+// bytes they are made. (No bytes, and not an Option: the host hands on the slice that C lends, and clause `OwnLines`
+// and edit copied_where_no_mark_is speak of no bytes.)
 pub fn put_mark(m: Molecule, q: Search, mark: &[u8], out: &mut [u8])
     requires { MarkFits m q out.old × OwnLines m mark.now }
     ensures { out.new ≡ spliced 0 (mark_text m q) out.old }
 {
-    let len = q.len;
+    let past = 91 + 4 * q.len;
     put_three_lines(m, q, out);
-    if mark.len() != 0 {
-        copy_bonds(out, 91 + 4 * len, mark);
-        return;
+    if mark.is_empty() {
+        bond_writer::put_bonds(out, past, &m.rows, m.atoms);
+    } else {
+        copy_bonds(out, past, mark);
     }
-    let rows = m.rows;
-    bond_writer::put_bonds(out, 91 + 4 * len, &rows, m.atoms);
 }
 
 // Saves a search that rules 9 and 12 allow as a mark: rule 13. Only the mark's bytes are written. The bond lines are
 // copied from `mark` or made, as in `put_mark`.
-pub fn save_checked(m: Molecule, q: Search, mark: &[u8], out: &mut [u8]) -> Saved
+// Rules 9 and 12 are clauses and no type: `docs/DECISIONS.md`, 10, names this function with the record and the search.
+pub fn save_checked(m: Molecule, q: Search, mark: &[u8], out: &mut [u8]) -> Result<usize, Refusal>
     requires { (well_formed m ≡ true) × (restorable m q ≡ true) × OwnLines m mark.now }
     ensures { (result ≡ save_answer m q out.old) ×
         (out.new ≡ save_output m q out.old) }
 {
-    let len = q.len;
-    let size = 91 + 4 * len + 9 * m.bonds;
+    let size = 91 + 4 * q.len + 9 * m.bonds;
     if out.len() < size {
-        return Saved::Refused(Refusal::MarkRoom);
+        return Err(Refusal::MarkRoom);
     }
     put_mark(m, q, mark, out);
-    Saved::Written(size)
+    Ok(size)
 }
 
 // Saves a search that rules 9 and 12 allow as an old mark, which has no bond lines: rule 13.
-fn save_old(m: Molecule, q: Search, out: &mut [u8]) -> Saved
+fn save_old(m: Molecule, q: Search, out: &mut [u8]) -> Result<usize, Refusal>
     requires { (well_formed m ≡ true) × (restorable m q ≡ true) }
     ensures { (result ≡ write_answer (old_mark_text m q) out.old) ×
         (out.new ≡ written_bytes result (old_mark_text m q) out.old) }
 {
-    let len = q.len;
-    let end = 91 + 4 * len;
+    let end = 91 + 4 * q.len;
     if out.len() < end {
-        return Saved::Refused(Refusal::MarkRoom);
+        return Err(Refusal::MarkRoom);
     }
     put_three_lines(m, q, out);
-    Saved::Written(end)
+    Ok(end)
 }
 
 // Saves a search that rules 9 and 12 allow as a mark in either form: rule 13. Only the mark's bytes are written.
-pub fn save_in(m: Molecule, q: Search, form: Form, out: &mut [u8]) -> Saved
+// By its form, as `mark_in` in specs/.
+pub fn save_in(m: Molecule, q: Search, form: Form, out: &mut [u8]) -> Result<usize, Refusal>
     requires { (well_formed m ≡ true) × (restorable m q ≡ true) }
     ensures { (result ≡ write_answer (mark_in form m q) out.old) ×
         (out.new ≡ written_bytes result (mark_in form m q) out.old) }
 {
     match form {
         Form::Old => save_old(m, q, out),
-        Form::New => {
-            let none = [0u8; 0];
-            save_checked(m, q, &none, out)
-        }
+        Form::New => save_checked(m, q, &[], out),
     }
 }

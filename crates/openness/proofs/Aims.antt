@@ -4,11 +4,11 @@ use Prim.Native.Nat.{ℕ, suc, ◌+◌, ◌-◌, ◌≤◌, ◌<◌}
 use native.Mathlib.Omega.{arith}
 use native.Mathlib.Nat.{not-suc-le-zero}
 use native.Mathlib.Numerals.{add-one}
-use mathlib.Core.Path.{◌≡◌, sym, ap, ◌∙◌}
+use mathlib.Core.Path.{◌≡◌, refl, sym, ap, ◌∙◌}
 use mathlib.Core.Bool.{Bool, true, false, ◌&&◌, not, cond}
 use mathlib.Core.List.{List, [], ◌∷◌, ◌++◌}
 use lib.ListN.{length, take, get_or}
-use lib.Seq.{take-suc}
+use lib.Seq.{take-suc, take-length, length-take-le, get_or-take}
 use lib.Dec.{leb, ltb, eqb}
 use Rattle.graph.specs.Chordless.{Adjacency, atom_at}
 use Rattle.enumeration.specs.Words.{Family, is_open}
@@ -28,10 +28,11 @@ use Rattle.openness.specs.Plan.{family_by, most_atoms, steps_left, rings_by, pat
 use Rattle.openness.specs.Plan.{Beginning, Steered, HandedOn, EachOpens}
 use Rattle.openness.specs.Parts.{TwoAtoms, TwoEnds}
 use Rattle.openness.proofs.Steps.{Row}
-use Rattle.openness.proofs.Arrays.{taken-length, one-taken, two-taken, open-atoms}
-use Rattle.openness.proofs.Plans.{family-rings, family-paths, family-bounded, most-paths, family-by-lawful, family-by-atoms}
+use Rattle.openness.proofs.Arrays.{one-taken, two-taken, opened-atoms}
+use Rattle.openness.proofs.Plans.{family-rings, family-paths, family-bounded, most-paths}
+use Rattle.openness.proofs.Plans.{family-by-lawful, family-by-atoms}
 use Rattle.openness.proofs.Plans.{ring-words, first-of-rings, first-of-paths}
-use Rattle.openness.proofs.Opens.{open-shorter, OpenTo, open-beside}
+use Rattle.openness.proofs.Opens.{open-take, OpenTo, open-beside}
 
 -- ---- the first sets
 
@@ -56,7 +57,7 @@ path-aimed {n} {table} {s} {t} b goal-is all-is free-is =
     steers-same (λ u. sym (goal-is u)) (λ u. sym (free-is u ∙ rw (all-is u)))
     (paths-steer n (linked_by table) b.irreflexive 128 s t)
 
--- ---- a beginning in its array
+-- ---- an open beginning
 
 -- the first length of each kind
 pub first_some : (kind : ℕ) → 1 ≤ first_length kind
@@ -73,36 +74,30 @@ path-first n adj s t k x e =
     let (c, r, f, short) = (paths-open n adj s t k x []).0 e in
     (path-stem n adj s t x [] c r f).first
 
-module _ {n : ℕ} {table : List ℕ} {kind s t : ℕ} {prefix : List ℕ} {len : ℕ}
-    (b : Beginning n table kind s t prefix len) where
+module _ {n : ℕ} {table : List ℕ} {kind s t : ℕ} {p : List ℕ} (b : Beginning n table kind s t p) where
   -- its atoms
-  begun-atom : (i : ℕ) {a : ℕ} → i < len → a ≡ atom_at prefix i → (1 ≤ a) × (a ≤ n)
-  begun-atom i h e =
-      let L = family-by-lawful n table kind s t in
-      let short : len ≤ 128 = omega (arith, b.short) in
-      rw e (open-atoms prefix len L (family-by-atoms n table kind s t) b.size short b.is_opened i h)
+  opened-atom : (i : ℕ) {a : ℕ} → i < length p → a ≡ atom_at p i → (1 ≤ a) × (a ≤ n)
+  opened-atom i h e =
+      rw e (opened-atoms p (family-by-lawful n table kind s t) (family-by-atoms n table kind s t) b.is_opened i h)
 
-  pub place-atom : (i : ℕ) {a : ℕ} → i < len → a ≡ atom_at prefix i → (1 ≤ a) × (a ≤ 128)
-  place-atom i h e =
-      let (low, high) = begun-atom i h e in
+  pub opened-place : (i : ℕ) {a : ℕ} → i < length p → a ≡ atom_at p i → (1 ≤ a) × (a ≤ 128)
+  opened-place i h e =
+      let (low, high) = opened-atom i h e in
       (low, omega (arith, b.words.few))
 
-  -- a shorter one
-  pub shorter : {i : ℕ} → i ≤ len → Beginning n table kind s t prefix i
-  shorter h =
+  -- its first i atoms
+  pub shorter : (i : ℕ) → i ≤ length p → Beginning n table kind s t (take i p)
+  shorter i h =
       let L = family-by-lawful n table kind s t in
-      let opened = open-shorter (family_by n table kind s t) L prefix h b.is_opened in
+      let opened = open-take (family_by n table kind s t) L i p b.is_opened in
       open-beside (record { within = h; opened = opened }) b b.short
 
   -- it has fewer atoms than a member may have
-  pub begun-room : 1 ≤ len → len < most_atoms kind s
-  begun-room some =
+  pub opened-room : 1 ≤ length p → length p < most_atoms kind s
+  opened-room some =
       let (F, L, same) = family-bounded n table kind s t b.words in
-      omega (arith, size, below F L (take len prefix) (omega (arith, size)) (rw same at b.is_opened))
+      below F L p some (rw same at b.is_opened)
     where
-      size : length (take len prefix) ≡ len
-      size = taken-length prefix len b.size (omega (arith, b.short))
-
       -- some member of at most so many atoms goes on it
       below :
           (F : Family) → Lawful F → (p : List ℕ) → 1 ≤ length p → is_open (up_to (most_atoms kind s) F) p ≡ true →
@@ -111,11 +106,11 @@ module _ {n : ℕ} {table : List ℕ} {kind s t : ℕ} {prefix : List ℕ} {len 
       below F L (x ∷ p) h e = upto-room (most_atoms kind s) F (λ w m. (L.short w m, L.in_range w m)) x p e
 
   -- of shortest paths each atom bonded to its last one makes a member or opens it
-  pub begun-each :
-      1 ≤ len → {x : ℕ} → x ≡ get_or prefix (len - 1) 0 → kind ≡ 3 →
-      EachOpens (family_by n table kind s t) (linked_by table) (take len prefix) x
-  begun-each some {x} at three v bond none =
-      rw (same, split) (leading-opens (b.words.leading three) s (take (len - 1) prefix) x v
+  pub opened-each :
+      1 ≤ length p → {x : ℕ} → x ≡ get_or p (length p - 1) 0 → kind ≡ 3 →
+      EachOpens (family_by n table kind s t) (linked_by table) p x
+  opened-each some {x} at three v bond none =
+      rw (same, split) (leading-opens (b.words.leading three) s (take (length p - 1) p) x v
       (rw (same, split) at b.is_opened) bond (rw (same, split) at none))
     where
       path : lists_paths kind ≡ true
@@ -126,155 +121,160 @@ module _ {n : ℕ} {table : List ℕ} {kind s t : ℕ} {prefix : List ℕ} {len 
           family-paths n table kind s t path b.words
           ∙ upto_all 128 (paths n (linked_by table) s t) (paths-lawful n (linked_by table) s t) b.words.few
 
-      split : take len prefix ≡ take (len - 1) prefix ++ x ∷ []
+      split : p ≡ take (length p - 1) p ++ x ∷ []
       split =
-          let whole : len ≡ suc (len - 1) = omega arith in
-          ap (λ (k : ℕ). take k prefix) whole
-          ∙ take-suc prefix (len - 1) 0 (omega (arith, b.size, b.short)) ∙ rw at
-
-  -- the steps left past it
-  pub begun-steps :
-      {steps : ℕ} → steps ≡ steps_left kind s len → steps ≡ most_atoms kind s - suc (length (take len prefix))
-  begun-steps e = rw (taken-length prefix len b.size (omega (arith, b.short))) e
+          let whole : length p ≡ suc (length p - 1) = omega arith in
+          sym (take-length p) ∙ ap (λ (k : ℕ). take k p) whole
+          ∙ take-suc p (length p - 1) 0 (omega arith) ∙ rw at
 
   -- the sets steer it
-  abbrev pub SteeredHere : Aim → Type 0
-  SteeredHere aim =
-      Steered (family_by n table kind s t) (linked_by table) (most_atoms kind s) (take len prefix)
-      (get_or prefix (len - 1) 0) aim
-
   steered-here :
-      {aim : Aim} → 1 ≤ len →
-      Steers (family_by n table kind s t) (linked_by table) (most_atoms kind s) (take len prefix)
-      (get_or prefix (len - 1) 0) (has aim.goal) (has aim.free) → SteeredHere aim
+      {x : ℕ} {aim : Aim} → 1 ≤ length p →
+      Steers (family_by n table kind s t) (linked_by table) (most_atoms kind s) p x (has aim.goal) (has aim.free) →
+      Steered (family_by n table kind s t) (linked_by table) (most_atoms kind s) p x aim
   steered-here h k =
-      record {
-        lawful = family-by-lawful n table kind s t;
-        some = omega (arith, taken-length prefix len b.size (omega (arith, b.short)));
-        is_opened = b.is_opened;
-        steers = k;
-      }
+      record { lawful = family-by-lawful n table kind s t; some = h; is_opened = b.is_opened; steers = k }
 
-  -- a first beginning of a ring: two atoms
-  module _ (first : len ≡ first_length kind) (ring : lists_paths kind ≡ false) {x y : ℕ}
-      (at_first : x ≡ atom_at prefix 0)
-      (at_second : y ≡ atom_at prefix 1) where
-    two : len ≡ 2
-    two = first ∙ first-of-rings kind ring
+-- the first i atoms of a list, where they are an open beginning
+pub record BegunTo (n : ℕ) (table : List ℕ) (kind s t : ℕ) (p : List ℕ) (i : ℕ) : Type 0 where
+  pub within : i ≤ length p
+  pub begun : Beginning n table kind s t (take i p)
 
-    pub two-atoms : TwoAtoms n table x y
-    two-atoms =
-        let long = two in
-        let one = begun-atom 0 (omega arith) at_first in
-        let other = begun-atom 1 (omega arith) at_second in
-        record {
-          words = ring-words b.words ring;
-          first_low = one.0;
-          first_high = one.1;
-          second_low = other.0;
-          second_high = other.1;
-        }
+module _ {n : ℕ} {table : List ℕ} {kind s t : ℕ} {p : List ℕ} {i : ℕ} (b : BegunTo n table kind s t p i) where
+  size : length (take i p) ≡ i
+  size = length-take-le i p b.within
 
-    two-read : take len prefix ≡ x ∷ y ∷ []
-    two-read = rw (two, at_first, at_second) (two-taken prefix b.size)
+  pub place-atom : (j : ℕ) {a : ℕ} → j < i → a ≡ atom_at p j → (1 ≤ a) × (a ≤ 128)
+  place-atom j h e = opened-place b.begun j (omega (arith, size)) (e ∙ sym (get_or-take i p j 0 h))
 
-    two-last : get_or prefix (len - 1) 0 ≡ y
-    two-last = rw (two, at_second)
+  pub begun-room : 1 ≤ i → i < most_atoms kind s
+  begun-room some = omega (arith, size, opened-room b.begun (omega (arith, size)))
 
-    pub first-ring :
-        {aim : Aim} →
-        ((most : ℕ) → Steers (rings_by n table most) (linked_by table) most (x ∷ y ∷ []) y (has aim.goal)
-        (has aim.free)) → SteeredHere aim
-    first-ring k =
-        let long = two in
-        steered-here (omega arith)
-        (rw (family-rings n table kind s t ring b.words.few, two-read, two-last) (k (most_atoms kind s)))
+  pub begun-each :
+      1 ≤ i → {x : ℕ} → x ≡ get_or p (i - 1) 0 → kind ≡ 3 →
+      EachOpens (family_by n table kind s t) (linked_by table) (take i p) x
+  begun-each some e =
+      let last = get_or-take i p (i - 1) 0 (omega arith) in
+      opened-each b.begun (omega (arith, size)) (e ∙ rw size (sym last))
 
-  -- a first beginning of a path: one atom, s
-  module _ (first : len ≡ first_length kind) (path : lists_paths kind ≡ true) where
-    one : len ≡ 1
-    one = first ∙ first-of-paths kind path
+  -- the steps left past them
+  pub begun-steps :
+      {steps : ℕ} → steps ≡ steps_left kind s i → steps ≡ most_atoms kind s - suc (length (take i p))
+  begun-steps e = rw size e
 
-    one-read : take len prefix ≡ atom_at prefix 0 ∷ []
-    one-read = rw one (one-taken prefix b.size)
+-- ---- the shortest beginnings that two sets steer
 
-    one-is : atom_at prefix 0 ≡ s
-    one-is =
-        path-first n (linked_by table) s t 128 (atom_at prefix 0)
-        (rw (family-paths n table kind s t path b.words, one-read) at b.is_opened)
+module _ {n : ℕ} {table : List ℕ} {kind s t : ℕ} {p : List ℕ} (b : BegunTo n table kind s t p (first_length kind))
+  where
+    abbrev pub SteeredFirst : Aim → Type 0
+    SteeredFirst aim =
+        Steered (family_by n table kind s t) (linked_by table) (most_atoms kind s) (take (first_length kind) p)
+        (get_or p (first_length kind - 1) 0) aim
 
-    one_last : get_or prefix (len - 1) 0 ≡ s
-    one_last = rw one one-is
+    -- of a ring: two atoms
+    module _ (ring : lists_paths kind ≡ false) {x y : ℕ} (at_first : x ≡ atom_at p 0)
+        (at_second : y ≡ atom_at p 1) where
+      two : first_length kind ≡ 2
+      two = first-of-rings kind ring
 
-    pub first-path :
-        {aim : Aim} →
-        Steers (paths_by n table s t) (linked_by table) 128 (s ∷ []) s (has aim.goal) (has aim.free) →
-        SteeredHere aim
-    first-path k =
-        let long = one in
-        steered-here (omega arith)
-        (rw (
-          family-paths n table kind s t path b.words,
-          most-paths n table kind s t path,
-          one-read,
-          one_last,
-          one-is,
-        ) k)
+      two-read : take (first_length kind) p ≡ x ∷ y ∷ []
+      two-read = rw (two, at_first, at_second) (two-taken p (omega (arith, two, b.within)))
+
+      pub two-atoms : TwoAtoms n table x y
+      two-atoms =
+          let read = rw two-read at b.begun in
+          let one = opened-atom read 0 (omega arith) refl in
+          let other = opened-atom read 1 (omega arith) refl in
+          record {
+            words = ring-words b.begun.words ring;
+            first_low = one.0;
+            first_high = one.1;
+            second_low = other.0;
+            second_high = other.1;
+          }
+
+      pub first-ring :
+          {aim : Aim} →
+          ((most : ℕ) → Steers (rings_by n table most) (linked_by table) most (x ∷ y ∷ []) y (has aim.goal)
+          (has aim.free)) → SteeredFirst aim
+      first-ring k =
+          let last : get_or p (first_length kind - 1) 0 ≡ y = rw (two, at_second) in
+          steered-here b.begun (rw two-read (omega arith))
+          (rw (family-rings n table kind s t ring b.begun.words.few, two-read, last) (k (most_atoms kind s)))
+
+    -- of a path: one atom, s
+    module _ (path : lists_paths kind ≡ true) where
+      one : first_length kind ≡ 1
+      one = first-of-paths kind path
+
+      one-read : take (first_length kind) p ≡ atom_at p 0 ∷ []
+      one-read = rw one (one-taken p (omega (arith, one, b.within)))
+
+      one-is : atom_at p 0 ≡ s
+      one-is =
+          path-first n (linked_by table) s t 128 (atom_at p 0)
+          (rw (family-paths n table kind s t path b.begun.words, one-read) at b.begun.is_opened)
+
+      pub first-path :
+          {aim : Aim} →
+          Steers (paths_by n table s t) (linked_by table) 128 (s ∷ []) s (has aim.goal) (has aim.free) →
+          SteeredFirst aim
+      first-path k =
+          let last : get_or p (first_length kind - 1) 0 ≡ s = rw one one-is in
+          steered-here b.begun (rw one-read (omega arith))
+          (rw (
+            family-paths n table kind s t path b.begun.words,
+            most-paths n table kind s t path,
+            one-read,
+            last,
+            one-is,
+          ) k)
 
 -- ---- the loop over the places
 
 -- the sets steer the first i atoms
-pub record AimedTo (n : ℕ) (table : List ℕ) (kind s t : ℕ) (prefix : List ℕ) (len : ℕ) (aim : Aim) (i : ℕ) : Type 0
-  where
-    pub some : first_length kind ≤ i
-    pub within : i ≤ len
-    pub steered :
-        Steered (family_by n table kind s t) (linked_by table) (most_atoms kind s) (take i prefix)
-        (get_or prefix (i - 1) 0) aim
+pub record AimedTo (n : ℕ) (table : List ℕ) (kind s t : ℕ) (p : List ℕ) (aim : Aim) (i : ℕ) : Type 0 where
+  pub some : first_length kind ≤ i
+  pub within : i ≤ length p
+  pub steered :
+      Steered (family_by n table kind s t) (linked_by table) (most_atoms kind s) (take i p) (get_or p (i - 1) 0) aim
 
-pub aimed-start :
-    {n : ℕ} {table : List ℕ} {kind s t : ℕ} {prefix : List ℕ} {len : ℕ} {aim : Aim} {i : ℕ} → first_length kind ≤ len →
-    Steered (family_by n table kind s t) (linked_by table) (most_atoms kind s) (take (first_length kind) prefix)
-    (get_or prefix (first_length kind - 1) 0) aim → i ≡ first_length kind → AimedTo n table kind s t prefix len aim i
-aimed-start h steered e = rw e (record { some = omega arith; within = h; steered = steered })
-
-module _ {n : ℕ} {table : List ℕ} {kind s t : ℕ} {prefix : List ℕ} {len : ℕ} {aim : Aim} {i : ℕ}
-    (k : AimedTo n table kind s t prefix len aim i) where
+module _ {n : ℕ} {table : List ℕ} {kind s t : ℕ} {p : List ℕ} {aim : Aim} {i : ℕ}
+    (k : AimedTo n table kind s t p aim i) where
   pub aimed-some : 1 ≤ i
   aimed-some = omega (arith, first_some kind, k.some)
 
   -- they are open
-  pub aimed-open : OpenTo n table kind s t prefix len i
+  pub aimed-open : OpenTo n table kind s t p i
   aimed-open = record { within = k.within; opened = k.steered.is_opened }
+
+  -- beside another beginning
+  pub aimed-begun :
+      {q : List ℕ} → Beginning n table kind s t q → length p ≤ 127 → BegunTo n table kind s t p i
+  aimed-begun b short = record { within = k.within; begun = open-beside aimed-open b short }
 
   -- one atom more, where these are open too
   pub aimed_more :
-      {x : ℕ} {next : Aim} → Beginning n table kind s t prefix (i + 1) → i < len → x ≡ atom_at prefix (i - 1) →
-      HandedOn (linked_by table) x aim next → AimedTo n table kind s t prefix len next (i + 1)
+      {x : ℕ} {next : Aim} → Beginning n table kind s t (take (i + 1) p) → i < length p →
+      x ≡ atom_at p (i - 1) → HandedOn (linked_by table) x aim next → AimedTo n table kind s t p next (i + 1)
   aimed_more {x} {next} b h at handed =
       record {
         some = omega (arith, k.some);
         within = omega arith;
-        steered = steered-here b (omega arith) steers;
+        steered = steered-here b (omega (arith, length-take-le (i + 1) p (omega arith))) steers;
       }
     where
-      on : HandedOn (linked_by table) (get_or prefix (i - 1) 0) aim next
+      on : HandedOn (linked_by table) (get_or p (i - 1) 0) aim next
       on = rw at at handed
 
       steers :
-          Steers (family_by n table kind s t) (linked_by table) (most_atoms kind s) (take (i + 1) prefix)
-          (get_or prefix (i + 1 - 1) 0) (has next.goal) (has next.free)
+          Steers (family_by n table kind s t) (linked_by table) (most_atoms kind s) (take (i + 1) p)
+          (get_or p (i + 1 - 1) 0) (has next.goal) (has next.free)
       steers =
           let place : i + 1 - 1 ≡ i = omega arith in
-          rw (place, add-one i, take-suc prefix i 0 (omega (arith, b.size, b.short)))
+          rw (place, add-one i, take-suc p i 0 h)
           (steers-same (λ u. sym (on.goal-left u)) (λ u. sym (on.free-left u))
-          (steers-more k.steered.steers (get_or prefix i 0)))
-
-  pub aimed-all :
-      len ≤ i →
-      Steered (family_by n table kind s t) (linked_by table) (most_atoms kind s) (take len prefix)
-      (get_or prefix (len - 1) 0) aim
-  aimed-all h = let all : i ≡ len = omega (arith, k.within) in rw all at k.steered
+          (steers-more k.steered.steers (get_or p i 0)))
 
 -- ---- the last atom, as it is read from the array
 

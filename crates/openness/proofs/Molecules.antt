@@ -2,12 +2,12 @@
 -- its words answers as the record's own membership and openness are defined (request F-3 of document 02).
 -- As the table has the record's bonds.
 use Prim.Native.Nat.{ℕ, ◌≤◌}
-use native.Mathlib.Omega.{arith}
 use native.Mathlib.Decide.{ℕ_discrete}
 use mathlib.Core.Path.{◌≡◌, sym, ap, ◌∙◌}
 use mathlib.Core.Bool.{true}
 use mathlib.Core.List.{List, [], ◌∷◌, ◌++◌}
 use lib.ListN.{length, take}
+use Rattle.std.specs.Prelude.{Option}
 use Rattle.graph.specs.Chordless.{Adjacency}
 use Rattle.enumeration.specs.Words.{Family, is_open}
 use Rattle.chordless.specs.Distance.{Nearing}
@@ -24,7 +24,6 @@ use Rattle.openness.specs.declared.FirstPlan.{FirstPlan}
 use Rattle.openness.specs.Plan.{family_by, Words, SearchTable, Tells, Planned, FirstTells, Beginning, Planning}
 use Rattle.distance.specs.Layers.{Measured}
 use Rattle.search.proofs.Readings.{Ends, ends-facts}
-use Rattle.openness.proofs.Arrays.{taken-length}
 use Rattle.openness.proofs.Plans.{kind-ends}
 
 -- ---- the table of a search over n atoms
@@ -139,15 +138,14 @@ module _
 
 -- ---- from a record to the answer
 
--- A record that rule 9 allows, the table of a search on it, of a kind that rule 16 allows, an open beginning in its
--- array, and an atom c
-pub record Asked (mol : Molecule) (table : List ℕ) (kind s t : ℕ) (prefix : List ℕ) (len c : ℕ) : Type 0 where
+-- A record that rule 9 allows, the table of a search on it, of a kind that rule 16 allows, an open beginning, and an
+-- atom c
+pub record Asked (mol : Molecule) (table : List ℕ) (kind s t : ℕ) (p : List ℕ) (c : ℕ) : Type 0 where
   pub allowed : well_formed mol ≡ true
   pub words : TableOf mol kind t table
   pub kinds : kind_kept mol.atoms kind s t ≡ true
-  pub size : length prefix ≡ 128
-  pub short : len ≤ 127
-  pub is_opened : is_open (family_of mol kind s t) (take len prefix) ≡ true
+  pub short : length p ≤ 127
+  pub is_opened : is_open (family_of mol kind s t) p ≡ true
   pub low : 1 ≤ c
   pub high : c ≤ mol.atoms
 
@@ -158,46 +156,41 @@ pub record AnswersAsDefined (mol : Molecule) (kind s t : ℕ) (p : List ℕ) (pl
 
 -- `plan_at` may be called, with any first plan that tells, and what it ensures of the plan that it finds is that this
 -- answers as defined: for the atom c, and for every atom where the beginning has an atom or more
-pub record PlanAnswers (mol : Molecule) (table : List ℕ) (kind s t : ℕ) (prefix : List ℕ) (len c : ℕ) : Type 0 where
+pub record PlanAnswers (mol : Molecule) (table : List ℕ) (kind s t : ℕ) (p : List ℕ) (c : ℕ) : Type 0 where
   pub may_call :
-      (first : FirstPlan) → FirstTells (family_by mol.atoms table kind s t) first →
-      Planning mol.atoms table kind s t prefix len c first
+      (first : Option FirstPlan) → FirstTells (family_by mol.atoms table kind s t) first →
+      Planning mol.atoms table kind s t p c first
   pub next :
-      (plan : Plan) → Planned (family_by mol.atoms table kind s t) (take len prefix) c plan →
-      AnswersAsDefined mol kind s t (take len prefix) plan c
+      (plan : Plan) → Planned (family_by mol.atoms table kind s t) p c plan → AnswersAsDefined mol kind s t p plan c
   pub every :
-      (plan : Plan) → Planned (family_by mol.atoms table kind s t) (take len prefix) c plan → 1 ≤ len →
-      (v : ℕ) → AnswersAsDefined mol kind s t (take len prefix) plan v
+      (plan : Plan) → Planned (family_by mol.atoms table kind s t) p c plan → 1 ≤ length p → (v : ℕ) →
+      AnswersAsDefined mol kind s t p plan v
 
 -- Request F-3: on every record that rule 9 allows, for every open beginning and every atom, the test by words answers
 -- as openness is defined and as membership is, for every kind of search
 pub words-answer-openness :
-    {mol : Molecule} {table : List ℕ} {kind s t : ℕ} {prefix : List ℕ} {len c : ℕ} →
-    Asked mol table kind s t prefix len c → PlanAnswers mol table kind s t prefix len c
-words-answer-openness {mol} {table} {kind} {s} {t} {prefix} {len} {c} q =
+    {mol : Molecule} {table : List ℕ} {kind s t : ℕ} {p : List ℕ} {c : ℕ} → Asked mol table kind s t p c →
+    PlanAnswers mol table kind s t p c
+words-answer-openness {mol} {table} {kind} {s} {t} {p} {c} q =
     record {
       may_call = λ first tells. record { begun = begun; low = q.low; high = q.high; tells = tells };
       next = λ plan k. defined plan c k.next;
-      every = λ plan k some v. defined plan v (k.every (rw length-is some) v);
+      every = λ plan k some v. defined plan v (k.every some v);
     }
   where
     same : family_by mol.atoms table kind s t ≡ family_of mol kind s t
     same = family-of q.allowed q.words s
 
-    length-is : length (take len prefix) ≡ len
-    length-is = taken-length prefix len q.size (omega (arith, q.short))
-
-    begun : Beginning mol.atoms table kind s t prefix len
+    begun : Beginning mol.atoms table kind s t p
     begun =
         record {
           words = table_of q.allowed q.words;
           kinds = q.kinds;
-          size = q.size;
           short = q.short;
           is_opened = rw same q.is_opened;
         }
 
     defined :
-        (plan : Plan) (v : ℕ) → Tells (family_by mol.atoms table kind s t) (take len prefix) plan v →
-        AnswersAsDefined mol kind s t (take len prefix) plan v
+        (plan : Plan) (v : ℕ) → Tells (family_by mol.atoms table kind s t) p plan v →
+        AnswersAsDefined mol kind s t p plan v
     defined plan v k = record { members = rw same at k.members; opens = rw same at k.opens }

@@ -1,16 +1,18 @@
 -- The plan of a beginning, from what is found at each kind and length.
 -- The empty beginning of a ring search has the atoms up to the first that opens, and one of one atom may have the plan
 -- that is kept; every other beginning has every atom.
-use Prim.Native.Nat.{ℕ, zero, suc, ◌≤◌, ◌<◌}
+use Prim.Native.Nat.{ℕ, ◌≤◌, ◌<◌}
 use native.Mathlib.Decide.{dec_lt, ℕ_discrete}
 use native.Mathlib.Omega.{arith}
 use mathlib.Core.Path.{◌≡◌, refl, sym, ◌∙◌}
-use mathlib.Core.Bool.{Bool, true, false, ◌&&◌, cond}
+use mathlib.Core.Bool.{Bool, true, false, cond}
 use mathlib.Core.List.{List, [], ◌∷◌}
 use mathlib.Core.Logic.{◌⊎◌, inl, inr}
-use lib.ListN.{take}
-use lib.Dec.{leb, eqb}
-use borrow.Author.Tests.{eq-eqb, ne_eqb, le-leb, lt-leb}
+use lib.ListN.{length}
+use Rattle.std.proofs.lemmas.List.{take_all}
+use Rattle.std.specs.Prelude.{Option, Some, None}
+use lib.Dec.{eqb}
+use borrow.Author.Tests.{eq-eqb, ne_eqb, lt-leb}
 use Rattle.graph.specs.Chordless.{Adjacency, atom_at}
 use Rattle.graph.proofs.Below.{clash, either, false_of}
 use Rattle.enumeration.specs.Words.{Family, is_open}
@@ -22,14 +24,16 @@ use Rattle.chordless.proofs.Paths.{path-not-one}
 use Rattle.chordless.proofs.Nearer.{leading-paths}
 use Rattle.atomset.specs.Set.{has, linked_by}
 use Rattle.search.specs.Place.{family_in, lists_paths, kind_kept, ends_kept}
-use Rattle.search.proofs.Readings.{family-in-lawful, family-in-atoms, kind-facts, KindFacts, path-kinds, ends-facts, ends_of, bound-facts}
+use Rattle.search.proofs.Readings.{family-in-lawful, family-in-atoms, kind-facts, KindFacts, path-kinds}
+use Rattle.search.proofs.Readings.{ends-facts, ends_of, bound-facts}
 use Rattle.openness.specs.declared.Plan.{Plan}
 use Rattle.openness.specs.declared.FirstPlan.{FirstPlan}
 use Rattle.openness.specs.declared.Found.{Found}
 use Rattle.openness.specs.Plan.{family_by, most_atoms, rings_by, paths_by, first_length}
-use Rattle.openness.specs.Plan.{Words, SearchTable, Planned, Ahead, Everywhere, Beginning, Planning, FoundAt}
-use Rattle.openness.specs.Parts.{OneAtom, TwoEnds, FirstOf, FirstAhead, ShortRing, PathFirsts}
-use Rattle.openness.proofs.Arrays.{one-taken, open-atoms}
+use Rattle.openness.specs.Plan.{Words, SearchTable, Planned, Ahead, Everywhere, FirstTells}
+use Rattle.openness.specs.Plan.{Beginning, Planning, FoundAt}
+use Rattle.openness.specs.Parts.{OneAtom, TwoEnds, FirstOf, FirstAhead, ShortRing, PathFirsts, begins_first}
+use Rattle.openness.proofs.Arrays.{one-taken, opened-atoms}
 use Rattle.openness.proofs.Rings.{rings-by-lawful, ring-by-not-short}
 
 -- ---- the table of a search
@@ -162,99 +166,94 @@ planned-ahead {c = c} f =
       every = λ g. absurd (omega arith);
     }
 
-none-taken : (prefix : List ℕ) {len : ℕ} → len ≡ 0 → take len prefix ≡ []
-none-taken prefix e = rw e
+none-taken : (p : List ℕ) → length p ≡ 0 → p ≡ []
+none-taken [] e = refl
+none-taken (x ∷ p) e = absurd (omega arith)
 
 -- ---- a ring beginning of one atom or none
 
--- the set of an atom alone
-module _ {atom : ℕ} {set : ℕ → Bool} where
-  pub alone-none : ((v : ℕ) → set v ≡ false) → atom ≡ 0 → (v : ℕ) → set v ≡ (leb 1 v && eqb v atom)
-  alone-none none e v = none v ∙ rw e (go v)
+-- the first atom ahead, and its plan
+module _ (n : ℕ) (table : List ℕ) (most c : ℕ) where
+  ahead-tells :
+      (first : Option FirstPlan) → FirstAhead n table most c first → FirstTells (rings_by n table most) first
+  ahead-tells None k kept e = cc
+  ahead-tells (Some first) k kept e = let same : first ≡ kept = cc in rw same at k.tells
+
+  -- it is the first that opens
+  first_alone :
+      (first : Option FirstPlan) (opens : List ℕ) → FirstAhead n table most c first →
+      ((v : ℕ) → has opens v ≡ begins_first first v) → (v : ℕ) → c ≤ v →
+      ((u : ℕ) → c ≤ u → u < v → has opens u ≡ false) → has opens v ≡ is_open (rings_by n table most) (v ∷ [])
+  first_alone None opens k opens-is v l shut = opens-is v ∙ sym (k v l)
+  first_alone (Some first) opens k opens-is v l shut = opens-is v ∙ go (dec_lt v a) (dec_lt a v)
     where
-      go : (v : ℕ) → false ≡ (leb 1 v && eqb v 0)
-      go zero = refl
-      go (suc v) = rw (ne_eqb (suc v) 0 (λ e. omega arith), le-leb 1 (suc v) (omega arith))
+      a : ℕ
+      a = first.atom
 
-  pub alone-one :
-      {a : ℕ} → ((v : ℕ) → set v ≡ eqb v a) → a ≡ atom → (atom ≡ 0 → ⊥) → (v : ℕ) → set v ≡ (leb 1 v && eqb v atom)
-  alone-one one same some v = one v ∙ rw same (go v)
-    where
-      go : (v : ℕ) → eqb v atom ≡ (leb 1 v && eqb v atom)
-      go zero = rw (ne_eqb 0 atom (λ e. some (sym e)))
-      go (suc v) = rw (le-leb 1 (suc v) (omega arith))
+      go : Dec (v < a) → Dec (a < v) → eqb v a ≡ is_open (rings_by n table most) (v ∷ [])
+      go (yes below) e = ne_eqb v a (λ q. omega arith) ∙ sym (k.before v l below)
+      go (no other) (yes above) =
+          absurd (clash (has opens a) (opens-is a ∙ eq-eqb a a refl) (shut a k.from above))
+      go (no other) (no past) = let same : v ≡ a = omega arith in eq-eqb v a same ∙ sym (rw same k.begins)
 
--- the first atom ahead is the first that opens
-first_alone :
-    {n : ℕ} {table : List ℕ} {most c a : ℕ} {plan : Plan} (opens : List ℕ) →
-    FirstAhead n table most c (record { plan = plan; atom = a }) → 1 ≤ c →
-    ((v : ℕ) → has opens v ≡ (leb 1 v && eqb v a)) → (v : ℕ) → c ≤ v →
-    ((u : ℕ) → c ≤ u → u < v → has opens u ≡ false) → has opens v ≡ is_open (rings_by n table most) (v ∷ [])
-first_alone {n} {table} {most} {c} {a} opens k low opens-is v l shut =
-    opens-is v ∙ rw (le-leb 1 v (omega arith)) (go (ℕ_discrete a 0) (dec_lt v a) (dec_lt a v))
-  where
-    go : Dec (a ≡ 0) → Dec (v < a) → Dec (a < v) → eqb v a ≡ is_open (rings_by n table most) (v ∷ [])
-    go (yes none) d e = ne_eqb v a (λ q. omega arith) ∙ sym (k.none none v l)
-    go (no some) (yes below) e = ne_eqb v a (λ q. omega arith) ∙ sym (k.before v l below)
-    go (no some) (no other) (yes above) =
-        let in-it : has opens a ≡ true = opens-is a ∙ rw (le-leb 1 a (omega arith), eq-eqb a a refl) in
-        absurd (clash (has opens a) in-it (shut a (k.from (omega arith)) above))
-    go (no some) (no other) (no past) =
-        let same : v ≡ a = omega arith in
-        eq-eqb v a same ∙ sym (rw same (k.begins (omega arith)))
-
-module _ {n : ℕ} {table : List ℕ} {most : ℕ} {prefix : List ℕ} {len c : ℕ} {first : FirstPlan}
-    (q : ShortRing n table most prefix len c first) where
+module _ {n : ℕ} {table : List ℕ} {most : ℕ} {p : List ℕ} {c : ℕ}
+    {first : Option FirstPlan} (q : ShortRing n table most p c first) where
   abbrev FoundHere : Found → Type 0
-  FoundHere found = FoundAt (rings_by n table most) (take len prefix) c found
+  FoundHere found = FoundAt (rings_by n table most) p c found
 
   pub next-atom : OneAtom n table most c
   next-atom = record { words = q.words; room = q.room; low = q.low; high = q.high }
 
   -- at the empty beginning
   pub start-found :
-      {none opens : List ℕ} {ahead : FirstPlan} → len ≡ 0 → ((v : ℕ) → has none v ≡ false) →
-      FirstAhead n table most c ahead → ((v : ℕ) → has opens v ≡ (leb 1 v && eqb v ahead.atom)) →
+      {none opens : List ℕ} {ahead : Option FirstPlan} → length p ≡ 0 → ((v : ℕ) → has none v ≡ false) →
+      FirstAhead n table most c ahead → ((v : ℕ) → has opens v ≡ begins_first ahead v) →
       FoundHere (record { plan = record { members = none; opens = opens }; first = ahead })
-  start-found {opens = opens} empty none_is k opens-is =
+  start-found {opens = opens} {ahead = ahead} empty none_is k opens-is =
       record {
-        planned = rw (none-taken prefix empty)
+        planned = rw (none-taken p empty)
             (planned-ahead (λ v l shut. record {
               members = none_is v ∙ sym (ring-by-not-short n table most [] v (omega arith));
-              opens = first_alone opens k q.low opens-is v l shut;
+              opens = first_alone n table most c ahead opens k opens-is v l shut;
             }));
-        tells = k.tells;
+        tells = ahead-tells n table most c ahead k;
       }
 
   -- at one atom
-  module _ (some : len ≡ 0 → ⊥) where
-    one-atom : take len prefix ≡ atom_at prefix 0 ∷ []
-    one-atom = let one : len ≡ 1 = omega (arith, q.short) in rw one (one-taken prefix q.size)
+  module _ (some : length p ≡ 0 → ⊥) where
+    one-atom : p ≡ atom_at p 0 ∷ []
+    one-atom = sym (take_all 1 p q.short) ∙ one-taken p (omega arith)
 
-    pub first-atom : {a : ℕ} → a ≡ atom_at prefix 0 → OneAtom n table most a
+    pub first-atom : {a : ℕ} → a ≡ atom_at p 0 → OneAtom n table most a
     first-atom e =
-        let short : len ≤ 128 = omega (arith, q.short) in
         let L = rings-by-lawful n table most in
-        let (low, high) = open-atoms prefix len L refl q.size short q.is_opened 0 (omega arith) in
+        let (low, high) = opened-atoms p L refl q.is_opened 0 (omega arith) in
         record { words = q.words; room = q.room; low = rw e low; high = rw e high }
 
     -- the plan that is kept is of this atom
-    pub kept-found : atom_at prefix 0 ≡ first.atom → FoundHere (record { plan = first.plan; first = first })
-    kept-found same =
-        let low = (first-atom (sym same)).low in
-        record { planned = rw (one-atom, same) (planned-every (q.tells low)); tells = q.tells }
+    pub kept-found :
+        {kept : FirstPlan} → first ≡ Some kept → atom_at p 0 ≡ kept.atom →
+        FoundHere (record { plan = kept.plan; first = first })
+    kept-found {kept} e same =
+        let read : p ≡ kept.atom ∷ [] = rw same at one-atom in
+        record { planned = rw read (planned-every (q.tells kept e)); tells = q.tells }
 
     -- a new plan
     pub made_found :
-        {made : FirstPlan} → FirstOf n table most (atom_at prefix 0) made →
-        FoundHere (record { plan = made.plan; first = made })
-    made_found k =
-        record { planned = rw one-atom (planned-every k.tells); tells = λ low. rw k.atom_is k.tells }
+        {made : FirstPlan} → FirstOf n table most (atom_at p 0) made →
+        FoundHere (record { plan = made.plan; first = Some made })
+    made_found {made} k =
+        record {
+          planned = rw one-atom (planned-every k.tells);
+          tells = λ kept e. let same : made ≡ kept = cc in
+              let tells : Everywhere (rings_by n table most) (made.atom ∷ []) made.plan = rw k.atom_is k.tells in
+              rw same at tells;
+        }
 
 -- ---- at an open beginning
 
 pub path-ends :
-    {n : ℕ} {table : List ℕ} {kind s t : ℕ} {prefix : List ℕ} {len : ℕ} → Beginning n table kind s t prefix len →
+    {n : ℕ} {table : List ℕ} {kind s t : ℕ} {p : List ℕ} → Beginning n table kind s t p →
     lists_paths kind ≡ true → TwoEnds n table s t
 path-ends {n} {table} {kind} {s} {t} b path =
     record {
@@ -263,28 +262,21 @@ path-ends {n} {table} {kind} {s} {t} b path =
       ends = kind-ends n table kind s t path b.kinds;
     }
 
-module _ {n : ℕ} {table : List ℕ} {kind s t : ℕ} {prefix : List ℕ} {len c : ℕ} {first : FirstPlan}
-    (q : Planning n table kind s t prefix len c first) where
+module _ {n : ℕ} {table : List ℕ} {kind s t : ℕ} {p : List ℕ} {c : ℕ}
+    {first : Option FirstPlan} (q : Planning n table kind s t p c first) where
   abbrev FoundBy : Found → Type 0
-  FoundBy found = FoundAt (family_by n table kind s t) (take len prefix) c found
-
-  -- that the sets steer
-  pub steered-found :
-      {plan : Plan} → Everywhere (family_by n table kind s t) (take len prefix) plan →
-      FoundBy (record { plan = plan; first = first })
-  steered-found k = record { planned = planned-every k; tells = q.tells }
+  FoundBy found = FoundAt (family_by n table kind s t) p c found
 
   -- a ring search
   module _ (ring : lists_paths kind ≡ false) {most : ℕ} (most-is : most ≡ most_atoms kind s) where
     same : family_by n table kind s t ≡ rings_by n table most
     same = rw most-is (family-rings n table kind s t ring q.begun.words.few)
 
-    pub ring-asked : len < first_length kind → ShortRing n table most prefix len c first
+    pub ring-asked : length p < first_length kind → ShortRing n table most p c first
     ring-asked short =
         record {
           words = ring-words q.begun.words ring;
           room = rw most-is (most-room n table kind s t q.begun.kinds);
-          size = q.begun.size;
           short = omega (arith, first-few kind);
           is_opened = rw same at q.begun.is_opened;
           low = q.low;
@@ -292,20 +284,20 @@ module _ {n : ℕ} {table : List ℕ} {kind s t : ℕ} {prefix : List ℕ} {len 
           tells = rw same at q.tells;
         }
 
-    pub ring-found : {found : Found} → FoundAt (rings_by n table most) (take len prefix) c found → FoundBy found
+    pub ring-found : {found : Found} → FoundAt (rings_by n table most) p c found → FoundBy found
     ring-found k = rw same k
 
   -- a path search, at the empty beginning
   pub path-found :
-      {none opens : List ℕ} → lists_paths kind ≡ true → len < first_length kind → ((v : ℕ) → has none v ≡ false) →
+      {none opens : List ℕ} → lists_paths kind ≡ true → length p < first_length kind → ((v : ℕ) → has none v ≡ false) →
       PathFirsts n table s t opens → FoundBy (record { plan = record { members = none; opens = opens }; first = first })
   path-found {none} {opens} e before none_is opens-is = record { planned = planned; tells = q.tells }
     where
-      planned : Planned (family_by n table kind s t) (take len prefix) c (record { members = none; opens = opens })
+      planned : Planned (family_by n table kind s t) p c (record { members = none; opens = opens })
       planned =
-          let empty : len ≡ 0 = omega (arith, first-of-paths kind e) in
+          let empty : length p ≡ 0 = omega (arith, first-of-paths kind e) in
           let differ = (ends-facts n s t (path-ends q.begun e).ends).differ in
-          rw (family-paths n table kind s t e q.begun.words, none-taken prefix empty)
+          rw (family-paths n table kind s t e q.begun.words, none-taken p empty)
           (planned-every
           (λ v. record {
             members = none_is v ∙ sym (rw (path-not-one n (linked_by table) s t v differ));

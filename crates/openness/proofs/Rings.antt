@@ -9,6 +9,7 @@ use mathlib.Core.Bool.{Bool, true, false, ◌&&◌, ◌||◌, not}
 use mathlib.Core.List.{List, [], ◌∷◌, ◌++◌}
 use mathlib.Core.Logic.{◌⊎◌, inl, inr}
 use lib.ListN.{length}
+use Rattle.std.specs.Prelude.{None}
 use lib.Dec.{leb, ltb, eqb}
 use borrow.Author.Tests.{lt-ltb, ltb-true, le-leb, leb-true, eq-eqb, ne_eqb, eqb-true, eqb-false, not-true}
 use Rattle.graph.proofs.Below.{clash, false_of, true_of, and_parts, same_test}
@@ -29,7 +30,7 @@ use Rattle.sweep.proofs.Walks.{reached-same}
 use Rattle.search.proofs.Readings.{open-range}
 use Rattle.openness.specs.declared.Plan.{Plan}
 use Rattle.openness.specs.Plan.{rings_by, Everywhere}
-use Rattle.openness.specs.Parts.{OneAtom, TwoAtoms, FirstAhead}
+use Rattle.openness.specs.Parts.{OneAtom, TwoAtoms, FirstFound, FirstAhead}
 
 -- rings of at most so many atoms are a family that the theory of a search is about
 pub rings-by-lawful : (n : ℕ) (table : List ℕ) (most : ℕ) → Lawful (rings_by n table most)
@@ -181,24 +182,6 @@ pub record Sifted (n : ℕ) (table : List ℕ) (most s : ℕ) (left shut found :
   pub others :
       (v last : ℕ) → Reaching n table most s v last → has found v ≡ false →
       (has left last ≡ true) × (has left v || has shut v ≡ true)
-
-pub sifted-start :
-    {n : ℕ} {table : List ℕ} {most s : ℕ} {all shut found : List ℕ} →
-    ((v : ℕ) → has all v ≡ (ltb s v && leb v n && linked_by table s v)) → ((v : ℕ) → has shut v ≡ false) →
-    ((v : ℕ) → has found v ≡ false) → Sifted n table most s all shut found
-sifted-start {n} {table} {most} {s} {all} {shut} {found} all-is shut_none Found-None =
-    record {
-      left_second = λ v e.
-          let (above, range, bond) = bonded-facts table s (sym (all-is v) ∙ e) in
-          record { above = above; range = range; bond = bond };
-      shut_second = λ v e. absurd (clash (has shut v) e (shut_none v));
-      shut_lower = λ v w e l. absurd (clash (has shut v) e (shut_none v));
-      found_opens = λ v e. absurd (clash (has found v) e (Found-None v));
-      others = λ v last k not_found. (listed last k.closing, rw (listed v k.second));
-    }
-  where
-    listed : (v : ℕ) → Second n table s v → has all v ≡ true
-    listed v k = all-is v ∙ bonded-of table s k.above k.range k.bond
 
 -- a turn: the lowest atom that is left is taken as the last one; `more` are those of `shut` from which it is reached
 pub record SiftingTurn (n : ℕ) (table : List ℕ) (most s : ℕ) (left shut found rest closed opened : List ℕ) : Type 0
@@ -381,35 +364,24 @@ module _ {n : ℕ} {table : List ℕ} {most c a : ℕ} (k : NoneBefore n table m
       go v l h (yes below) = k.shut v l below
       go v l h (no other) = let same : v ≡ a = omega arith in rw same e
 
-  -- the atom a begins one
+  -- the atom of a turn
+  pub turn-atom : OneAtom n table most c → a ≤ n → OneAtom n table most a
+  turn-atom b high = record { words = b.words; room = b.room; low = omega (arith, b.low, k.from); high = high }
+
+  -- it begins one
   pub ahead-first :
       {plan : Plan} → OneAtom n table most a → is_open (rings_by n table most) (a ∷ []) ≡ true →
-      Everywhere (rings_by n table most) (a ∷ []) plan → FirstAhead n table most c (record { plan = plan; atom = a })
+      Everywhere (rings_by n table most) (a ∷ []) plan → FirstFound n table most c (record { plan = plan; atom = a })
   ahead-first b e tells =
-      record {
-        tells = λ low. tells;
-        high = b.high;
-        from = λ low. k.from;
-        begins = λ low. e;
-        before = k.shut;
-        none = λ zero v l. absurd (omega (arith, b.low));
-      }
+      record { tells = tells; high = b.high; from = k.from; begins = e; before = k.shut }
 
   -- a is past the last atom: none begins one
-  pub ahead_none : {plan : Plan} → n < a → FirstAhead n table most c (record { plan = plan; atom = 0 })
-  ahead_none end =
-      record {
-        tells = λ low. absurd (omega arith);
-        high = omega arith;
-        from = λ low. absurd (omega arith);
-        begins = λ low. absurd (omega arith);
-        before = λ v l h. absurd (omega arith);
-        none = λ zero v l. go v l (dec_lt v a);
-      }
+  pub ahead_none : n < a → FirstAhead n table most c None
+  ahead_none end v l = go (dec_lt v a)
     where
-      go : (v : ℕ) → c ≤ v → Dec (v < a) → is_open (rings_by n table most) (v ∷ []) ≡ false
-      go v l (yes below) = k.shut v l below
-      go v l (no other) =
+      go : Dec (v < a) → is_open (rings_by n table most) (v ∷ []) ≡ false
+      go (yes below) = k.shut v l below
+      go (no other) =
           false_of (is_open (rings_by n table most) (v ∷ []))
           (λ o. let L = rings-by-lawful n table most in
           let range = open-range (rings_by n table most) L (v ∷ []) o 0 (omega arith) in

@@ -1,4 +1,4 @@
--- The two sets at an open beginning: how they are handed on, which atoms they tell open, and the plan they make.
+-- The two sets at an open beginning: which atoms they tell open, and the plan they make.
 -- From the laws of `Steers`; the sets handed on are equal at every atom, so they are equal as functions.
 use Prim.Native.Nat.{ℕ, suc, ◌-◌}
 use mathlib.Core.Path.{◌≡◌, sym, fun_ext, ◌∙◌}
@@ -22,19 +22,6 @@ use Rattle.openness.specs.Parts.{BesideLast, Stepping}
 -- the atoms bonded to atom x
 abbrev pub Row : Adjacency → ℕ → (ℕ → Bool) → Type 0
 Row adj x row = (u : ℕ) → row u ≡ adj x u
-
--- ---- handed on
-
-pub handed-on :
-    {adj : Adjacency} {x : ℕ} {aim : Aim} {row : ℕ → Bool} {goal free : List ℕ} → Row adj x row →
-    ((u : ℕ) → has goal u ≡ (has aim.goal u && not (row u))) →
-    ((u : ℕ) → has free u ≡ (has aim.free u && not (row u))) →
-    HandedOn adj x aim (record { goal = goal; free = free })
-handed-on row_is goal-is free-is =
-    record {
-      goal-left = λ u. goal-is u ∙ rw (row_is u);
-      free-left = λ u. free-is u ∙ rw (row_is u);
-    }
 
 -- ---- what opens
 

@@ -1,6 +1,7 @@
 -- What the inner functions ask and return. Nothing to believe:
 -- the laws of proofs/ relate them to members and open beginnings.
-use Rattle.std.specs.Prelude.{ℕ, suc, ◌-◌, ◌≤◌, ◌<◌, ◌≡◌, true, false, ◌&&◌, List, [], ◌∷◌, length, take}
+use Rattle.std.specs.Prelude.{ℕ, suc, ◌-◌, ◌≤◌, ◌<◌, ◌≡◌, Bool, true, false, ◌&&◌, List, [], ◌∷◌, length, eqb}
+use Rattle.std.specs.Prelude.{Option, Some, None}
 use Rattle.graph.specs.Chordless.{Adjacency}
 use Rattle.enumeration.specs.Words.{Family, is_open}
 use Rattle.chordless.specs.Reach.{Irreflexive}
@@ -53,24 +54,31 @@ pub record FirstOf (n : ℕ) (table : List ℕ) (most atom : ℕ) (first : First
   pub atom_is : first.atom ≡ atom
   pub tells : Everywhere (rings_by n table most) (atom ∷ []) first.plan
 
--- of the atoms from c on, the first that begins a ring of at most so many atoms, and its plan; the atom is 0 where none
--- does
-pub record FirstAhead (n : ℕ) (table : List ℕ) (most c : ℕ) (first : FirstPlan) : Type 0 where
-  pub tells : FirstTells (rings_by n table most) first
+-- of the atoms from c on, the first that begins a ring of at most so many atoms, and its plan
+pub record FirstFound (n : ℕ) (table : List ℕ) (most c : ℕ) (first : FirstPlan) : Type 0 where
+  pub tells : Everywhere (rings_by n table most) (first.atom ∷ []) first.plan
   pub high : first.atom ≤ n
-  pub from : 1 ≤ first.atom → c ≤ first.atom
-  pub begins : 1 ≤ first.atom → is_open (rings_by n table most) (first.atom ∷ []) ≡ true
+  pub from : c ≤ first.atom
+  pub begins : is_open (rings_by n table most) (first.atom ∷ []) ≡ true
   pub before : (v : ℕ) → c ≤ v → v < first.atom → is_open (rings_by n table most) (v ∷ []) ≡ false
-  pub none : first.atom ≡ 0 → (v : ℕ) → c ≤ v → is_open (rings_by n table most) (v ∷ []) ≡ false
+
+-- the same where one does; otherwise none from c on begins one
+abbrev pub FirstAhead : ℕ → List ℕ → ℕ → ℕ → Option FirstPlan → Type 0
+FirstAhead n table most c None = (v : ℕ) → c ≤ v → is_open (rings_by n table most) (v ∷ []) ≡ false
+FirstAhead n table most c (Some first) = FirstFound n table most c first
+
+-- whether v is the atom of the first plan
+abbrev pub begins_first : Option FirstPlan → ℕ → Bool
+begins_first None v = false
+begins_first (Some first) v = eqb v first.atom
 
 -- an open beginning of one atom or none, of rings of at most so many atoms, and the first plan that is kept
-pub record ShortRing (n : ℕ) (table : List ℕ) (most : ℕ) (prefix : List ℕ) (len c : ℕ) (first : FirstPlan) : Type 0
+pub record ShortRing (n : ℕ) (table : List ℕ) (most : ℕ) (p : List ℕ) (c : ℕ) (first : Option FirstPlan) : Type 0
   where
     pub words : Words n table
     pub room : 3 ≤ most
-    pub size : length prefix ≡ 128
-    pub short : len ≤ 1
-    pub is_opened : is_open (rings_by n table most) (take len prefix) ≡ true
+    pub short : length p ≤ 1
+    pub is_opened : is_open (rings_by n table most) p ≡ true
     pub low : 1 ≤ c
     pub high : c ≤ n
     pub tells : FirstTells (rings_by n table most) first

@@ -1,5 +1,7 @@
 -- What a trial finds at a beginning, as two sets of atoms, over the table of a search (`SearchTable`).
-use Rattle.std.specs.Prelude.{ℕ, suc, ◌-◌, ◌≤◌, ◌<◌, ◌≡◌, true, false, ◌||◌, cond, List, [], ◌∷◌, ◌++◌, length, take, leb, eqb}
+use Rattle.std.specs.Prelude.{ℕ, suc, ◌-◌, ◌≤◌, ◌<◌, ◌≡◌, true, false, ◌||◌, cond, leb, eqb}
+use Rattle.std.specs.Prelude.{List, [], ◌∷◌, ◌++◌, length, Option}
+use Rattle.std.specs.Option.{ForSome}
 use Rattle.graph.specs.Chordless.{Adjacency}
 use Rattle.enumeration.specs.Words.{Family, is_open}
 use Rattle.enumeration.specs.Lawful.{Lawful}
@@ -13,6 +15,7 @@ use Rattle.openness.specs.declared.Plan.{Plan}
 use Rattle.openness.specs.declared.Aim.{Aim}
 use Rattle.openness.specs.declared.FirstPlan.{FirstPlan}
 use Rattle.openness.specs.declared.Found.{Found}
+use Rattle.openness.specs.declared.Wanted.{Wanted}
 
 -- The family of a kind over a word table
 unfoldable pub family_by : ℕ → List ℕ → ℕ → ℕ → ℕ → Family
@@ -70,22 +73,28 @@ pub record Planned (F : Family) (p : List ℕ) (c : ℕ) (plan : Plan) : Type 0 
   pub ahead : Ahead F p c plan
   pub every : 1 ≤ length p → Everywhere F p plan
 
--- the first plan tells of the beginning of its atom; where the atom is 0 there is none
-abbrev pub FirstTells : Family → FirstPlan → Type 0
-FirstTells F first = 1 ≤ first.atom → Everywhere F (first.atom ∷ []) first.plan
+-- the first plan, if there is one, tells of the beginning of its atom
+abbrev pub FirstTells : Family → Option FirstPlan → Type 0
+FirstTells F first = ForSome first (λ kept. Everywhere F (kept.atom ∷ []) kept.plan)
 
--- an open beginning of a search in its array
-pub record Beginning (n : ℕ) (table : List ℕ) (kind s t : ℕ) (prefix : List ℕ) (len : ℕ) : Type 0 where
+-- an open beginning of a search
+pub record Beginning (n : ℕ) (table : List ℕ) (kind s t : ℕ) (p : List ℕ) : Type 0 where
   pub words : SearchTable n table kind t
   pub kinds : kind_kept n kind s t ≡ true
-  pub size : length prefix ≡ 128
-  pub short : len ≤ 127
-  pub is_opened : is_open (family_by n table kind s t) (take len prefix) ≡ true
+  pub short : length p ≤ 127
+  pub is_opened : is_open (family_by n table kind s t) p ≡ true
+
+-- the family of what a search wants, and an open beginning of it
+abbrev pub family_wanted : Wanted → Family
+family_wanted w = family_by w.n w.table.now w.kind w.s w.t
+
+abbrev pub Begins : Wanted → List ℕ → Type 0
+Begins w p = Beginning w.n w.table.now w.kind w.s w.t p
 
 -- an open beginning that is to be planned from the next atom c on, and the first plan that is kept
-pub record Planning (n : ℕ) (table : List ℕ) (kind s t : ℕ) (prefix : List ℕ) (len c : ℕ) (first : FirstPlan) : Type 0
+pub record Planning (n : ℕ) (table : List ℕ) (kind s t : ℕ) (p : List ℕ) (c : ℕ) (first : Option FirstPlan) : Type 0
   where
-    pub begun : Beginning n table kind s t prefix len
+    pub begun : Beginning n table kind s t p
     pub low : 1 ≤ c
     pub high : c ≤ n
     pub tells : FirstTells (family_by n table kind s t) first

@@ -3,19 +3,20 @@
 // leaves so many steps past an atom added.
 #![tactic(auto)]
 
-ghost use Rattle.std.specs.Prelude.{ℕ, ◌-◌, ◌≤◌, ◌<◌, ◌≡◌, true, ◌&&◌, List, [], ◌∷◌, ◌++◌, length, take, get_or, leb, eqb};
+ghost use Rattle.std.specs.Prelude.{ℕ, ◌-◌, ◌≤◌, ◌<◌, ◌≡◌, true, List, [], ◌∷◌, ◌++◌, length, take, get_or};
+ghost use Rattle.std.specs.Option.{ForSome};
 ghost use Rattle.enumeration.specs.Words.{Family, is_open};
 ghost use Rattle.chordless.specs.Reach.{Symmetric};
 ghost use Rattle.chordless.specs.Steers.{Steers};
 ghost use Rattle.atomset.specs.Set.{has, linked_by};
 ghost use Rattle.sweep.specs.Swept.{Reached};
 ghost use Rattle.search.specs.Place.{kind_kept};
-ghost use Rattle.openness.specs.Plan.{family_by, rings_by, paths_by, most_atoms, steps_left, first_length};
-ghost use Rattle.openness.specs.Plan.{Words, SearchTable, Beginning, Planning, FoundAt, Everywhere, Steered};
+ghost use Rattle.openness.specs.Plan.{rings_by, paths_by, most_atoms, steps_left, first_length};
+ghost use Rattle.openness.specs.Plan.{Words, SearchTable, Planning, FoundAt, Everywhere, Steered};
+ghost use Rattle.openness.specs.Plan.{family_wanted, Begins};
 ghost use Rattle.openness.specs.Plan.{HandedOn, BothWays, EachOpens, PlansBy};
-ghost use Rattle.openness.specs.Parts.{OneAtom, TwoAtoms, TwoEnds, BesideLast, Stepping, FirstOf, FirstAhead, ShortRing, PathFirsts};
-
-use widen::u8_usize;
+ghost use Rattle.openness.specs.Parts.{OneAtom, TwoAtoms, TwoEnds, BesideLast, Stepping};
+ghost use Rattle.openness.specs.Parts.{FirstOf, FirstAhead, ShortRing, PathFirsts, begins_first};
 
 // The atoms that make a member of a beginning, and those that open it.
 #[derive(Clone, Copy)]
@@ -24,18 +25,31 @@ pub struct Plan {
     pub opens: [u64; 2],
 }
 
-// The plan of a beginning of one atom, and that atom; 0 where there is none.
+// What a search wants: the kind of its members, s and t, among n atoms, over the table of their bonds (of shortest
+// paths the bonds that lead nearer to t).
+// Its kind is a number, and its facts stay clauses: `words-answer-openness` speaks of any kind, and docs/TRACE.md names
+// `plan_at`, `is_open` and `aim_at`, which may ask for no narrower type.
+#[derive(Clone, Copy)]
+pub struct Wanted<'a> {
+    pub table: &'a [u64; 256],
+    pub n: usize,
+    pub kind: usize,
+    pub s: usize,
+    pub t: usize,
+}
+
+// The plan of a beginning of one atom, and that atom.
 #[derive(Clone, Copy)]
 pub struct FirstPlan {
     pub plan: Plan,
     pub atom: u8,
 }
 
-// What a trial finds at a beginning, and the plan of a beginning of one atom that is kept.
+// What a trial finds at a beginning, and the plan of a beginning of one atom that is kept, if there is one.
 #[derive(Clone, Copy)]
 pub struct Found {
     pub plan: Plan,
-    pub first: FirstPlan,
+    pub first: Option<FirstPlan>,
 }
 
 // The two sets that steer a search below a beginning, but for what is bonded to its last atom: the atoms that may close
@@ -67,10 +81,7 @@ pub fn first_length(kind: usize) -> usize
 fn most_atoms(kind: usize, s: usize) -> usize
     ensures { result ≡ most_atoms kind s }
 {
-    if kind <= 1 {
-        return 128;
-    }
-    if kind == 3 {
+    if kind <= 1 || kind == 3 {
         return 128;
     }
     s
@@ -90,13 +101,9 @@ pub fn aim_after(table: &[u64; 256], aim: Aim, x: usize) -> Aim
     ensures { HandedOn (linked_by table.now) x aim result }
 {
     let row = atomset::row(table, x);
-    let goal = aim.goal;
-    let free = aim.free;
-    let goal_left = atomset::minus(goal, row);
-    let free_left = atomset::minus(free, row);
     Aim {
-        goal: goal_left,
-        free: free_left,
+        goal: atomset::minus(aim.goal, row),
+        free: atomset::minus(aim.free, row),
     }
 }
 
@@ -112,66 +119,51 @@ fn ring_aim(table: &[u64; 256], n: usize, s: usize, a: usize) -> Aim
     let low = atomset::range(s, n);
     let goal = atomset::intersection(above, row);
     let free = atomset::minus(low, row);
-    Aim {
-        goal: goal,
-        free: free,
-    }
+    Aim { goal, free }
 }
 
 // The first sets of a path from s to t: t; every atom but s.
-fn path_aim(table: &[u64; 256], n: usize, s: usize, t: usize) -> Aim
-    requires { TwoEnds n table.now s t }
-    ensures { Steers (paths_by n table.now s t) (linked_by table.now) 128 (s ∷ []) s
+fn path_aim(wanted: Wanted<'_>) -> Aim
+    requires { TwoEnds wanted.n wanted.table.now wanted.s wanted.t }
+    ensures { let w = wanted.entry in
+        Steers (paths_by w.n w.table.now w.s w.t) (linked_by w.table.now) 128 (w.s ∷ []) w.s
         (has result.goal) (has result.free) }
 {
-    let goal = atomset::single(t);
-    let all = atomset::up_to(n);
-    let free = atomset::without_atom(all, s);
-    Aim {
-        goal: goal,
-        free: free,
-    }
+    let goal = atomset::single(wanted.t);
+    let all = atomset::up_to(wanted.n);
+    let free = atomset::without_atom(all, wanted.s);
+    Aim { goal, free }
 }
 
-// The first sets of a beginning, by its kind.
-pub fn first_aim(
-    table: &[u64; 256],
-    n: usize,
-    kind: usize,
-    s: usize,
-    t: usize,
-    prefix: &[u8; 128],
-) -> Aim
-    requires { Beginning n table.now kind s t prefix.now (first_length kind) }
-    ensures { Steered (family_by n table.now kind s t) (linked_by table.now) (most_atoms kind s)
-        (take (first_length kind) prefix.now) (get_or prefix.now (first_length kind - 1) 0) result }
+// The first sets of a beginning, by its kind and its first atoms.
+pub fn first_aim(wanted: Wanted<'_>, beginning: &[u8]) -> Aim
+    requires { Begins wanted (take (first_length wanted.kind) beginning.now) ×
+        (first_length wanted.kind ≤ length beginning.now) }
+    ensures { Steered (family_wanted wanted.entry) (linked_by wanted.entry.table.now)
+        (most_atoms wanted.entry.kind wanted.entry.s) (take (first_length wanted.entry.kind) beginning.now)
+        (get_or beginning.now (first_length wanted.entry.kind - 1) 0) result }
 {
-    if search::lists_paths(kind) {
-        return path_aim(table, n, s, t);
+    if search::lists_paths(wanted.kind) {
+        return path_aim(wanted);
     }
-    ring_aim(table, n, u8_usize(prefix[0]), u8_usize(prefix[1]))
+    ring_aim(
+        wanted.table,
+        wanted.n,
+        usize::from(beginning[0]),
+        usize::from(beginning[1]),
+    )
 }
 
 // The sets of an open beginning, handed on from the first ones.
-pub fn aim_at(
-    table: &[u64; 256],
-    n: usize,
-    kind: usize,
-    s: usize,
-    t: usize,
-    prefix: &[u8; 128],
-    len: usize,
-) -> Aim
-    requires { Beginning n table.now kind s t prefix.now len × (first_length kind ≤ len) }
-    ensures { Steered (family_by n table.now kind s t) (linked_by table.now) (most_atoms kind s)
-        (take len prefix.now) (get_or prefix.now (len - 1) 0) result }
+pub fn aim_at(wanted: Wanted<'_>, beginning: &[u8]) -> Aim
+    requires { Begins wanted beginning.now × (first_length wanted.kind ≤ length beginning.now) }
+    ensures { Steered (family_wanted wanted.entry) (linked_by wanted.entry.table.now)
+        (most_atoms wanted.entry.kind wanted.entry.s) beginning.now
+        (get_or beginning.now (length beginning.now - 1) 0) result }
 {
-    let mut aim = first_aim(table, n, kind, s, t, prefix);
-    let mut i = first_length(kind);
-    while i < len {
-        let next = aim_after(table, aim, u8_usize(prefix[i - 1]));
-        aim = next;
-        i += 1;
+    let mut aim = first_aim(wanted, beginning);
+    for i in first_length(wanted.kind)..beginning.len() {
+        aim = aim_after(wanted.table, aim, usize::from(beginning[i - 1]));
     }
     aim
 }
@@ -192,9 +184,7 @@ fn openers(
         (v : ℕ) → has result v ≡ is_open F (p ++ v ∷ []) }
 {
     if kind != 3 {
-        let targets = next.goal;
-        let through = next.free;
-        return sweep::reached(table, through, targets, want, steps);
+        return sweep::reached(table, next.free, next.goal, want, steps);
     }
     atomset::minus(want, members)
 }
@@ -240,13 +230,9 @@ fn beside_last(table: &[u64; 256], aim: Aim, x: usize) -> Beside
     ensures { BesideLast (linked_by table.now) x aim result }
 {
     let row = atomset::row(table, x);
-    let goal = aim.goal;
-    let free = aim.free;
-    let members = atomset::intersection(goal, row);
-    let want = atomset::intersection(free, row);
     Beside {
-        members: members,
-        want: want,
+        members: atomset::intersection(aim.goal, row),
+        want: atomset::intersection(aim.free, row),
     }
 }
 
@@ -256,53 +242,38 @@ pub fn plan_by(table: &[u64; 256], kind: usize, aim: Aim, next: Aim, x: usize, s
     requires { BothWays kind (linked_by table.now) × HandedOn (linked_by table.now) x aim next × (1 ≤ x) × (x ≤ 128) }
     ensures { PlansBy (linked_by table.now) kind x aim steps result }
 {
-    let near = beside_last(table, aim, x);
-    let members = near.members;
-    let want = near.want;
+    let Beside { members, want } = beside_last(table, aim, x);
     let opens = opening(table, kind, next, members, want, steps);
-    Plan {
-        members: members,
-        opens: opens,
-    }
+    Plan { members, opens }
 }
 
 // The same plan by `openers`, whatever the candidates: for the places where single beginnings are planned. The fast
 // loop alone calls `plan_by`, so that it is compiled into the loop.
+// One function for both was tried: shared with the loop, it made cage compounds take half as long again (`make bench`).
 fn swept_plan(table: &[u64; 256], kind: usize, aim: Aim, next: Aim, x: usize, steps: usize) -> Plan
     requires { BothWays kind (linked_by table.now) × HandedOn (linked_by table.now) x aim next × (1 ≤ x) × (x ≤ 128) }
     ensures { PlansBy (linked_by table.now) kind x aim steps result }
 {
-    let near = beside_last(table, aim, x);
-    let members = near.members;
-    let want = near.want;
+    let Beside { members, want } = beside_last(table, aim, x);
     let opens = openers(table, kind, next, members, want, steps);
-    Plan {
-        members: members,
-        opens: opens,
-    }
+    Plan { members, opens }
 }
 
 // The plan of an open beginning that is long enough for its two sets.
-fn steered_plan(
-    table: &[u64; 256],
-    n: usize,
-    kind: usize,
-    s: usize,
-    t: usize,
-    prefix: &[u8; 128],
-    len: usize,
-) -> Plan
-    requires { Beginning n table.now kind s t prefix.now len × (first_length kind ≤ len) }
-    ensures { Everywhere (family_by n table.now kind s t) (take len prefix.now) result }
+fn steered_plan(wanted: Wanted<'_>, beginning: &[u8]) -> Plan
+    requires { Begins wanted beginning.now × (first_length wanted.kind ≤ length beginning.now) }
+    ensures { Everywhere (family_wanted wanted.entry) beginning.now result }
 {
-    let aim = aim_at(table, n, kind, s, t, prefix, len);
-    let x = u8_usize(prefix[len - 1]);
-    let next = aim_after(table, aim, x);
-    let steps = steps_left(kind, s, len);
-    swept_plan(table, kind, aim, next, x, steps)
+    let len = beginning.len();
+    let aim = aim_at(wanted, beginning);
+    let x = usize::from(beginning[len - 1]);
+    let next = aim_after(wanted.table, aim, x);
+    let steps = steps_left(wanted.kind, wanted.s, len);
+    swept_plan(wanted.table, wanted.kind, aim, next, x, steps)
 }
 
 // Whether the beginning s, v of a ring of at most `most` atoms is open.
+// No Wanted: a bound on the size is all that rings need of one.
 fn pair_opens(table: &[u64; 256], n: usize, most: usize, s: usize, v: usize) -> bool
     requires { TwoAtoms n table.now s v × (3 ≤ most) }
     ensures { result ≡ is_open (rings_by n table.now most) (s ∷ v ∷ []) }
@@ -359,10 +330,10 @@ fn second_atoms(table: &[u64; 256], n: usize, most: usize, s: usize) -> [u64; 2]
         let rest = atomset::without_lowest(left);
         let last = atomset::lowest_alone(left, rest);
         let more = reached_from(table, between, last, shut, most - 2);
+        // tried, and not proved: `found = atomset::union(..)`; the check covers no call's result in such a variable
         let opened = atomset::union(found, more);
         found = opened;
-        let fewer = atomset::minus(shut, more);
-        let with_last = atomset::union(fewer, last);
+        let with_last = atomset::union(atomset::minus(shut, more), last);
         shut = with_last;
         left = rest;
     }
@@ -382,86 +353,70 @@ fn first_plan(table: &[u64; 256], n: usize, most: usize, atom: u8) -> FirstPlan
     requires { OneAtom n table.now most atom }
     ensures { FirstOf n table.now most atom result }
 {
-    let none = atomset::empty();
-    let opens = second_atoms(table, n, most, u8_usize(atom));
+    let members = atomset::empty();
+    let opens = second_atoms(table, n, most, usize::from(atom));
     FirstPlan {
-        plan: Plan {
-            members: none,
-            opens: opens,
-        },
-        atom: atom,
+        plan: Plan { members, opens },
+        atom,
     }
 }
 
-// The atom from c on that is the first to begin a ring of at most `most` atoms, and its plan; the atom is 0 where there
-// is none.
-fn first_ahead(table: &[u64; 256], n: usize, most: usize, c: usize) -> FirstPlan
+// The atom from c on that is the first to begin a ring of at most `most` atoms, and its plan; none where no atom does.
+fn first_ahead(table: &[u64; 256], n: usize, most: usize, c: usize) -> Option<FirstPlan>
     requires { OneAtom n table.now most c }
     ensures { FirstAhead n table.now most c result }
 {
-    let none = atomset::empty();
-    let mut a = c;
-    while a <= n {
+    let members = atomset::empty();
+    for a in c..=n {
         let opens = second_atoms(table, n, most, a);
         if !atomset::is_empty(opens) {
-            return FirstPlan {
-                plan: Plan {
-                    members: none,
-                    opens: opens,
-                },
+            return Some(FirstPlan {
+                plan: Plan { members, opens },
                 atom: a as u8,
-            };
+            });
         }
-        a += 1;
     }
-    FirstPlan {
-        plan: Plan {
-            members: none,
-            opens: none,
-        },
-        atom: 0,
-    }
+    None
 }
 
-// The atom as a set; without atoms where it is 0.
-fn atom_alone(atom: u8) -> [u64; 2]
-    requires { atom ≤ 128 }
-    ensures { (v : ℕ) → has result v ≡ (leb 1 v && eqb v atom) }
+// The atom of a first plan as a set; the empty set where there is none.
+fn atom_alone(first: Option<FirstPlan>) -> [u64; 2]
+    requires { ForSome first (λ plan. (1 ≤ plan.atom) × (plan.atom ≤ 128)) }
+    ensures { (v : ℕ) → has result v ≡ begins_first first v }
 {
-    if atom == 0 {
-        return atomset::empty();
+    match first {
+        Some(plan) => atomset::single(usize::from(plan.atom)),
+        None => atomset::empty(),
     }
-    atomset::single(u8_usize(atom))
 }
 
 // The atom that begins a path from s to t: s where t is reached from it, otherwise none. Of shortest paths t is
 // reached where any bond of the table leads on from s.
-fn path_firsts(table: &[u64; 256], n: usize, kind: usize, s: usize, t: usize) -> [u64; 2]
-    requires { TwoEnds n table.now s t × SearchTable n table.now kind t }
-    ensures { PathFirsts n table.now s t result }
+fn path_firsts(wanted: Wanted<'_>) -> [u64; 2]
+    requires { TwoEnds wanted.n wanted.table.now wanted.s wanted.t ×
+        SearchTable wanted.n wanted.table.now wanted.kind wanted.t }
+    ensures { let w = wanted.entry in PathFirsts w.n w.table.now w.s w.t result }
 {
-    let alone = atomset::single(s);
-    if kind == 3 {
-        let row = atomset::row(table, s);
+    let alone = atomset::single(wanted.s);
+    if wanted.kind == 3 {
+        let row = atomset::row(wanted.table, wanted.s);
         if atomset::is_empty(row) {
             return row;
         }
         return alone;
     }
-    let all = atomset::up_to(n);
-    let goal = atomset::single(t);
-    sweep::reached(table, all, goal, alone, 127)
+    let all = atomset::up_to(wanted.n);
+    let goal = atomset::single(wanted.t);
+    sweep::reached(wanted.table, all, goal, alone, 127)
 }
 
 // Whether some path from s to t begins with c.
-fn path_starts(table: &[u64; 256], n: usize, kind: usize, s: usize, t: usize, c: usize) -> bool
-    requires { TwoEnds n table.now s t × SearchTable n table.now kind t }
-    ensures { result ≡ is_open (paths_by n table.now s t) (c ∷ []) }
+fn path_starts(wanted: Wanted<'_>, c: usize) -> bool
+    requires { TwoEnds wanted.n wanted.table.now wanted.s wanted.t ×
+        SearchTable wanted.n wanted.table.now wanted.kind wanted.t }
+    ensures { let w = wanted.entry in result ≡ is_open (paths_by w.n w.table.now w.s w.t) (c ∷ []) }
 {
-    if c != s {
-        return false;
-    }
-    atomset::contains(path_firsts(table, n, kind, s, t), s)
+    c == wanted.s && atomset::contains(path_firsts(wanted), wanted.s)
 }
 
 // What a trial finds at an open beginning of one atom or none, of rings of at most `most` atoms: the plan of one atom
@@ -470,76 +425,56 @@ fn short_ring(
     table: &[u64; 256],
     n: usize,
     most: usize,
-    prefix: &[u8; 128],
-    len: usize,
+    beginning: &[u8],
     c: usize,
-    first: FirstPlan,
+    first: Option<FirstPlan>,
 ) -> Found
-    requires { ShortRing n table.now most prefix.now len c first }
-    ensures { FoundAt (rings_by n table.now most) (take len prefix.now) c result }
+    requires { ShortRing n table.now most beginning.now c first }
+    ensures { FoundAt (rings_by n table.now most) beginning.now c result }
 {
-    let none = atomset::empty();
-    if len == 0 {
+    if beginning.is_empty() {
+        let members = atomset::empty();
         let ahead = first_ahead(table, n, most, c);
-        let opens = atom_alone(ahead.atom);
+        let opens = atom_alone(ahead);
         return Found {
-            plan: Plan {
-                members: none,
-                opens: opens,
-            },
+            plan: Plan { members, opens },
             first: ahead,
         };
     }
-    if prefix[0] == first.atom {
-        let kept = first.plan;
-        return Found {
-            plan: kept,
-            first: first,
-        };
+    if let Some(kept) = first {
+        if beginning[0] == kept.atom {
+            return Found {
+                plan: kept.plan,
+                first,
+            };
+        }
     }
-    let made = first_plan(table, n, most, prefix[0]);
-    let plan = made.plan;
+    let made = first_plan(table, n, most, beginning[0]);
     Found {
-        plan: plan,
-        first: made,
+        plan: made.plan,
+        first: Some(made),
     }
 }
 
 // What a trial finds at an open beginning: of every atom from the next atom c up to the first that opens, and of every
 // atom where the beginning has an atom or more.
-pub fn plan_at(
-    table: &[u64; 256],
-    n: usize,
-    kind: usize,
-    s: usize,
-    t: usize,
-    prefix: &[u8; 128],
-    len: usize,
-    c: usize,
-    first: FirstPlan,
-) -> Found
-    requires { Planning n table.now kind s t prefix.now len c first }
-    ensures { FoundAt (family_by n table.now kind s t) (take len prefix.now) c result }
+pub fn plan_at(wanted: Wanted<'_>, beginning: &[u8], c: usize, first: Option<FirstPlan>) -> Found
+    requires { Planning wanted.n wanted.table.now wanted.kind wanted.s wanted.t beginning.now c first }
+    ensures { FoundAt (family_wanted wanted.entry) beginning.now c result }
 {
-    if first_length(kind) <= len {
-        let steered = steered_plan(table, n, kind, s, t, prefix, len);
-        return Found {
-            plan: steered,
-            first: first,
-        };
+    if first_length(wanted.kind) <= beginning.len() {
+        let plan = steered_plan(wanted, beginning);
+        return Found { plan, first };
     }
-    if !search::lists_paths(kind) {
-        let most = most_atoms(kind, s);
-        return short_ring(table, n, most, prefix, len, c, first);
+    if !search::lists_paths(wanted.kind) {
+        let most = most_atoms(wanted.kind, wanted.s);
+        return short_ring(wanted.table, wanted.n, most, beginning, c, first);
     }
-    let none = atomset::empty();
-    let firsts = path_firsts(table, n, kind, s, t);
+    let members = atomset::empty();
+    let opens = path_firsts(wanted);
     Found {
-        plan: Plan {
-            members: none,
-            opens: firsts,
-        },
-        first: first,
+        plan: Plan { members, opens },
+        first,
     }
 }
 
@@ -547,128 +482,93 @@ pub fn plan_at(
 fn opens_by(found: Plan, v: usize) -> bool
     ensures { result ≡ has found.opens v }
 {
-    if !molecule::is_atom(128, v) {
-        return false;
-    }
-    let opens = found.opens;
-    atomset::contains(opens, v)
+    molecule::is_atom(128, v) && atomset::contains(found.opens, v)
 }
 
-// Whether some ring of at most `most` atoms begins with the first atom of the array.
-fn one_opens(table: &[u64; 256], n: usize, most: usize, prefix: &[u8; 128]) -> bool
-    requires { Words n table.now × (3 ≤ most) × (length prefix.now ≡ 128) }
-    ensures { result ≡ is_open (rings_by n table.now most) (take 1 prefix.now) }
+// Whether some ring of at most `most` atoms begins with the first atom of the beginning.
+fn one_opens(table: &[u64; 256], n: usize, most: usize, beginning: &[u8]) -> bool
+    requires { Words n table.now × (3 ≤ most) × (1 ≤ length beginning.now) }
+    ensures { result ≡ is_open (rings_by n table.now most) (take 1 beginning.now) }
 {
-    let a = u8_usize(prefix[0]);
-    if !molecule::is_atom(n, a) {
-        return false;
-    }
-    ring_starts(table, n, most, a)
+    let a = usize::from(beginning[0]);
+    molecule::is_atom(n, a) && ring_starts(table, n, most, a)
 }
 
 // Whether the shortest beginning that two sets steer is open: of a ring the first two atoms, of a path the first one.
-fn first_opens(
-    table: &[u64; 256],
-    n: usize,
-    kind: usize,
-    s: usize,
-    t: usize,
-    prefix: &[u8; 128],
-) -> bool
-    requires { SearchTable n table.now kind t × (kind_kept n kind s t ≡ true) × (length prefix.now ≡ 128) }
-    ensures { result ≡ is_open (family_by n table.now kind s t) (take (first_length kind) prefix.now) }
+fn first_opens(wanted: Wanted<'_>, beginning: &[u8]) -> bool
+    requires { SearchTable wanted.n wanted.table.now wanted.kind wanted.t ×
+        (kind_kept wanted.n wanted.kind wanted.s wanted.t ≡ true) × (first_length wanted.kind ≤ length beginning.now) }
+    ensures { result ≡ is_open (family_wanted wanted.entry)
+        (take (first_length wanted.entry.kind) beginning.now) }
 {
-    let a = u8_usize(prefix[0]);
-    if search::lists_paths(kind) {
-        return path_starts(table, n, kind, s, t, a);
+    let a = usize::from(beginning[0]);
+    if search::lists_paths(wanted.kind) {
+        return path_starts(wanted, a);
     }
-    if !molecule::is_atom(n, a) {
+    if !molecule::is_atom(wanted.n, a) {
         return false;
     }
-    let b = u8_usize(prefix[1]);
-    if !molecule::is_atom(n, b) {
+    let b = usize::from(beginning[1]);
+    if !molecule::is_atom(wanted.n, b) {
         return false;
     }
-    let most = most_atoms(kind, s);
-    pair_opens(table, n, most, a, b)
+    let most = most_atoms(wanted.kind, wanted.s);
+    pair_opens(wanted.table, wanted.n, most, a, b)
 }
 
-// Whether the first `len` atoms are an open beginning, where the first ones that two sets steer are: the sets are
-// handed on past each further atom.
-fn goes_on_open(
-    table: &[u64; 256],
-    n: usize,
-    kind: usize,
-    s: usize,
-    t: usize,
-    prefix: &[u8; 128],
-    len: usize,
-) -> bool
-    requires { Beginning n table.now kind s t prefix.now (first_length kind) × (first_length kind ≤ len) × (len ≤ 127) }
-    ensures { result ≡ is_open (family_by n table.now kind s t) (take len prefix.now) }
+// Whether the beginning is open, where its first atoms, which two sets steer, are: the sets are handed on past each
+// further atom.
+fn goes_on_open(wanted: Wanted<'_>, beginning: &[u8]) -> bool
+    requires { Begins wanted (take (first_length wanted.kind) beginning.now) ×
+        (first_length wanted.kind ≤ length beginning.now) × (length beginning.now ≤ 127) }
+    ensures { result ≡ is_open (family_wanted wanted.entry) beginning.now }
 {
-    let mut aim = first_aim(table, n, kind, s, t, prefix);
-    let mut i = first_length(kind);
-    while i < len {
-        let x = u8_usize(prefix[i - 1]);
-        let next = aim_after(table, aim, x);
-        let steps = steps_left(kind, s, i);
-        if !opens_by(
-            swept_plan(table, kind, aim, next, x, steps),
-            u8_usize(prefix[i]),
-        ) {
+    let mut aim = first_aim(wanted, beginning);
+    for i in first_length(wanted.kind)..beginning.len() {
+        let x = usize::from(beginning[i - 1]);
+        let next = aim_after(wanted.table, aim, x);
+        let steps = steps_left(wanted.kind, wanted.s, i);
+        let plan = swept_plan(wanted.table, wanted.kind, aim, next, x, steps);
+        if !opens_by(plan, usize::from(beginning[i])) {
             return false;
         }
         aim = next;
-        i += 1;
     }
     true
 }
 
-// Whether the first `len` atoms, one or more, are an open beginning, over the table of the search.
-fn is_open_by(
-    table: &[u64; 256],
-    n: usize,
-    kind: usize,
-    s: usize,
-    t: usize,
-    prefix: &[u8; 128],
-    len: usize,
-) -> bool
-    requires { SearchTable n table.now kind t × (kind_kept n kind s t ≡ true) × (length prefix.now ≡ 128) ×
-        (len ≤ 127) × (1 ≤ len) }
-    ensures { result ≡ is_open (family_by n table.now kind s t) (take len prefix.now) }
+// Whether a beginning of one atom or more is open, over the table of the search.
+fn is_open_by(wanted: Wanted<'_>, beginning: &[u8]) -> bool
+    requires { SearchTable wanted.n wanted.table.now wanted.kind wanted.t ×
+        (kind_kept wanted.n wanted.kind wanted.s wanted.t ≡ true) × (length beginning.now ≤ 127) ×
+        (1 ≤ length beginning.now) }
+    ensures { result ≡ is_open (family_wanted wanted.entry) beginning.now }
 {
-    if len < first_length(kind) {
-        let most = most_atoms(kind, s);
-        return one_opens(table, n, most, prefix);
+    if beginning.len() < first_length(wanted.kind) {
+        let most = most_atoms(wanted.kind, wanted.s);
+        return one_opens(wanted.table, wanted.n, most, beginning);
     }
-    if !first_opens(table, n, kind, s, t, prefix) {
-        return false;
-    }
-    goes_on_open(table, n, kind, s, t, prefix, len)
+    first_opens(wanted, beginning) && goes_on_open(wanted, beginning)
 }
 
-// Whether the first `len` atoms are an open beginning, over the word table of a molecule's rows. The empty one is, and
-// needs no distances.
-pub fn is_open(
-    words: &[u64; 256],
-    n: usize,
-    kind: usize,
-    s: usize,
-    t: usize,
-    prefix: &[u8; 128],
-    len: usize,
-) -> bool
-    requires { Words n words.now × (kind_kept n kind s t ≡ true) × (length prefix.now ≡ 128) × (len ≤ 127) }
-    ensures { result ≡ is_open (family_by n words.now kind s t) (take len prefix.now) }
+// Whether a beginning is open, over the word table of a molecule's rows. The empty one is, and needs no distances.
+pub fn is_open(wanted: Wanted<'_>, beginning: &[u8]) -> bool
+    requires { Words wanted.n wanted.table.now × (kind_kept wanted.n wanted.kind wanted.s wanted.t ≡ true) ×
+        (length beginning.now ≤ 127) }
+    ensures { result ≡ is_open (family_wanted wanted.entry) beginning.now }
 {
-    if len == 0 {
+    if beginning.is_empty() {
         return true;
     }
-    if kind == 3 {
-        let near = distance::nearing(words, n, t);
-        return is_open_by(&near, n, kind, s, t, prefix, len);
+    if wanted.kind == 3 {
+        let near = distance::nearing(wanted.table, wanted.n, wanted.t);
+        return is_open_by(
+            Wanted {
+                table: &near,
+                ..wanted
+            },
+            beginning,
+        );
     }
-    is_open_by(words, n, kind, s, t, prefix, len)
+    is_open_by(wanted, beginning)
 }

@@ -6,8 +6,9 @@ use mathlib.Core.Path.{◌≡◌, ap}
 use mathlib.Core.Bool.{true}
 use mathlib.Core.List.{List}
 use lib.ListN.{length}
+use Rattle.std.specs.Prelude.{Ok}
 use Rattle.enumeration.specs.Words.{Family}
-use Rattle.enumeration.specs.Run.{run}
+use Rattle.enumeration.specs.Run.{Outcome, run}
 use Rattle.molecule.specs.declared.Molecule.{Molecule}
 use Rattle.molecule.specs.Record.{well_formed}
 use Rattle.search.specs.declared.Search.{Search}
@@ -18,14 +19,22 @@ use Rattle.search.proofs.Readings.{restorable-facts}
 use Rattle.search.proofs.Views.{restorable-valid, restorable-bounded}
 use Rattle.openness.specs.Plan.{family_by}
 use Rattle.openness.proofs.Molecules.{TableOf, table_of, family-of}
-use Rattle.runner.specs.Parts.{Ready, outcome_by, Yields}
+use Rattle.runner.specs.Parts.{Ready, Yields}
 
 module _ (m : Molecule) (q : Search) (table : List ℕ) (ok : well_formed m ≡ true) (kept : restorable m q ≡ true)
     (k : TableOf m q.kind q.t table) where
   same-family : family_by m.atoms table q.kind q.s q.t ≡ family m q
   same-family = family-of ok k q.s
 
-  pub ready : length q.prefix ≡ 128 → Ready m.atoms table q
+  pub ready :
+      {at : ℕ × ℕ} → length q.prefix ≡ 128 →
+      Ready (record {
+        table = record { ref_ptr = at; now = table };
+        n = m.atoms;
+        kind = q.kind;
+        s = q.s;
+        t = q.t;
+      }) q
   ready full =
       let f = restorable-facts m q kept in
       record {
@@ -39,11 +48,14 @@ module _ (m : Molecule) (q : Search) (table : List ℕ) (ok : well_formed m ≡ 
         bounded = restorable-bounded m q kept;
       }
 
+  abbrev outcome_over : ℕ → List ℕ → Outcome
+  outcome_over budget out = run (family_by m.atoms table q.kind q.s q.t) budget (length out) (state_of q)
+
   pub answers-run :
-      (budget : ℕ) {out last : List ℕ} {r : Ran} → Yields q (outcome_by m.atoms table q budget out) out r last →
-      (r ≡ run_search m q budget out) × (last ≡ run_output m q budget out)
+      (budget : ℕ) {out last : List ℕ} {r : Ran} → Yields q (outcome_over budget out) out r last →
+      (Ok r ≡ run_search m q budget out) × (last ≡ run_output m q budget out)
   unfolding run_search run_output
   answers-run budget {out} y =
-      let same : outcome_by m.atoms table q budget out ≡ outcome m q budget out =
+      let same : outcome_over budget out ≡ outcome m q budget out =
       ap (λ (F : Family). run F budget (length out) (state_of q)) same-family in
-      rw (ok, kept, ← same) (y.result, y.output)
+      rw (ok, kept, ← same) (ap (λ (ran : Ran). Ok ran) y.result, y.output)

@@ -3,10 +3,10 @@
 use Prim.Native.Nat.{ℕ, zero, suc, ◌+◌, ◌-◌, ◌≤◌, ◌<◌}
 use native.Mathlib.Omega.{arith}
 use mathlib.Core.Path.{◌≡◌, refl, sym, ◌∙◌}
-use mathlib.Core.Bool.{Bool, true, false}
+use mathlib.Core.Bool.{false}
+use Rattle.std.specs.Prelude.{Option, Some}
 use mathlib.Core.List.{List}
 use lib.ListN.{take}
-use Rattle.graph.proofs.Below.{apart}
 use Rattle.enumeration.specs.Machine.{act}
 use Rattle.enumeration.proofs.Makes.{not_done, not_limit, unwound-stays}
 use Rattle.atomset.specs.Set.{has}
@@ -45,18 +45,16 @@ skip-more k at =
     rw (c, t)
 
 -- the first of these trials, and those after it
-first : {found : Plan} {at : Spot} {n k : ℕ} → Skips found false at n (suc k) → Skips found false at n 1
+first : {found : Plan} {at : Spot} {n k : ℕ} → Skips found at n (suc k) → Skips found at n 1
 first s = record {
-  fresh = refl;
   gap = record { within = omega (arith, s.gap.within); idle = λ i h. s.gap.idle i (omega arith) };
   trials_most = omega (arith, s.trials_most);
   extensions_other = s.extensions_other;
   listed_other = s.listed_other;
 }
 
-later : {found : Plan} {at : Spot} {n k : ℕ} → Skips found false at n (suc k) → Skips found false (raised at) n k
+later : {found : Plan} {at : Spot} {n k : ℕ} → Skips found at n (suc k) → Skips found (raised at) n k
 later {at = at} s = record {
-  fresh = refl;
   gap = record {
     within = omega (arith, s.gap.within);
     idle = λ i h.
@@ -68,17 +66,23 @@ later {at = at} s = record {
   listed_other = s.listed_other;
 }
 
+-- no trial is skipped
+pub skips-none :
+    {T : Task} {out prefix : List ℕ} {plan : Option Plan} {used made : ℕ} {at : Spot} →
+    Turning T out prefix at plan used made → Turning T out prefix (skip 0 at) plan used (made + 0)
+skips-none {made = made} {at = at} t = let m : made + 0 ≡ made = omega arith in rw (m, skip-none at) t
+
 module _ {T : Task} {out prefix : List ℕ} {found : Plan} {used : ℕ} where
   one :
-      {at : Spot} {made : ℕ} → Turning T out prefix at found false used made → made < T.budget →
-      Skips found false at T.n 1 → Turning T out prefix (raised at) found false used (made + 1)
+      {at : Spot} {made : ℕ} → Turning T out prefix at (Some found) used made → made < T.budget →
+      Skips found at T.n 1 → Turning T out prefix (raised at) (Some found) used (made + 1)
   one {at} {made} t b s =
       turn here told
       (written_none _ _ _ _ (sym (member-told here told) ∙ none.0)) (sym none.0) (sym none.1)
       (record { within = t.standing.within; state_is = raised-state T.n prefix at below })
-      (record { same = λ e. refl })
+      (λ kept e. (cc, refl))
     where
-      here : Trying T out prefix at found false used made
+      here : Trying T out prefix at (Some found) used made
       here = record {
         turning = t;
         not_done = rw T.atoms (not_done T.n (state_at prefix at) (omega (arith, s.gap.within)));
@@ -90,23 +94,21 @@ module _ {T : Task} {out prefix : List ℕ} {found : Plan} {used : ℕ} where
       below = omega (arith, s.gap.within)
 
       told : Ahead T.family (take at.len prefix) at.next found
-      told = t.told refl
+      told = t.told found refl
 
       none : (has found.members at.next ≡ false) × (has found.opens at.next ≡ false)
       none = let z : at.next + 0 ≡ at.next = omega arith in rw z at (s.gap.idle 0 (omega arith))
 
   many :
-      (k : ℕ) {at : Spot} {made : ℕ} → Turning T out prefix at found false used made → made + k ≤ T.budget →
-      Skips found false at T.n k → Turning T out prefix (skip k at) found false used (made + k)
+      (k : ℕ) {at : Spot} {made : ℕ} → Turning T out prefix at (Some found) used made → made + k ≤ T.budget →
+      Skips found at T.n k → Turning T out prefix (skip k at) (Some found) used (made + k)
   many zero {at} {made} t b s = let m : made + 0 ≡ made = omega arith in rw (m, skip-none at) t
   many (suc k) {at} {made} t b s =
       let m : made + suc k ≡ made + 1 + k = omega arith in
       rw (m, ← skip-more k at) (many k (one t (omega arith) (first s)) (omega arith) (later s))
 
   pub skips :
-      (stale : Bool) {at : Spot} {made : ℕ} (k : ℕ) → Turning T out prefix at found stale used made →
-      Idle found stale at T.n (T.budget - made) k → Turning T out prefix (skip k at) found stale used (made + k)
-  skips stale {at} {made} zero t i = let m : made + 0 ≡ made = omega arith in rw (m, skip-none at) t
-  skips true (suc k) t i = absurd (apart (i.runs (omega arith)).fresh)
-  skips false (suc k) t i =
-      many (suc k) t (omega (arith, i.affordable, t.going.in_budget)) (i.runs (omega arith))
+      (k : ℕ) {at : Spot} {made : ℕ} → Turning T out prefix at (Some found) used made →
+      Idle found at T.n (T.budget - made) k → Turning T out prefix (skip k at) (Some found) used (made + k)
+  skips zero t i = skips-none t
+  skips (suc k) t i = many (suc k) t (omega (arith, i.affordable, t.going.in_budget)) (i.runs (omega arith))

@@ -4,13 +4,14 @@ use Prim.Native.Nat.{ℕ, zero, suc, ◌+◌, ◌-◌, ◌≤◌, ◌<◌}
 use native.Mathlib.Decide.{dec_lt}
 use native.Mathlib.Omega.{arith}
 use mathlib.Core.Path.{◌≡◌, refl, ap, sym, ◌∙◌}
-use mathlib.Core.Bool.{Bool, true, false, ◌&&◌}
+use mathlib.Core.Bool.{Bool, true, false, ◌&&◌, cond}
+use Rattle.std.specs.Prelude.{Option, Some, None}
+use Rattle.std.specs.Option.{ForSome}
 use mathlib.Core.List.{List, [], ◌∷◌, ◌++◌, reverse}
 use lib.ListN.{length, take, drop, take-append-drop}
 use lib.Dec.{eqb}
-use borrow.Author.Tests.{ne_eqb}
+use borrow.Author.Tests.{ne_eqb, eqb-true, eqb-false}
 use borrow.Rule.Slice.PartMut.{put_mid}
-use Rattle.graph.proofs.Below.{apart}
 use Rattle.enumeration.specs.declared.Stop.{Stop}
 use Rattle.enumeration.specs.declared.Stop.TheVariants.{Done, Limit, Spent, Full}
 use Rattle.enumeration.specs.Words.{Family, is_open}
@@ -23,18 +24,19 @@ use Rattle.enumeration.proofs.Trial.{shut}
 use Rattle.enumeration.proofs.Theorems.{trial-valid, valid-short, valid-next}
 use Rattle.atomset.specs.Set.{has}
 use Rattle.search.specs.declared.Search.{Search}
-use Rattle.search.specs.declared.Ran.{Ran}
 use Rattle.search.specs.Place.{beginning, state_of}
 use Rattle.openness.specs.declared.Plan.{Plan}
-use Rattle.openness.specs.Plan.{family_by, Tells, Ahead, FirstTells}
+use Rattle.openness.specs.declared.Wanted.{Wanted}
+use Rattle.openness.specs.Plan.{family_wanted, Tells, Ahead, FirstTells}
 use Rattle.openness.proofs.Plans.{family-by-lawful, family-by-atoms}
 use Rattle.trial.specs.declared.Spot.{Spot}
-use Rattle.trial.specs.Parts.{stack_of, state_at, spot_of, Held, HeldWithRoom, Counting, Acted, Stale}
+use Rattle.trial.specs.Parts.{stack_of, state_at, spot_of, search_held, Held, HeldWithRoom, Counting, Acted}
 use Rattle.trial.proofs.Arrays.{stack-length, stack-back, stack-more, place_of}
 use Rattle.trial.proofs.Arrays.{act-longer, act-same, search-held, tried-word}
 use Rattle.trial.proofs.Bytes.{part_length, part-back, record-length}
 use Rattle.openness.specs.declared.FirstPlan.{FirstPlan}
-use Rattle.runner.specs.Parts.{stopped_at, Ready, Yields}
+use Rattle.dive.specs.declared.Level.{Level}
+use Rattle.runner.specs.Parts.{Ready, stop_before, Yields}
 use Rattle.runner.proofs.Turns.{Going, going-starts, going-length, going-used, going-turn, going-answers}
 use Rattle.runner.proofs.Turns.{Below, below-limit, act-bounded, run-done, run-limit, run-spent, run-full}
 
@@ -57,12 +59,12 @@ pub record Task : Type 0 where
   pub output : List ℕ
   pub from : State
 
-abbrev pub task_of : ℕ → List ℕ → Search → ℕ → List ℕ → Task
-task_of n table q budget out = record {
-  n = n;
-  family = family_by n table q.kind q.s q.t;
-  lawful = family-by-lawful n table q.kind q.s q.t;
-  atoms = family-by-atoms n table q.kind q.s q.t;
+abbrev pub task_of : Wanted → Search → ℕ → List ℕ → Task
+task_of w q budget out = record {
+  n = w.n;
+  family = family_wanted w;
+  lawful = family-by-lawful w.n w.table.now w.kind w.s w.t;
+  atoms = family-by-atoms w.n w.table.now w.kind w.s w.t;
   budget = budget;
   output = out;
   from = state_of q;
@@ -70,31 +72,31 @@ task_of n table q budget out = record {
 
 -- ---- what a run keeps
 
-pub record Turning (T : Task) (out prefix : List ℕ) (at : Spot) (found : Plan) (stale : Bool) (used made : ℕ) : Type 0
+pub record Turning (T : Task) (out prefix : List ℕ) (at : Spot) (plan : Option Plan) (used made : ℕ) : Type 0
   where
     pub few : T.n ≤ 128
     pub standing : HeldWithRoom prefix at.len
     pub valid : Valid T.family (state_at prefix at)
     pub bounded : Bounded (state_at prefix at)
-    -- a plan that is not stale tells of the next atom and of those after it, up to the first that opens
-    pub told : stale ≡ false → Ahead T.family (take at.len prefix) at.next found
+    -- the plan tells of the next atom and of those after it, up to the first that opens
+    pub told : ForSome plan (λ found. Ahead T.family (take at.len prefix) at.next found)
     pub going : Going T.family T.budget T.output T.from out (state_at prefix at) used made
 
--- with the plan of a beginning of one atom, and the slice of the fast loop, as long as at the start
-pub record Looping (T : Task) (kept₀ kept out prefix : List ℕ) (at : Spot) (found : Plan) (stale : Bool)
-    (first : FirstPlan) (used made : ℕ) : Type 0 where
-  pub turning : Turning T out prefix at found stale used made
+-- with the plan of a beginning of one atom, and the levels of the fast loop, as many as at the start
+pub record Looping (T : Task) (levels₀ levels : List Level) (out prefix : List ℕ) (at : Spot) (plan : Option Plan)
+    (first : Option FirstPlan) (used made : ℕ) : Type 0 where
+  pub turning : Turning T out prefix at plan used made
   pub tells : FirstTells T.family first
-  pub sized : length kept ≡ length kept₀
+  pub sized : length levels ≡ length levels₀
 
--- there is no first plan
-pub none-tells : {F : Family} {first : FirstPlan} → first.atom ≡ 0 → FirstTells F first
-none-tells none low = absurd (omega arith)
+-- a plan that is kept is that of the beginning, which is as long as it was
+abbrev pub Kept : ℕ → ℕ → Plan → Option Plan → Type 0
+Kept before after found plan = ForSome plan (λ kept. (kept ≡ found) × (before ≡ after))
 
 -- no test has stopped it: a trial follows
-pub record Trying (T : Task) (out prefix : List ℕ) (at : Spot) (found : Plan) (stale : Bool) (used made : ℕ) : Type 0
+pub record Trying (T : Task) (out prefix : List ℕ) (at : Spot) (plan : Option Plan) (used made : ℕ) : Type 0
   where
-    pub turning : Turning T out prefix at found stale used made
+    pub turning : Turning T out prefix at plan used made
     pub not_done : is_done T.family.atoms (state_at prefix at) ≡ false
     pub not_limit : at_limit (state_at prefix at) ≡ false
     pub paid : made < T.budget
@@ -140,22 +142,25 @@ module _ (F : Family) (st : State) where
   }
 
 pub starts :
-    {n : ℕ} {table : List ℕ} {q : Search} (budget : ℕ) (out : List ℕ) (found : Plan) → Ready n table q →
-    Turning (task_of n table q budget out) out q.prefix (spot_of q) found true 0 0
+    {w : Wanted} {q : Search} (budget : ℕ) (out : List ℕ) → Ready w q →
+    Turning (task_of w q budget out) out q.prefix (spot_of q) None 0 0
 unfolding state_of beginning
-starts budget out found r = record {
+starts budget out r = record {
   few = r.words.few;
   standing = r.standing;
   valid = r.valid;
   bounded = r.bounded;
-  told = λ e. absurd (apart e);
+  told = λ found e. absurd (cc);
   going = going-starts;
 }
 
 -- ---- at the head of a turn
 
-module _ {T : Task} {out prefix : List ℕ} {at : Spot} {found : Plan} {stale : Bool} {used made : ℕ}
-    (t : Turning T out prefix at found stale used made) where
+some-same : {a b : Stop} → Some a ≡ Some b → a ≡ b
+some-same e = cc
+
+module _ {T : Task} {out prefix : List ℕ} {at : Spot} {plan : Option Plan} {used made : ℕ}
+    (t : Turning T out prefix at plan used made) where
   abbrev st : State
   st = state_at prefix at
 
@@ -176,7 +181,7 @@ module _ {T : Task} {out prefix : List ℕ} {at : Spot} {found : Plan} {stale : 
   pub next-most : at.next ≤ suc T.n
   next-most = omega (arith, valid-next T.family T.lawful st t.valid, T.atoms)
 
-  pub done-test : is_done T.family.atoms st ≡ eqb at.len 0 && eqb at.next (suc T.n)
+  done-test : is_done T.family.atoms st ≡ eqb at.len 0 && eqb at.next (suc T.n)
   unfolding is_done
   done-test = rw (T.atoms, stack-none prefix at.len t.standing.within)
 
@@ -190,29 +195,51 @@ module _ {T : Task} {out prefix : List ℕ} {at : Spot} {found : Plan} {stale : 
   lists-size : T.family.member (tried st) ≡ true → length (lists T.family st) ≡ at.len + 2
   lists-size e = ap length (record_is e) ∙ record-size
 
-  -- the ways out
-  pub stops-done : is_done T.family.atoms st ≡ true → StopsBy T prefix at used made Done
-  stops-done d = run-done _ _ st _ d
+  -- the tests before a trial: each is a way out, and past them a trial follows
+  stops-by : {why : Stop} (d l b : Bool) →
+      is_done T.family.atoms st ≡ d → at_limit st ≡ l → eqb made T.budget ≡ b →
+      cond d (Some Done) (cond l (Some Limit) (cond b (Some Spent) None)) ≡ Some why →
+      StopsBy T prefix at used made why
+  stops-by true l b d e f why = rw (← some-same why) (run-done _ _ st _ d)
+  stops-by false true b d e f why = rw (← some-same why) (run-limit _ _ st d _ e)
+  stops-by false false true d e f why =
+      rw (← some-same why) (run-spent _ _ st d e _ (omega (arith, eqb-true made T.budget f)))
+  stops-by false false false d e f why = absurd (cc)
 
-  pub stops-limit : is_done T.family.atoms st ≡ false → at_limit st ≡ true → StopsBy T prefix at used made Limit
-  stops-limit d l = run-limit _ _ st d _ l
+  goes-by : (d l b : Bool) →
+      is_done T.family.atoms st ≡ d → at_limit st ≡ l → eqb made T.budget ≡ b →
+      cond d (Some Done) (cond l (Some Limit) (cond b (Some Spent) None)) ≡ None →
+      Trying T out prefix at plan used made
+  goes-by true l b d e f none = absurd (cc)
+  goes-by false true b d e f none = absurd (cc)
+  goes-by false false true d e f none = absurd (cc)
+  goes-by false false false d e f none = record {
+    turning = t;
+    not_done = d;
+    not_limit = e;
+    paid = omega (arith, t.going.in_budget, eqb-false made T.budget f);
+  }
 
-  pub stops-spent :
-      is_done T.family.atoms st ≡ false → at_limit st ≡ false → made ≡ T.budget → StopsBy T prefix at used made Spent
-  stops-spent d l e = run-spent _ _ st d l _ (omega arith)
+  pub stops : {why : Stop} → stop_before at T.n made T.budget ≡ Some why → StopsBy T prefix at used made why
+  unfolding at_limit
+  stops e = stops-by _ _ _ done-test refl refl e
+
+  pub tries : stop_before at T.n made T.budget ≡ None → Trying T out prefix at plan used made
+  unfolding at_limit
+  tries e = goes-by _ _ _ done-test refl refl e
 
   pub answers :
-      (q : Search) {r : Ran} {why : Stop} → r ≡ stopped_at q prefix at why used made →
+      (q : Search) {search : Search} {why : Stop} → search ≡ search_held q.kind q.s q.t prefix at →
       StopsBy T prefix at used made why →
-      Yields q (run T.family T.budget (length T.output) T.from) T.output r out
+      Yields q (run T.family T.budget (length T.output) T.from) T.output
+      (record { stop = why; search = search; used = used; made = made }) out
   answers q f e =
-      let held = search-held q.kind q.s q.t prefix at t.standing in
-      rw f (going-answers t.going q held e)
+      going-answers t.going q (f ∙ search-held q.kind q.s q.t prefix at t.standing) e
 
 -- ---- at a trial
 
-module _ {T : Task} {out prefix : List ℕ} {at : Spot} {found : Plan} {stale : Bool} {used made : ℕ}
-    (t : Trying T out prefix at found stale used made) where
+module _ {T : Task} {out prefix : List ℕ} {at : Spot} {plan : Option Plan} {used made : ℕ}
+    (t : Trying T out prefix at plan used made) where
   abbrev now : State
   now = state_at prefix at
 
@@ -255,15 +282,14 @@ module _ {T : Task} {out prefix : List ℕ} {at : Spot} {found : Plan} {stale : 
         fits = omega (arith, size);
       }
 
-  -- a trial after which the plan is not stale: the beginning is as it was, and the next atom is raised
-  module _ {prefix' : List ℕ} {at' : Spot} {member extends stale' : Bool}
-      (a : Acted T.n prefix at member extends prefix' at') (fresh : Stale at.len at'.len stale')
-      (e : stale' ≡ false) where
+  -- a trial after which the beginning is as long as it was: it is the same, and the next atom is raised
+  module _ {prefix' : List ℕ} {at' : Spot} {member extends : Bool}
+      (a : Acted T.n prefix at member extends prefix' at') (same : at.len ≡ at'.len) where
     same_length : length (act T.n member extends now).stack ≡ length (stack_of prefix at.len)
     same_length =
         ap (λ (s : State). length s.stack) (sym a.state_is)
         ∙ stack-length prefix' at'.len a.within
-        ∙ sym (fresh.same e)
+        ∙ sym same
         ∙ sym (stack-length prefix at.len t.turning.standing.within)
 
     same_place : place_of (state_at prefix' at') ≡ (stack_of prefix at.len, suc at.next)
@@ -295,44 +321,45 @@ module _ {T : Task} {out prefix : List ℕ} {at : Spot} {found : Plan} {stale : 
         go true true l f g = g ∙ shut T.family T.lawful (stack_of prefix at.len) at.next (sym f)
         go false true l f g = absurd (act-longer T.n now (omega (arith, next-range)) l)
 
-  module _ {plan : Plan} (ahead : Ahead T.family (take at.len prefix) at.next plan) where
-    told-next : Tells T.family (take at.len prefix) plan at.next
+  module _ {found : Plan} (ahead : Ahead T.family (take at.len prefix) at.next found) where
+    told-next : Tells T.family (take at.len prefix) found at.next
     told-next = ahead at.next (omega arith) (λ u l h. absurd (omega arith))
 
-    pub member-told : has plan.members at.next ≡ T.family.member (tried now)
+    pub member-told : has found.members at.next ≡ T.family.member (tried now)
     member-told = told-next.members ∙ ap T.family.member (sym (tried-word prefix at))
 
-    open_told : has plan.opens at.next ≡ is_open T.family (tried now)
+    open_told : has found.opens at.next ≡ is_open T.family (tried now)
     open_told = told-next.opens ∙ ap (is_open T.family) (sym (tried-word prefix at))
 
     -- where the next atom does not open, they tell of those after it
     ahead-raised :
-        has plan.opens at.next ≡ false → Ahead T.family (take at.len prefix) (suc at.next) plan
+        has found.opens at.next ≡ false → Ahead T.family (take at.len prefix) (suc at.next) found
     ahead-raised shut-here v l none = ahead v (omega arith) (λ u k h. go u k h (dec_lt at.next u))
       where
-        go : (u : ℕ) → at.next ≤ u → u < v → Dec (at.next < u) → has plan.opens u ≡ false
+        go : (u : ℕ) → at.next ≤ u → u < v → Dec (at.next < u) → has found.opens u ≡ false
         go u k h (yes past) = none u past h
         go u k h (no other) = let same : u ≡ at.next = omega arith in rw same shut-here
 
     pub turn :
-        {out' prefix' : List ℕ} {used' : ℕ} {at' : Spot} {member extends stale' : Bool} →
-        Written T.family out used now out' used' → member ≡ has plan.members at.next →
-        extends ≡ has plan.opens at.next → Acted T.n prefix at member extends prefix' at' →
-        Stale at.len at'.len stale' → Turning T out' prefix' at' plan stale' used' (made + 1)
-    turn {out'} {prefix'} {used'} {at'} {member} {extends} {stale'} w m x a fresh = record {
+        {out' prefix' : List ℕ} {used' : ℕ} {at' : Spot} {member extends : Bool} {plan' : Option Plan} →
+        Written T.family out used now out' used' → member ≡ has found.members at.next →
+        extends ≡ has found.opens at.next → Acted T.n prefix at member extends prefix' at' →
+        Kept at.len at'.len found plan' → Turning T out' prefix' at' plan' used' (made + 1)
+    turn {out'} {prefix'} {used'} {at'} {member} {extends} w m x a k = record {
       few = old.few;
       standing = record { within = a.within; short = short' };
       valid = valid';
       bounded = rw a.state_is (act-bounded T.n member extends now below);
-      told = λ e.
-          let shut-here = sym x ∙ not-opening a fresh e (m ∙ member-told) (x ∙ open_told) in
-          rw (same-beginning a fresh e, next-raised a fresh e) (ahead-raised shut-here);
+      told = λ plan e.
+          let (is, same) = k plan e in
+          let shut-here = sym x ∙ not-opening a same (m ∙ member-told) (x ∙ open_told) in
+          rw (is, same-beginning a same, next-raised a same) (ahead-raised shut-here);
       going =
           rw (stepped, w.count)
           (going-turn old.going t.not_done t.not_limit t.paid w.output w.fits);
     }
       where
-        old : Turning T out prefix at found stale used made
+        old : Turning T out prefix at plan used made
         old = t.turning
 
         below : Below now

@@ -19,7 +19,6 @@ use Rattle.enumeration.proofs.Makes.{onto-none, onto-onto, makes_one, makes-run}
 pub use Rattle.enumeration.proofs.Running.{run-done, run-limit, run-spent, run-full}
 use Rattle.search.specs.declared.Search.{Search}
 use Rattle.search.specs.declared.Ran.{Ran}
-use Rattle.search.specs.declared.Ended.TheVariants.{Stopped}
 use Rattle.search.specs.Place.{search_at}
 use Rattle.trial.proofs.Gaps.{none-at-limit}
 use Rattle.runner.specs.Parts.{Yields}
@@ -150,6 +149,6 @@ module _ {F : Family} {budget : ℕ} {out₀ : List ℕ} {st₀ : State} where
     pub going-answers :
         (q : Search) {at : Search} {why : Stop} → at ≡ search_at q.kind q.s q.t st →
         run F (budget - made) (length out₀ - used) st ≡ stopped st why →
-        let result : Ran = record { ended = Stopped why; search = at; used = used; made = made } in
+        let result : Ran = record { stop = why; search = at; used = used; made = made } in
         Yields q (run F budget (length out₀) st₀) out₀ result out
     going-answers q f e = rw (going-ends e) (record { result = rw (f, g.used_is); output = g.wrote })

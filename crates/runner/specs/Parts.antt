@@ -1,35 +1,45 @@
 -- What the run over a word table asks and promises.
 -- Nothing to believe: the contract of `run_checked` is the definition of a run.
-use Rattle.std.specs.Prelude.{ℕ, ◌≡◌, true, List, ◌++◌, length, drop}
-use Rattle.enumeration.specs.Run.{Outcome, run}
+use Rattle.std.specs.Prelude.{ℕ, suc, ◌≡◌, true, ◌&&◌, ◌||◌, cond, List, ◌++◌, length, drop, eqb, Option, Some, None}
+use Rattle.enumeration.specs.declared.Stop.{Stop}
+use Rattle.enumeration.specs.declared.Stop.TheVariants.{Done, Limit, Spent}
+use Rattle.enumeration.specs.Words.{Family}
+use Rattle.enumeration.specs.Run.{Outcome, limit, run}
 use Rattle.enumeration.specs.Trials.{Valid}
 use Rattle.enumeration.specs.RunFacts.{Bounded}
-use Rattle.enumeration.specs.declared.Stop.{Stop}
 use Rattle.search.specs.declared.Search.{Search}
-use Rattle.search.specs.declared.Ended.TheVariants.{Stopped}
 use Rattle.search.specs.declared.Ran.{Ran}
 use Rattle.search.specs.Place.{state_of, kind_kept}
 use Rattle.search.specs.Entries.{ran}
-use Rattle.openness.specs.Plan.{family_by, SearchTable}
+use Rattle.openness.specs.declared.Wanted.{Wanted}
+use Rattle.openness.specs.declared.Found.{Found}
+use Rattle.openness.specs.Plan.{family_wanted, SearchTable, Ahead, FirstTells}
 use Rattle.trial.specs.declared.Spot.{Spot}
-use Rattle.trial.specs.Parts.{search_held, HeldWithRoom}
-
--- the answer of a run of q that has stopped there
-abbrev pub stopped_at : Search → List ℕ → Spot → Stop → ℕ → ℕ → Ran
-stopped_at q prefix at stop used made =
-    record { ended = Stopped stop; search = search_held q.kind q.s q.t prefix at; used = used; made = made }
+use Rattle.trial.specs.Parts.{HeldWithRoom}
 
 -- a search that a run over a word table starts from
-pub record Ready (n : ℕ) (table : List ℕ) (q : Search) : Type 0 where
-  pub words : SearchTable n table q.kind q.t
-  pub kinds : kind_kept n q.kind q.s q.t ≡ true
+pub record Ready (w : Wanted) (q : Search) : Type 0 where
+  pub words : SearchTable w.n w.table.now w.kind w.t
+  pub kinds : kind_kept w.n w.kind w.s w.t ≡ true
   pub standing : HeldWithRoom q.prefix q.len
-  pub valid : Valid (family_by n table q.kind q.s q.t) (state_of q)
+  pub valid : Valid (family_wanted w) (state_of q)
   pub bounded : Bounded (state_of q)
 
+-- why a run makes no trial at a place, if it does not: tried in this order
+abbrev pub stop_before : Spot → ℕ → ℕ → ℕ → Option Stop
+stop_before at n made budget =
+    cond (eqb at.len 0 && eqb at.next (suc n)) (Some Done)
+    (cond (eqb at.trials limit || eqb at.extensions limit || eqb at.listed limit) (Some Limit)
+    (cond (eqb made budget) (Some Spent) None))
+
+-- what is found at the beginning p: the plan tells of the next atom c and of those up to the first that opens
+pub record Finds (F : Family) (p : List ℕ) (c : ℕ) (found : Found) : Type 0 where
+  pub ahead : Ahead F p c found.plan
+  pub tells : FirstTells F found.first
+
 -- its outcome by the definition
-abbrev pub outcome_by : ℕ → List ℕ → Search → ℕ → List ℕ → Outcome
-outcome_by n table q budget out = run (family_by n table q.kind q.s q.t) budget (length out) (state_of q)
+abbrev pub outcome_by : Wanted → Search → ℕ → List ℕ → Outcome
+outcome_by w q budget out = run (family_wanted w) budget (length out) (state_of q)
 
 -- an output after an outcome: its bytes, and then what was there
 abbrev pub run_onto : Outcome → List ℕ → List ℕ

@@ -2,168 +2,185 @@
 // or full.
 #![tactic(auto)]
 
-ghost use Rattle.std.specs.Prelude.{◌≡◌, true, ◌≤◌};
-ghost use Rattle.atomset.specs.Set.{has};
+ghost use Rattle.std.specs.Prelude.{◌≡◌, true, ◌<◌, ◌≤◌, Ok};
+ghost use Rattle.std.specs.Option.{ForSome};
 ghost use Rattle.molecule.specs.Record.{well_formed};
 ghost use Rattle.search.specs.Place.{restorable};
 ghost use Rattle.search.specs.Entries.{run_search, run_output};
+ghost use Rattle.openness.specs.Plan.{family_wanted, Planning, Ahead};
+ghost use Rattle.trial.specs.Parts.{search_held};
 ghost use Rattle.dive.specs.Levels.{LevelRoom};
-ghost use Rattle.runner.specs.Parts.{stopped_at, Ready, outcome_by, Yields};
+ghost use Rattle.runner.specs.Parts.{Ready, stop_before, Finds, outcome_by, Yields};
 
+use dive::{Dived, Level};
 use enumeration::Stop;
 use molecule::Molecule;
-use openness::{FirstPlan, Plan};
-use search::{Ended, Ran, Search};
+use openness::{Aim, FirstPlan, Found, Plan, Wanted};
+use search::{Ran, Search};
 use trial::Spot;
 
-// No atom makes a member or opens a beginning.
-fn no_plan() -> Plan {
-    let none = atomset::empty();
-    Plan {
-        members: none,
-        opens: none,
-    }
-}
-
-// No plan of a beginning of one atom.
-fn no_first() -> FirstPlan
-    ensures { result.atom ≡ 0 }
+// The search of q at a place.
+fn search_at(q: Search, prefix: [u8; 128], at: Spot) -> Search
+    ensures { result ≡ search_held q.kind q.s q.t prefix at }
 {
-    let plan = no_plan();
-    FirstPlan {
-        plan: plan,
-        atom: 0,
-    }
-}
-
-// Whether the beginning with c added is a member, by the plan.
-fn lists_at(found: Plan, c: usize) -> bool
-    requires { (1 ≤ c) × (c ≤ 128) }
-    ensures { result ≡ has found.members c }
-{
-    let members = found.members;
-    atomset::contains(members, c)
-}
-
-// Whether it is open, by the plan.
-fn opens_at(found: Plan, c: usize) -> bool
-    requires { (1 ≤ c) × (c ≤ 128) }
-    ensures { result ≡ has found.opens c }
-{
-    let opens = found.opens;
-    atomset::contains(opens, c)
-}
-
-// The answer of a run of q that has stopped at a place.
-fn stopped(q: Search, prefix: [u8; 128], at: Spot, stop: Stop, used: usize, made: u64) -> Ran
-    ensures { result ≡ stopped_at q prefix at stop used made }
-{
-    let search = Search {
-        kind: q.kind,
-        s: q.s,
-        t: q.t,
+    Search {
         len: at.len,
-        prefix: prefix,
+        prefix,
         next: at.next,
         trials: at.trials,
         extensions: at.extensions,
         listed: at.listed,
-    };
-    Ran {
-        ended: Ended::Stopped(stop),
-        search: search,
-        used: used,
-        made: made,
+        ..q
     }
 }
 
-// The run of a search that rule 12 allows, over the table of the search; `kept` is for the fast loop's sets.
+// Why a run that has made so many trials makes no further one, if it does not.
+fn stop_before(at: Spot, n: usize, made: u64, budget: u64) -> Option<Stop>
+    requires { n ≤ 128 }
+    ensures { result ≡ stop_before at n made budget }
+{
+    if at.is_done(n) {
+        return Some(Stop::Done);
+    }
+    if at.at_limit() {
+        return Some(Stop::Limit);
+    }
+    if made == budget {
+        return Some(Stop::Spent);
+    }
+    None
+}
+
+// What a trial finds at a beginning, by its plan where that is known, or by a new one.
+fn found_at(
+    wanted: Wanted<'_>,
+    beginning: &[u8],
+    c: usize,
+    plan: Option<Plan>,
+    first: Option<FirstPlan>,
+) -> Found
+    requires { Planning wanted.n wanted.table.now wanted.kind wanted.s wanted.t beginning.now c first ×
+        ForSome plan (Ahead (family_wanted wanted) beginning.now c) }
+    ensures { Finds (family_wanted wanted.entry) beginning.now c result }
+{
+    match plan {
+        Some(plan) => Found { plan, first },
+        None => openness::plan_at(wanted, beginning, c, first),
+    }
+}
+
+// The run of a search that rule 12 allows, over the table of the search; `levels` is for the fast loop.
+// Each record is written at the start of what is left of the output (document 01), so `used` goes beside `out`.
 fn run_trials(
-    table: &[u64; 256],
-    n: usize,
+    wanted: Wanted<'_>,
     q: Search,
     budget: u64,
-    kept: &mut [u64],
+    levels: &mut [Level],
     out: &mut [u8],
 ) -> Ran
-    requires { Ready n table.now q × LevelRoom n kept.old }
-    ensures { Yields q (outcome_by n table.now q budget out.old)
-        out.old result out.new }
+    requires { Ready wanted q × LevelRoom wanted.n levels.old }
+    ensures { Yields q (outcome_by wanted.entry q budget out.old) out.old result out.new }
 {
     let mut prefix = q.prefix;
-    let mut at = trial::spot_of(q);
-    let mut found = no_plan();
-    let mut stale = true;
-    let mut first = no_first();
+    let mut at = Spot::of(q);
+    // what is known of the present beginning, and of one of one atom
+    let mut plan: Option<Plan> = None;
+    let mut first: Option<FirstPlan> = None;
     let mut used: usize = 0;
     let mut made: u64 = 0;
     let stop = loop {
-        let idle = trial::idle_trials(found, stale, at, n, budget - made);
-        at = trial::skipped(at, idle);
+        let idle = match plan {
+            Some(found) => at.idle_trials(found, wanted.n, budget - made),
+            None => 0,
+        };
+        at = at.skipped(idle);
         made += idle as u64;
-        let len = at.len;
-        let c = at.next;
-        if trial::is_done(len, c, n) {
-            break Stop::Done;
+        if let Some(stop) = stop_before(at, wanted.n, made, budget) {
+            break stop;
         }
-        if trial::at_limit(at.trials, at.extensions, at.listed) {
-            break Stop::Limit;
-        }
-        if made == budget {
-            break Stop::Spent;
-        }
-        if stale {
-            let at_hand = openness::plan_at(table, n, q.kind, q.s, q.t, &prefix, len, c, first);
-            found = at_hand.plan;
-            first = at_hand.first;
-        }
-        let lists = lists_at(found, c);
+        let beginning = &prefix[..at.len];
+        let found = found_at(wanted, beginning, at.next, plan, first);
+        first = found.first;
+        let lists = atomset::contains(found.plan.members, at.next);
         if lists {
-            if out.len() - used < len + 2 {
+            if out.len() - used < at.len + 2 {
                 break Stop::Full;
             }
-            trial::put_record(&mut out[used..], &prefix, len, c);
-            used += len + 2;
+            trial::put_record(&mut out[used..], beginning, at.next);
+            used += at.len + 2;
         }
-        let spot = trial::act(&mut prefix, at, n, lists, opens_at(found, c));
+        let opens = atomset::contains(found.plan.opens, at.next);
+        let spot = trial::act(&mut prefix, at, wanted.n, lists, opens);
         made += 1;
-        stale = trial::is_stale(len, spot.len);
         let left = budget - made;
-        let dived = dive::descend(table, n, q, spot, left, first, used, &mut prefix, kept, out);
+        plan = if trial::is_stale(at.len, spot.len) {
+            None
+        } else {
+            Some(found.plan)
+        };
+        let from = Dived { at: spot, used };
+        let dived = dive::descend(wanted, from, left, first, &mut prefix, levels, out);
         at = dived.at;
         used = dived.used;
         made += at.trials - spot.trials;
     };
-    stopped(q, prefix, at, stop, used, made)
+    let search = search_at(q, prefix, at);
+    Ran {
+        stop,
+        search,
+        used,
+        made,
+    }
 }
 
-// The same with an array for the sets: a small molecule needs a small one, which is cheaper to make.
-fn run_over(table: &[u64; 256], n: usize, q: Search, budget: u64, out: &mut [u8]) -> Ran
-    requires { Ready n table.now q }
-    ensures { Yields q (outcome_by n table.now q budget out.old)
-        out.old result out.new }
+// The same with N levels for the fast loop.
+fn run_with<const N: usize>(wanted: Wanted<'_>, q: Search, budget: u64, out: &mut [u8]) -> Ran
+    requires { Ready wanted q × (wanted.n < N) × (N ≤ 129) }
+    ensures { Yields q (outcome_by wanted.entry q budget out.old) out.old result out.new }
 {
-    if n < 32 {
-        let mut few = [0u64; 192];
-        return run_trials(table, n, q, budget, &mut few, out);
+    let none = atomset::empty();
+    let aim = Aim {
+        goal: none,
+        free: none,
+    };
+    let mut levels = [Level { aim, rest: none }; N];
+    run_trials(wanted, q, budget, &mut levels, out)
+}
+
+// The same: a small molecule needs few levels, which are cheaper to make.
+fn run_over(wanted: Wanted<'_>, q: Search, budget: u64, out: &mut [u8]) -> Ran
+    requires { Ready wanted q }
+    ensures { Yields q (outcome_by wanted.entry q budget out.old) out.old result out.new }
+{
+    if wanted.n < 32 {
+        return run_with::<32>(wanted, q, budget, out);
     }
-    let mut kept = [0u64; 774];
-    run_trials(table, n, q, budget, &mut kept, out)
+    run_with::<129>(wanted, q, budget, out)
 }
 
 // The run of a search that rule 12 allows on a molecule that rule 9 allows: trials until done, limit, spent or full.
+// Rules 9 and 12 are clauses and no type: `docs/DECISIONS.md`, 10, names this function with the record and the search.
 pub fn run_checked(m: Molecule, q: Search, budget: u64, out: &mut [u8]) -> Ran
     requires { (well_formed m ≡ true) × (restorable m q ≡ true) }
-    ensures { (result ≡ run_search m q budget out.old) ×
+    ensures { (Ok result ≡ run_search m q budget out.old) ×
         (out.new ≡ run_output m q budget out.old) }
 {
-    let n = m.atoms;
-    let rows = m.rows;
-    let words = atomset::words_of(&rows);
+    let words = atomset::words_of(&m.rows);
+    let wanted = Wanted {
+        table: &words,
+        n: m.atoms,
+        kind: q.kind,
+        s: q.s,
+        t: q.t,
+    };
     // Of shortest paths the search goes by the bonds that lead one nearer to t.
     if q.kind == 3 {
-        let near = distance::nearing(&words, n, q.t);
-        return run_over(&near, n, q, budget, out);
+        let near = distance::nearing(&words, m.atoms, q.t);
+        let nearer = Wanted {
+            table: &near,
+            ..wanted
+        };
+        return run_over(nearer, q, budget, out);
     }
-    run_over(&words, n, q, budget, out)
+    run_over(wanted, q, budget, out)
 }

@@ -3,7 +3,7 @@
 use Prim.Native.Nat.{ℕ, suc, ◌≤◌}
 use native.Mathlib.Omega.{arith}
 use mathlib.Core.Path.{◌≡◌, refl, sym, ◌∙◌}
-use mathlib.Core.Bool.{Bool, true, false}
+use mathlib.Core.Bool.{Bool, true, ◌&&◌}
 use mathlib.Core.List.{List, [], ◌∷◌}
 use lib.ListN.{length, take}
 use lib.Dec.{eqb}
@@ -34,14 +34,11 @@ module _ (mol : Molecule) (q : Search) where
       r ≡ is_open (family mol q) (beginning q)
   open_told formed table words r e = e ∙ open-same mol formed table words q
 
-  pub place-shut :
-      is_open (family mol q) (beginning q) ≡ false → place_kept (family mol q) (beginning q) q.next ≡ false
-  unfolding place_kept
-  place-shut e = rw e
-
-  pub place-next :
-      length q.prefix ≡ 128 → q.len ≤ 127 → is_open (family mol q) (beginning q) ≡ true →
-      next_kept mol.atoms q.len q.next ≡ place_kept (family mol q) (beginning q) q.next
+  -- rule 17 is the test of c, and openness
+  pub place-is :
+      length q.prefix ≡ 128 → q.len ≤ 127 →
+      place_kept (family mol q) (beginning q) q.next ≡
+      (is_open (family mol q) (beginning q) && next_kept mol.atoms q.len q.next)
   unfolding place_kept next_kept
-  place-next full short e =
-      rw (e, family-atoms mol q.kind q.s q.t, empty-length (beginning q), beginning-length q full short)
+  place-is full short =
+      rw (family-atoms mol q.kind q.s q.t, empty-length (beginning q), beginning-length q full short)

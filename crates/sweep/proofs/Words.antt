@@ -34,10 +34,6 @@ pub record NeighboursPassed (adj : Adjacency) (word k : ℕ) (all : List ℕ) (l
   pub done : (j a : ℕ) → bit word j ≡ true → adj (64 * k + j + 1) a ≡ true → (has all a ≡ true) ⊎ (bit left j ≡ true)
 
 module _ {adj : Adjacency} {word k : ℕ} where
-  pub passed_none : {all : List ℕ} → ((a : ℕ) → has all a ≡ false) → NeighboursPassed adj word k all word
-  passed_none {all} none =
-      record { some = λ a e. absurd (clash (has all a) e (none a)); within = λ j b. b; done = λ j a b e. inr b }
-
   pub passed-more :
       {all more : List ℕ} {row : ℕ → Bool} {left j : ℕ} → NeighboursPassed adj word k all left → LowestBit left j →
       ((a : ℕ) → row a ≡ adj (64 * k + j + 1) a) → ((a : ℕ) → has more a ≡ (has all a || row a)) →
@@ -70,13 +66,6 @@ module _ {adj : Adjacency} {word k : ℕ} where
           split (inr h) (yes q) = inl (more_is a ∙ or_right (has all a) (row a) (row_is a ∙ (rw q at e)))
           split (inr h) (no q) =
               inr (rest i ∙ and_both (bit left i) (not (eqb i j)) h (not-of (eqb i j) (ne_eqb i j q)))
-
-  pub passed-all : {all : List ℕ} {left : ℕ} → NeighboursPassed adj word k all left → left ≡ 0 → NearWord adj word k all
-  passed-all {all} {left} p z = record { only = p.some; every = λ j a b e. finish j a (p.done j a b e) }
-    where
-      finish : (j a : ℕ) → (has all a ≡ true) ⊎ (bit left j ≡ true) → has all a ≡ true
-      finish j a (inl h) = h
-      finish j a (inr h) = absurd (clash (bit left j) h (ap (λ (n : ℕ). bit n j) z ∙ bit-none j))
 
 -- ---- the words of a round
 

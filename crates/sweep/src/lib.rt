@@ -7,6 +7,7 @@ ghost use Rattle.chordless.specs.Reach.{Symmetric};
 ghost use Rattle.sweep.specs.Swept.{Reached, NearWord};
 
 // The atoms bonded to an atom of word k of a set.
+// What a call answers gets a name first: the borrow checker doesn't cover a call that assigns to a variable of arrays.
 pub fn near_word(table: &[u64; 256], word: u64, k: usize) -> [u64; 2]
     requires { k < 2 }
     ensures { NearWord (linked_by table.now) word k result }
@@ -18,7 +19,7 @@ pub fn near_word(table: &[u64; 256], word: u64, k: usize) -> [u64; 2]
         let row = atomset::row(table, 64 * k + j + 1);
         let more = atomset::union(all, row);
         all = more;
-        left = left & (left - 1);
+        left &= left - 1;
     }
     all
 }
@@ -39,13 +40,10 @@ pub fn reached(
     let mut left = want;
     let mut unseen = free;
     let mut front = targets;
-    let mut rounds = steps;
-    'sweep: while rounds != 0 {
-        rounds -= 1;
+    'sweep: for _ in 0..steps {
         let taken = front;
         front = atomset::empty();
-        let mut k: usize = 0;
-        while k < 2 {
+        for k in 0..2 {
             if taken[k] != 0 {
                 let near = near_word(table, taken[k], k);
                 let undecided = atomset::minus(left, near);
@@ -59,7 +57,6 @@ pub fn reached(
                 let more = atomset::union(front, fresh);
                 front = more;
             }
-            k += 1;
         }
         if atomset::is_empty(front) {
             break 'sweep;

@@ -10,6 +10,9 @@ use mathlib.Core.List.{List, [], ◌∷◌, ◌++◌, reverse, reverse-append, r
 use lib.ListN.{length, get_or, take, set, length-set, length-reverse}
 use lib.Seq.{take-suc, take-suc-set, take-set-le, get_or-set_same, get_or-set_other, length-take-le}
 use lib.Dec.{eqb}
+use mathlib.Core.Logic.{◌⊎◌, inl, inr}
+use Rattle.std.specs.Int.{from_bool}
+use Rattle.graph.proofs.Below.{clash}
 use borrow.Author.Tests.{eq-eqb, ne_eqb}
 use Rattle.enumeration.specs.Machine.{State, tried, unwound, placed, act}
 use Rattle.search.specs.Place.{beginning, held, search_at}
@@ -125,42 +128,34 @@ unwound-place :
     (stack_of after place.len, place.next) ≡ unwound n (stack_of before at.len) (suc at.next)
 unwound-place at u = rw (add-one at.next) at u.place_is
 
-module _ {n : ℕ} {before after : List ℕ} {at : Spot} {place : Place} where
-  pub acted-lists :
-      {extends : Bool} → Unwound n before at.len (at.next + 1) after place →
-      Acted n before at true extends after
-      (record {
-        len = place.len;
-        next = place.next;
-        trials = at.trials + 1;
-        extensions = at.extensions;
-        listed = at.listed + 1;
-      })
-  unfolding act
-  acted-lists u = record {
-    within = u.within;
-    state_is =
-        rw (add-one at.trials, add-one at.listed)
-        (ap (λ (q : List ℕ × ℕ). placed q (suc at.trials) at.extensions (suc at.listed)) (unwound-place at u));
-  }
-
-  pub acted-rises :
-      Unwound n before at.len (at.next + 1) after place →
-      Acted n before at false false after
-      (record {
-        len = place.len;
-        next = place.next;
-        trials = at.trials + 1;
-        extensions = at.extensions;
-        listed = at.listed;
-      })
-  unfolding act
-  acted-rises u = record {
-    within = u.within;
-    state_is =
-        rw (add-one at.trials)
-        (ap (λ (q : List ℕ × ℕ). placed q (suc at.trials) at.extensions at.listed) (unwound-place at u));
-  }
+-- a trial that doesn't extend the beginning: it lists the word, or only raises the next atom
+pub acted-unwinds :
+    {n : ℕ} {before after : List ℕ} {at : Spot} {place : Place} {lists : ℕ} (member extends : Bool) →
+    (extends ≡ true × member ≡ true) ⊎ (extends ≡ false) → lists ≡ from_bool member →
+    Unwound n before at.len (at.next + 1) after place →
+    Acted n before at member extends after
+    (record {
+      len = place.len;
+      next = place.next;
+      trials = at.trials + 1;
+      extensions = at.extensions;
+      listed = at.listed + lists;
+    })
+unfolding act
+acted-unwinds {at = at} true extends other e u = record {
+  within = u.within;
+  state_is =
+      rw (e, add-one at.trials, add-one at.listed)
+      (ap (λ (q : List ℕ × ℕ). placed q (suc at.trials) at.extensions (suc at.listed)) (unwound-place at u));
+}
+acted-unwinds false extends (inl both) e u = absurd (clash false both.1 refl)
+acted-unwinds {at = at} false extends (inr other) e u = record {
+  within = u.within;
+  state_is =
+      let none : at.listed + 0 ≡ at.listed = omega arith in
+      rw (e, add-one at.trials, other, none)
+      (ap (λ (q : List ℕ × ℕ). placed q (suc at.trials) at.extensions at.listed) (unwound-place at u));
+}
 
 pub acted-extends :
     {n : ℕ} {before : List ℕ} {at : Spot} → HeldWithRoom before at.len → Counting n at →

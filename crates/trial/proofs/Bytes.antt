@@ -1,12 +1,12 @@
--- A record is written byte by byte: after each store the output is what is written so far, and then what was there.
+-- A record is written from the start of the output on: the length byte, the atoms of the beginning and the last one.
 -- The part of the output that is lent for it comes back into its place.
 use Prim.Native.Nat.{ℕ, suc, ◌+◌, ◌-◌, ◌≤◌, ◌<◌}
 use native.Mathlib.Numerals.{add-one}
 use native.Mathlib.Omega.{arith}
 use mathlib.Core.Path.{◌≡◌, refl, ap, sym, ◌∙◌}
 use mathlib.Core.List.{List, [], ◌∷◌, ◌++◌, append-nil}
-use lib.ListN.{length, get_or, take, drop, set, length-set, length-append, length-drop, drop_of_length-le}
-use lib.Seq.{drop-cons, take-suc, take_all, set_at, append_snoc, length-take-le}
+use lib.ListN.{length, get_or, take, drop, set, length-append, length-drop, drop_of_length-le}
+use lib.Seq.{drop-cons, take_all, set_at, append_snoc, length-take-le}
 use borrow.Rule.Slice.PartMut.{put_mid}
 use Rattle.enumeration.specs.Run.{record_of}
 
@@ -18,63 +18,22 @@ put_next p out k v e h =
     rw (drop-cons out k 0 h)
     (set_at p (get_or out k 0) (drop (suc k) out) v k e ∙ sym (append_snoc p v (drop (suc k) out)))
 
--- the length of the word of `len` atoms and c
-word-length :
-    (prefix : List ℕ) (len c : ℕ) → length prefix ≡ 128 → len ≤ 127 → length (take len prefix ++ c ∷ []) ≡ suc len
-word-length prefix len c size short =
-    omega (arith, length-append (take len prefix) (c ∷ []), length-take-le len prefix (omega arith))
+-- the length of the word of a beginning and c
+word-length : (p : List ℕ) (c : ℕ) → length (p ++ c ∷ []) ≡ suc (length p)
+word-length p c = omega (arith, length-append p (c ∷ []))
 
--- the length byte and i atoms are written, and the rest is as it was
-pub record Writing (prefix : List ℕ) (len : ℕ) (out part : List ℕ) (i : ℕ) : Type 0 where
-  pub size : length prefix ≡ 128
-  pub short : len ≤ 127
-  pub room : len + 2 ≤ length out
-  pub most : i ≤ len
-  pub length-kept : length part ≡ length out
-  pub written : part ≡ (suc len ∷ take i prefix) ++ drop (suc i) out
-
--- the length byte alone
-pub record-begins :
-    {prefix : List ℕ} {len : ℕ} (out : List ℕ) → length prefix ≡ 128 → len ≤ 127 → len + 2 ≤ length out →
-    let first = set out 0 (len + 1) in
-    Writing prefix len first first 0
-record-begins {len = len} [] size short room = absurd (omega arith)
-record-begins {len = len} (x ∷ out) size short room = record {
-  size = size;
-  short = short;
-  room = room;
-  most = omega arith;
-  length-kept = refl;
-  written = rw (add-one len);
-}
-
-module _ {prefix : List ℕ} {len : ℕ} {out part : List ℕ} {i : ℕ} (w : Writing prefix len out part i) where
-  count : length (suc len ∷ take i prefix) ≡ suc i
-  count = ap suc (length-take-le i prefix (omega (arith, w)))
-
-  -- one atom more
-  pub record-goes-on : i < len → Writing prefix len out (set part (i + 1) (get_or prefix i 0)) (i + 1)
-  record-goes-on more =
-      let inside : i < length prefix = omega (arith, w) in
-      let put = put_next (suc len ∷ take i prefix) out (suc i) (get_or prefix i 0) count (omega (arith, w)) in
-      record {
-        size = w.size;
-        short = w.short;
-        room = w.room;
-        most = omega arith;
-        length-kept = length-set part (i + 1) (get_or prefix i 0) ∙ w.length-kept;
-        written = rw (w.written, add-one i, take-suc prefix i 0 inside) put;
-      }
-
-  -- the last atom
-  pub record-ends :
-      (c : ℕ) → len ≤ i → set part (len + 1) c ≡ record_of (take len prefix ++ c ∷ []) ++ drop (len + 2) out
-  unfolding record_of
-  record-ends c all =
-      let same : i ≡ len = omega (arith, w.most) in
-      let two : len + 2 ≡ suc (suc len) = omega arith in
-      let put = put_next (suc len ∷ take len prefix) out (suc len) c (rw same at count) (omega (arith, w.room)) in
-      rw (w.written, same, add-one len, two, word-length prefix len c w.size w.short) put
+-- the length byte, the beginning's atoms and the last one
+pub record-put :
+    (p out : List ℕ) (c : ℕ) → length p + 2 ≤ length out →
+    set (put_mid 1 (length p + 1 - 1) (set out 0 (length p + 1)) p) (length p + 1) c
+    ≡ record_of (p ++ c ∷ []) ++ drop (length p + 2) out
+unfolding record_of
+record-put p [] c room = absurd (omega arith)
+record-put p (x ∷ out) c room =
+    let two : length p + 2 ≡ suc (suc (length p)) = omega arith in
+    let one : suc (length p) - 1 ≡ length p = omega arith in
+    rw (add-one (length p), one, two, word-length p c)
+    (put_next (suc (length p) ∷ p) (x ∷ out) (suc (length p)) c refl (omega arith))
 
 -- ---- the part of the output that is lent
 
@@ -100,4 +59,5 @@ pub record-length :
     (prefix : List ℕ) (len c : ℕ) → length prefix ≡ 128 → len ≤ 127 →
     length (record_of (take len prefix ++ c ∷ [])) ≡ len + 2
 unfolding record_of
-record-length prefix len c size short = omega (arith, word-length prefix len c size short)
+record-length prefix len c size short =
+    omega (arith, word-length (take len prefix) c, length-take-le len prefix (omega arith))

@@ -91,18 +91,17 @@ pub record Gap (found : Plan) (c n k : ℕ) : Type 0 where
   pub idle : (i : ℕ) → i < k → (has found.members (c + i) ≡ false) × (has found.opens (c + i) ≡ false)
 
 -- k trials that only raise the next atom, and that no test stops
-pub record Skips (found : Plan) (stale : Bool) (at : Spot) (n k : ℕ) : Type 0 where
-  pub fresh : stale ≡ false
+pub record Skips (found : Plan) (at : Spot) (n k : ℕ) : Type 0 where
   pub gap : Gap found at.next n k
   pub trials_most : at.trials + k ≤ limit
   pub extensions_other : eqb at.extensions limit ≡ false
   pub listed_other : eqb at.listed limit ≡ false
 
 -- there are k such trials, within the budget that is left
-pub record Idle (found : Plan) (stale : Bool) (at : Spot) (n left k : ℕ) : Type 0 where
+pub record Idle (found : Plan) (at : Spot) (n left k : ℕ) : Type 0 where
   pub affordable : k ≤ left
   pub small : k ≤ 128
-  pub runs : 0 < k → Skips found stale at n k
+  pub runs : 0 < k → Skips found at n k
 
 -- the place after k such trials
 abbrev pub skip : ℕ → Spot → Spot

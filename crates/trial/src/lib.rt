@@ -7,6 +7,7 @@ ghost use Rattle.enumeration.specs.Run.{limit, record_of};
 ghost use Rattle.trial.specs.Parts.{HeldWithRoom, Counting, Acted, ToUnwind, Unwound, Stale, AtomAhead, Gap, Idle};
 ghost use Rattle.trial.specs.Parts.{skip, spot_of};
 
+use fields::LIMIT;
 use openness::Plan;
 use search::Search;
 
@@ -27,30 +28,6 @@ pub struct Place {
     pub next: usize,
 }
 
-// Whether a search is done: its beginning is empty and the next atom is n + 1.
-pub fn is_done(len: usize, c: usize, n: usize) -> bool
-    requires { n ≤ 128 }
-    ensures { result ≡ (eqb len 0 && eqb c (suc n)) }
-{
-    if len != 0 {
-        return false;
-    }
-    c == n + 1
-}
-
-// Whether a count stands at the limit.
-pub fn at_limit(trials: u64, extensions: u64, listed: u64) -> bool
-    ensures { result ≡ (eqb trials limit || eqb extensions limit || eqb listed limit) }
-{
-    if trials == 9_999_999_999_999_999_999 {
-        return true;
-    }
-    if extensions == 9_999_999_999_999_999_999 {
-        return true;
-    }
-    listed == 9_999_999_999_999_999_999
-}
-
 // Whether the next trial needs a new plan: the beginning has changed.
 pub fn is_stale(before: usize, after: usize) -> bool
     ensures { Stale before after result }
@@ -63,9 +40,7 @@ fn gap(found: Plan, c: usize, n: usize) -> usize
     requires { AtomAhead c n }
     ensures { Gap found c n result }
 {
-    let members = found.members;
-    let opens = found.opens;
-    let either = atomset::union(members, opens);
+    let either = atomset::union(found.members, found.opens);
     let ahead = atomset::range(c - 1, n);
     let next = atomset::intersection(either, ahead);
     if atomset::is_empty(next) {
@@ -74,43 +49,61 @@ fn gap(found: Plan, c: usize, n: usize) -> usize
     atomset::lowest(next) - c
 }
 
-// How many trials from the next atom on only raise it: none without a plan, and no more than the budget and the limit
-// leave.
-pub fn idle_trials(found: Plan, stale: bool, at: Spot, n: usize, left: u64) -> usize
-    requires { (1 ≤ at.next) × (n ≤ 128) }
-    ensures { Idle found stale at n left result }
-{
-    let c = at.next;
-    if stale {
-        return 0;
+impl Spot {
+    // The place and the counts of a search.
+    // No `From`: its contract would stand in a ghost member, away from the other methods.
+    pub fn of(q: Search) -> Spot
+        ensures { result ≡ spot_of q }
+    {
+        Spot {
+            len: q.len,
+            next: q.next,
+            trials: q.trials,
+            extensions: q.extensions,
+            listed: q.listed,
+        }
     }
-    if n < c {
-        return 0;
-    }
-    if at_limit(at.trials, at.extensions, at.listed) {
-        return 0;
-    }
-    let k = gap(found, c, n);
-    if left < k as u64 {
-        return 0;
-    }
-    if 9_999_999_999_999_999_871 < at.trials {
-        return 0;
-    }
-    k
-}
 
-// The place after k such trials.
-pub fn skipped(at: Spot, k: usize) -> Spot
-    requires { (at.next ≤ 129) × (at.trials ≤ limit) × (k ≤ 128) }
-    ensures { result ≡ skip k at }
-{
-    Spot {
-        len: at.len,
-        next: at.next + k,
-        trials: at.trials + k as u64,
-        extensions: at.extensions,
-        listed: at.listed,
+    // Whether the search is done: its beginning is empty and the next atom is n + 1.
+    pub fn is_done(self, n: usize) -> bool
+        requires { n ≤ 128 }
+        ensures { result ≡ (eqb self.len 0 && eqb self.next (suc n)) }
+    {
+        self.len == 0 && self.next == n + 1
+    }
+
+    // Whether a count stands at the limit.
+    pub fn at_limit(self) -> bool
+        ensures { result ≡ (eqb self.trials limit || eqb self.extensions limit || eqb self.listed limit) }
+    {
+        self.trials == LIMIT || self.extensions == LIMIT || self.listed == LIMIT
+    }
+
+    // How many trials from the next atom on only raise it, by the plan: no more than the budget and the limit leave.
+    pub fn idle_trials(self, found: Plan, n: usize, left: u64) -> usize
+        requires { (1 ≤ self.next) × (n ≤ 128) }
+        ensures { Idle found self n left result }
+    {
+        if n < self.next || self.at_limit() {
+            return 0;
+        }
+        let k = gap(found, self.next, n);
+        if left < k as u64 || LIMIT - 128 < self.trials {
+            return 0;
+        }
+        k
+    }
+
+    // The place after k such trials.
+    pub fn skipped(self, k: usize) -> Spot
+        requires { (self.next ≤ 129) × (self.trials ≤ limit) × (k ≤ 128) }
+        ensures { result ≡ skip k self }
+    {
+        Spot {
+            next: self.next + k,
+            trials: self.trials + k as u64,
+            ..self
+        }
     }
 }
 
@@ -122,15 +115,16 @@ pub fn unwind(prefix: &mut [u8; 128], from: usize, first: usize, n: usize) -> Pl
 {
     let mut len = from;
     let mut c = first;
+    // no `for`: `len` is the place that is returned, and would be one more than the counter
     while 0 < len {
         if c != n + 1 {
-            return Place { len: len, next: c };
+            return Place { len, next: c };
         }
         len -= 1;
-        c = widen::u8_usize(prefix[len]) + 1;
+        c = usize::from(prefix[len]) + 1;
         prefix[len] = 0;
     }
-    Place { len: len, next: c }
+    Place { len, next: c }
 }
 
 // One trial with the unwinding after it, by whether the word is a member and whether it is open.
@@ -138,62 +132,34 @@ pub fn act(prefix: &mut [u8; 128], at: Spot, n: usize, member: bool, extends: bo
     requires { HeldWithRoom prefix.old at.len × Counting n at }
     ensures { Acted n prefix.old at member extends prefix.new result }
 {
-    let len = at.len;
-    let c = at.next;
-    if member {
-        let place = unwind(prefix, len, c + 1, n);
+    if extends && !member {
+        prefix[at.len] = at.next as u8;
         return Spot {
-            len: place.len,
-            next: place.next,
-            trials: at.trials + 1,
-            extensions: at.extensions,
-            listed: at.listed + 1,
-        };
-    }
-    if extends {
-        prefix[len] = c as u8;
-        return Spot {
-            len: len + 1,
+            len: at.len + 1,
             next: 1,
             trials: at.trials + 1,
             extensions: at.extensions + 1,
-            listed: at.listed,
+            ..at
         };
     }
-    let place = unwind(prefix, len, c + 1, n);
+    let Place { len, next } = unwind(prefix, at.len, at.next + 1, n);
     Spot {
-        len: place.len,
-        next: place.next,
+        len,
+        next,
         trials: at.trials + 1,
-        extensions: at.extensions,
-        listed: at.listed,
+        listed: at.listed + u64::from(member),
+        ..at
     }
 }
 
 // Writes the record of the beginning with c added at the start of `part`.
-pub fn put_record(part: &mut [u8], prefix: &[u8; 128], len: usize, c: usize)
-    requires { (len ≤ 127) × (c ≤ 128) × (len + 2 ≤ length part.old) × (length prefix.now ≡ 128) }
+pub fn put_record(part: &mut [u8], beginning: &[u8], c: usize)
+    requires { (length beginning.now ≤ 127) × (c ≤ 128) × (length beginning.now + 2 ≤ length part.old) }
     ensures { part.new ≡
-        record_of (take len prefix.now ++ c ∷ []) ++ drop (len + 2) part.old }
+        record_of (beginning.now ++ c ∷ []) ++ drop (length beginning.now + 2) part.old }
 {
+    let len = beginning.len();
     part[0] = (len + 1) as u8;
-    let mut i: usize = 0;
-    while i < len {
-        part[i + 1] = prefix[i];
-        i += 1;
-    }
+    part[1..len + 1].copy_from_slice(beginning);
     part[len + 1] = c as u8;
-}
-
-// The place and the counts of a search.
-pub fn spot_of(q: Search) -> Spot
-    ensures { result ≡ spot_of q }
-{
-    Spot {
-        len: q.len,
-        next: q.next,
-        trials: q.trials,
-        extensions: q.extensions,
-        listed: q.listed,
-    }
 }

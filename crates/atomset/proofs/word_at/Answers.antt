@@ -1,7 +1,7 @@
--- `atomset::word_at` meets its contract: the low half, and the high half above it.
--- By `two-halves`.
-use Rattle.atomset.proofs.Table.{two-halves}
+-- `atomset::word_at` meets its contract: the bits of the eight bytes, one byte above the other.
+-- By `eight-bytes`.
+use Rattle.atomset.proofs.Table.{eight-bytes}
 use Rattle.atomset.proofs.word_at.Goals as goal
 
 pub returns : goal.returns
-returns c = two-halves c.half_at-low.ensures c.half_at-high.ensures
+returns c = eight-bytes c.args.rows.now c.args.at c.fits-rows c.from_le_bytes.ensures

@@ -1,11 +1,6 @@
 -- `atomset::words_of` meets its contract. The invariant: the words before place i are read from the rows.
--- A turn reads one more, by `read_more`.
-use Prim.Native.Nat.{◌-◌}
 use Rattle.atomset.proofs.Table.{ReadTo}
 use Rattle.atomset.proofs.words_of.Given as goal
 
 abbrev pub invariant-loop-i : goal.invariant-loop-i
 invariant-loop-i l = ReadTo l.rows l.table l.i
-
-abbrev pub decreases-loop-i : goal.decreases-loop-i
-decreases-loop-i l = 256 - l.i

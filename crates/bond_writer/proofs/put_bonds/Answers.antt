@@ -24,6 +24,3 @@ returns c =
 
 pub loop-row-init : goal.loop-row-init
 loop-row-init c = bonds-start c.requires
-
-pub shape_of-out : goal.shape_of-out
-shape_of-out c = c.loop-row.invariant.size

@@ -21,14 +21,5 @@ pub loop-k-preserved : goal.loop-k-preserved
 loop-k-preserved c =
     lined-more c.loop-k.invariant 1 refl refl (omega arith) c.put_cell-end.ensures c.put_cell-end.auto.out
 
-pub bounds-rows-at : goal.bounds-rows-at
-bounds-rows-at c = c.requires.inside
-
 pub loop-k-init : goal.loop-k-init
 loop-k-init c = lined-none c.requires.room (omega arith) (no_cells _ _)
-
-pub shape_of-out : goal.shape_of-out
-shape_of-out c = c.loop-k.invariant.size
-
-pub returns : goal.returns
-returns c = lined-all c.loop-k.invariant c.loop-k-test.false

@@ -19,6 +19,3 @@ returns c =
 
 pub loop-i-init : goal.loop-i-init
 loop-i-init c = row-start c.requires
-
-pub shape_of-out : goal.shape_of-out
-shape_of-out c = c.loop-i.invariant.size

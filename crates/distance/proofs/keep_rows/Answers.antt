@@ -1,12 +1,8 @@
 -- `distance::keep_rows` meets its contract. The invariant is `Storing`: the rows of the atoms taken are stored.
 -- Each turn takes the lowest atom that is left; the measure is what is left.
-use mathlib.Core.Path.{sym, ◌∙◌}
 use Rattle.atomset.proofs.Size.{rest-fewer}
-use Rattle.distance.proofs.Rows.{storing-start, storing-more, storing-end}
+use Rattle.distance.proofs.Rows.{storing-more, storing-end}
 use Rattle.distance.proofs.keep_rows.Goals as goal
-
-pub loop-front-init : goal.loop-front-init
-loop-front-init c = storing-start c.requires
 
 pub loop-front-smaller : goal.loop-front-smaller
 loop-front-smaller c = rest-fewer c.without_lowest-rest.ensures
@@ -19,12 +15,3 @@ loop-front-preserved c =
 pub returns : goal.returns
 returns c =
     storing-end c.loop-front.invariant (c.is_empty.ensures.none c.loop-front-test.false)
-
-pub lowest-v-requires : goal.lowest-v-requires
-lowest-v-requires c = sym c.is_empty.ensures.test ∙ c.loop-front-test.true
-
-pub without_lowest-rest-requires : goal.without_lowest-rest-requires
-without_lowest-rest-requires c = sym c.is_empty.ensures.test ∙ c.loop-front-test.true
-
-pub row-row-requires : goal.row-row-requires
-row-row-requires c = (c.lowest-v.ensures.low, c.lowest-v.ensures.high)

@@ -1,8 +1,7 @@
 -- `distance::sum_over` meets its contract. The invariant is `Summed`: the sum so far and that of the atoms left are the
 -- sum of all. Each turn takes the lowest atom that is left; the measure is what is left.
-use mathlib.Core.Path.{sym, ◌∙◌}
 use Rattle.atomset.proofs.Size.{rest-fewer}
-use Rattle.distance.proofs.Sums.{summed-start, summed-more, summed-end}
+use Rattle.distance.proofs.Sums.{summed-more, summed-end}
 use Rattle.distance.proofs.sum_over.Goals as goal
 
 pub loop-left-smaller : goal.loop-left-smaller
@@ -15,12 +14,3 @@ loop-left-preserved c =
 pub returns : goal.returns
 returns c =
     summed-end c.loop-left.invariant (c.is_empty.ensures.none c.loop-left-test.false)
-
-pub loop-left-init : goal.loop-left-init
-loop-left-init c = summed-start
-
-pub lowest-v-requires : goal.lowest-v-requires
-lowest-v-requires c = sym c.is_empty.ensures.test ∙ c.loop-left-test.true
-
-pub without_lowest-rest-requires : goal.without_lowest-rest-requires
-without_lowest-rest-requires c = sym c.is_empty.ensures.test ∙ c.loop-left-test.true

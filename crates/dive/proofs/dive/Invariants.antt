@@ -7,10 +7,7 @@ use Rattle.dive.proofs.dive.Given as goal
 
 abbrev pub invariant-loop-at : goal.invariant-loop-at
 invariant-loop-at l =
-    (
-    d : Descent l.n l.table l.kind l.s l.t l.most l.initial.at l.start l.initial.prefix l.initial.levels
-    l.initial.out
-    ) →
+    (d : Descent l.wanted l.most l.fn.from l.initial.prefix l.initial.levels l.initial.out) →
     Diving d l.prefix l.levels l.out l.at l.used
 
 abbrev pub decreases-loop-at : goal.decreases-loop-at

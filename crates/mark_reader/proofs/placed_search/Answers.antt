@@ -1,7 +1,6 @@
 -- `mark_reader::placed_search` meets its contract: each answer is the definition's by the rules that led to it.
 -- The search is built from the stored atoms, which rule 17 does not tell from the atoms of the mark.
-use mathlib.Core.Bool.{not}
-use mathlib.Core.Path.{◌∙◌, ap, sym}
+use mathlib.Core.Path.{◌∙◌, sym}
 use Rattle.mark_reader.proofs.Answers.{ReadFrom, built_of, read_short, read-full}
 use Rattle.mark_reader.proofs.Answers.{refuses-kind, refuses-place, accepts}
 use Rattle.mark_reader.proofs.placed_search.Lts as lts
@@ -22,12 +21,12 @@ read :
 read c =
     record {
       placeable = c.requires;
-      read = built_of _ c.search_of-q.ensures c.atoms_of.ensures c.small_at-k.ensures;
+      read = built_of _ c.search_of-q.ensures c.atoms_of.ensures c.small_at.ensures;
     }
 
 pub returns-then-not-kind_kept : goal.returns-then-not-kind_kept
 returns-then-not-kind_kept c =
-    c.refused_search.ensures ∙ refuses-kind (read (search)) c.kind_kept.ensures (ap not c.if-not-kind_kept.true)
+    refuses-kind (read (search)) c.kind_kept.ensures c.if-not-kind_kept.true
 
 pub place_kept-requires : goal.place_kept-requires
 place_kept-requires c =
@@ -36,11 +35,10 @@ place_kept-requires c =
 
 pub returns-then-not-place_kept : goal.returns-then-not-place_kept
 returns-then-not-place_kept c =
-    c.refused_search-then-not-place_kept.ensures ∙
-    refuses-place (read (search)) c.kind_kept.ensures (ap not c.if-not-kind_kept.false)
-    c.place_kept.ensures (ap not c.if-not-place_kept.true)
+    refuses-place (read (search)) c.kind_kept.ensures c.if-not-kind_kept.false
+    c.place_kept.ensures c.if-not-place_kept.true
 
 pub returns : goal.returns
 returns c =
-    accepts (read (search)) c.kind_kept.ensures (ap not c.if-not-kind_kept.false)
-    c.place_kept.ensures (ap not c.if-not-place_kept.false)
+    accepts (read (search)) c.kind_kept.ensures c.if-not-kind_kept.false
+    c.place_kept.ensures c.if-not-place_kept.false

@@ -3,8 +3,5 @@
 use Rattle.mark_reader.proofs.BondReading.{Reading}
 use Rattle.mark_reader.proofs.read_bonds.Given as goal
 
-abbrev pub invariant-loop-rest : goal.invariant-loop-rest
-invariant-loop-rest l = Reading l.n l.rows l.bytes l.from l.count l.a l.b l.own l.at l.rest
-
-abbrev pub decreases-loop-rest : goal.decreases-loop-rest
-decreases-loop-rest l = l.rest
+abbrev pub invariant-loop-i : goal.invariant-loop-i
+invariant-loop-i l = Reading l.n l.rows l.bytes l.from l.count l.above l.own l.i

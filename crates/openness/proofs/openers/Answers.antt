@@ -4,10 +4,6 @@ use native.Mathlib.Omega.{arith}
 use Rattle.openness.proofs.Steps.{each_opens, sweep-opens}
 use Rattle.openness.proofs.openers.Goals as goal
 
-pub reached-requires : goal.reached-requires
-reached-requires c =
-    c.requires c.if-kind-ne3.true
-
 pub returns-then-kind-ne3 : goal.returns-then-kind-ne3
 returns-then-kind-ne3 c F most p x aim k = sweep-opens k c.reached.ensures
 

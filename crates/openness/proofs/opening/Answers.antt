@@ -17,9 +17,5 @@ returns-then-at_most_one c F most p x aim k =
 pub returns-then-kind-eq3 : goal.returns-then-kind-eq3
 returns-then-kind-eq3 c F most p x aim k = each_opens k c.if-kind-eq3.true c.minus.ensures
 
-pub reached-requires : goal.reached-requires
-reached-requires c =
-    c.requires c.if-kind-eq3.false
-
 pub returns : goal.returns
 returns c F most p x aim k = sweep-opens k c.reached.ensures

@@ -1,31 +1,24 @@
 -- `openness::pair_opens` meets its contract: the tests of v, and then one sweep with v the sole candidate.
 -- By `pair-told`; where v is not above s, or not bonded to it, nothing opens.
 use Prim.Native.Nat.{ℕ}
-use native.Mathlib.Omega.{arith}
 use mathlib.Core.Path.{◌≡◌, sym, ◌∙◌}
 use mathlib.Core.Bool.{◌&&◌, not}
 use lib.Dec.{leb, ltb}
 use Rattle.atomset.specs.Set.{has, linked_by}
 use Rattle.openness.proofs.Rings.{first_of, pair-above, pair-bonded, pair-told}
-use Rattle.openness.proofs.pair_opens.Lts as lts
-use Rattle.openness.proofs.pair_opens.Reads as reads
-use Rattle.openness.proofs.pair_opens.Tie as tie
 use Rattle.openness.proofs.pair_opens.Goals as goal
-
--- what is known at a place of the function
-abbrev Place : (lts.Claims → lts.Pre-type → lts.Post-type → Type 0) → Type 0
-Place place = place tie.the-claims reads.Pre reads.Post
+use Rattle.openness.proofs.pair_opens.Goals.{After-contains, After-intersection-targets, After-minus-free}
 
 -- ---- what is known there
 
 bonded :
-    (c : Place lts.After-contains) →
+    (c : After-contains) →
     let args = c.args in
     linked_by args.table.now args.s args.v ≡ c.contains.result
 bonded c = sym (c.row-first.ensures _) ∙ sym c.contains.ensures
 
 targets-is :
-    (c : Place lts.After-intersection) (u : ℕ) →
+    (c : After-intersection-targets) (u : ℕ) →
     let args = c.args in
     has c.intersection-targets.result u
     ≡ (ltb args.v u && leb u args.n && linked_by args.table.now args.s u)
@@ -33,7 +26,7 @@ targets-is c u =
     rw (c.intersection-targets.ensures u, c.range-above.ensures u, c.row-first.ensures u)
 
 between_is :
-    (c : Place lts.After-minus) (u : ℕ) →
+    (c : After-minus-free) (u : ℕ) →
     let args = c.args in
     has c.minus-free.result u
     ≡ (ltb args.s u && leb u args.n && not (linked_by args.table.now args.s u))
@@ -45,13 +38,13 @@ returns-then-v-s c = sym (pair-above (first_of c.requires) _ c.if-v-s.true)
 
 pub returns-then-not-contains : goal.returns-then-not-contains
 returns-then-not-contains c =
-    sym (pair-bonded (first_of c.requires) _ (bonded (search) ∙ c.if-not-contains.true))
-
-pub overflow_sub-most : goal.overflow_sub-most
-overflow_sub-most c = omega (arith, c.requires.1)
+    let places = goal.at.returns-then-not-contains c in
+    sym (pair-bonded (first_of c.requires) _ (bonded places.After-contains ∙ c.if-not-contains.true))
 
 pub returns : goal.returns
 returns c =
+    let places = goal.at.returns c in
     c.contains-2.ensures ∙
-    pair-told c.requires (targets-is (search)) (between_is (search)) c.single-alone.ensures
-    c.reached-swept.ensures c.if-v-s.false (bonded (search) ∙ c.if-not-contains.false)
+    pair-told c.requires (targets-is places.After-intersection-targets) (between_is places.After-minus-free)
+    c.single-alone.ensures
+    c.reached-swept.ensures c.if-v-s.false (bonded places.After-contains ∙ c.if-not-contains.false)

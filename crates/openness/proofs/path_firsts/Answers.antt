@@ -19,12 +19,12 @@ row-row-requires c =
 
 pub returns-then-is_empty : goal.returns-then-is_empty
 returns-then-is_empty c =
-    none-led c.requires.0 (c.requires.1.leading c.if-kind-eq3.true) c.row-row.ensures
+    none-led c.requires.0 (c.requires.1.leading c.if-wanted-eq3.true) c.row-row.ensures
     c.is_empty.ensures c.if-is_empty.true
 
-pub returns-then-kind-eq3 : goal.returns-then-kind-eq3
-returns-then-kind-eq3 c =
-    one-led c.requires.0 (c.requires.1.leading c.if-kind-eq3.true) c.row-row.ensures
+pub returns-then-wanted-eq3 : goal.returns-then-wanted-eq3
+returns-then-wanted-eq3 c =
+    one-led c.requires.0 (c.requires.1.leading c.if-wanted-eq3.true) c.row-row.ensures
     c.is_empty.ensures c.single-alone.ensures c.if-is_empty.false
 
 pub single-goal-requires : goal.single-goal-requires
@@ -32,10 +32,6 @@ single-goal-requires c =
     let (two, words) = c.requires in
     let ends = ends-facts _ _ _ two.ends in
     (ends.t_low, omega (arith, two.few))
-
-pub reached-requires : goal.reached-requires
-reached-requires c =
-    c.requires.1.both_ways c.if-kind-eq3.false
 
 pub returns : goal.returns
 returns c =

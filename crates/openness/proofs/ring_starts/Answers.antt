@@ -6,6 +6,3 @@ use Rattle.openness.proofs.ring_starts.Goals as goal
 pub returns : goal.returns
 returns c =
     starts-told c.requires c.second_atoms.ensures c.is_empty.ensures
-
-pub second_atoms-requires : goal.second_atoms-requires
-second_atoms-requires c = c.requires

@@ -6,4 +6,4 @@ use Rattle.openness.proofs.swept_plan.Goals as goal
 pub returns : goal.returns
 returns c =
     let (both_ways, handed, low, high) = c.requires in
-    plan-told handed c.beside_last-near.ensures c.openers-opens.ensures
+    plan-told handed c.beside_last.ensures c.openers-opens.ensures

@@ -3,10 +3,10 @@ use Prim.Native.Nat.{◌-◌}
 use Rattle.runner.proofs.Trials.{task_of, Looping}
 use Rattle.runner.proofs.run_trials.Given as goal
 
-abbrev pub invariant-loop-found : goal.invariant-loop-found
-invariant-loop-found l =
-    Looping (task_of l.n l.table l.q l.budget l.initial.out) l.initial.kept l.kept l.out l.prefix l.at l.found l.stale
-    l.first l.used l.made
+abbrev pub invariant-loop-plan : goal.invariant-loop-plan
+invariant-loop-plan l =
+    Looping (task_of l.wanted l.q l.budget l.initial.out) l.initial.levels l.levels l.out l.prefix l.at l.plan l.first
+    l.used l.made
 
-abbrev pub decreases-loop-found : goal.decreases-loop-found
-decreases-loop-found l = l.budget - l.made
+abbrev pub decreases-loop-plan : goal.decreases-loop-plan
+decreases-loop-plan l = l.budget - l.made

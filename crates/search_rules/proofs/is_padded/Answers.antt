@@ -1,19 +1,18 @@
--- `search_rules::is_padded` meets its contract. The loop starts at the length.
--- The invariant is `PlacesPassed`: every place passed is below the length or holds 0.
-use mathlib.Core.Path.{sym}
-use Rattle.search_rules.proofs.Checks.{passed_none, passed-more, passed-other, passed-all}
+-- `search_rules::is_padded` meets its contract: each place past the length holds 0.
+-- The iterator yields these places, and `skipped-padded` says what the test of each comes to.
+use mathlib.Core.Path.{◌∙◌}
+use lib.Dec.{eqb}
+use borrow.Author.Rules.{rules}
+use Rattle.std.proofs.Common.{tests}
+use Rattle.std.proofs.lemmas.Iterator.{YieldsList-from_slice}
+use Rattle.std.proofs.lemmas.Iterator.Adapters.{YieldsList-from_skip}
+use Rattle.std.proofs.lemmas.Iterator.Search.{all_from_yields_List}
+use Rattle.search_rules.proofs.Checks.{skipped-padded}
 use Rattle.search_rules.proofs.is_padded.Goals as goal
 
-pub loop-i-init : goal.loop-i-init
-loop-i-init c = passed_none _ _
-
-pub returns-then-prefix-i-ne0 : goal.returns-then-prefix-i-ne0
-returns-then-prefix-i-ne0 c =
-    sym (passed-other c.loop-i.invariant c.loop-i-test.true c.if-prefix-i-ne0.true)
-
-pub loop-i-preserved : goal.loop-i-preserved
-loop-i-preserved c =
-    passed-more c.loop-i.invariant c.if-prefix-i-ne0.false
-
 pub returns : goal.returns
-returns c = sym (passed-all c.loop-i.invariant c.loop-i-test.false)
+returns c =
+    all_from_yields_List (λ a. eqb a 0) _ _ _ c.all.ensures.ran
+    (YieldsList-from_skip c.args.len (YieldsList-from_slice c.args.prefix.now (cc)) (cc))
+    (λ x b q k. search (rules, tests)) ∙
+    skipped-padded _ _ (search rules)

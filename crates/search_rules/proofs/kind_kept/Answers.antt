@@ -1,28 +1,29 @@
--- `search_rules::kind_kept` meets its contract, test by test.
--- The laws of `Checks` say what each test decides.
-use mathlib.Core.Path.{sym, ◌∙◌}
-use Rattle.search_rules.proofs.Checks.{kind-no-zero, kind-zero, kind-paths, kind-no-end, kind-two, kind-none}
+-- `search_rules::kind_kept` meets its contract: its definition, kind by kind.
+use native.Mathlib.Omega.{arith}
+use Rattle.std.proofs.lemmas.Bool.Decides.{nat_tests}
+use Rattle.search.specs.Place.{kind_kept}
 use Rattle.search_rules.proofs.kind_kept.Goals as goal
 
-pub returns-then-s-ne0 : goal.returns-then-s-ne0
-returns-then-s-ne0 c = sym (kind-no-zero _ _ _ _ c.if-kind-eq0.true c.if-s-ne0.true)
+pub returns-then-s-eq0 : goal.returns-then-s-eq0
+unfolding kind_kept
+returns-then-s-eq0 c = grind (arith, nat_tests)
 
-pub returns-then-kind-eq0 : goal.returns-then-kind-eq0
-returns-then-kind-eq0 c = sym (kind-zero _ _ _ _ c.if-kind-eq0.true c.if-s-ne0.false)
+pub returns-else-s-eq0 : goal.returns-else-s-eq0
+unfolding kind_kept
+returns-else-s-eq0 c = grind (arith, nat_tests)
 
-pub returns-then-lists_paths : goal.returns-then-lists_paths
-returns-then-lists_paths c =
-    let path = sym c.lists_paths.ensures ∙ c.if-lists_paths.true in
-    c.ends_kept.ensures ∙ sym (kind-paths _ _ _ _ path)
+pub returns-in-1 : goal.returns-in-1
+unfolding kind_kept
+returns-in-1 c = grind (arith, nat_tests)
 
-pub returns-then-kind-ne2 : goal.returns-then-kind-ne2
-returns-then-kind-ne2 c =
-    let no-path = sym c.lists_paths.ensures ∙ c.if-lists_paths.false in
-    sym (kind-none _ _ _ _ c.if-kind-eq0.false no-path c.if-kind-ne2.true)
+pub returns-then-t-eq0 : goal.returns-then-t-eq0
+unfolding kind_kept
+returns-then-t-eq0 c = grind (arith, nat_tests)
 
-pub returns-then-t-ne0 : goal.returns-then-t-ne0
-returns-then-t-ne0 c = sym (kind-no-end _ _ _ _ c.if-kind-ne2.false c.if-t-ne0.true)
+pub returns-else-t-eq0 : goal.returns-else-t-eq0
+unfolding kind_kept
+returns-else-t-eq0 c = grind (arith, nat_tests)
 
-pub returns : goal.returns
-returns c =
-    c.bound_kept.ensures ∙ sym (kind-two _ _ _ _ c.if-kind-ne2.false c.if-t-ne0.false)
+pub returns-in_default : goal.returns-in_default
+unfolding kind_kept
+returns-in_default c = grind (arith, nat_tests)

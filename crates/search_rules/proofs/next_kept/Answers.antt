@@ -1,27 +1,17 @@
--- `search_rules::next_kept` meets its contract, test by test.
--- The laws of `Checks` say what each test decides.
-use mathlib.Core.Path.{◌≡◌, sym, ◌∙◌}
-use mathlib.Core.Bool.{false}
-use Rattle.molecule.specs.Record.{is_atom}
-use Rattle.search_rules.proofs.Checks.{next-atom, next-inside, next-after}
-use Rattle.search_rules.proofs.next_kept.Lts as lts
-use Rattle.search_rules.proofs.next_kept.Reads as reads
-use Rattle.search_rules.proofs.next_kept.Tie as tie
+-- `search_rules::next_kept` meets its contract: its definition, test by test.
+use native.Mathlib.Omega.{arith}
+use Rattle.std.proofs.lemmas.Bool.Decides.{nat_tests}
+use Rattle.search_rules.specs.Parts.{next_kept}
 use Rattle.search_rules.proofs.next_kept.Goals as goal
 
--- what is known at a place of the function
-abbrev Place : (lts.Claims → lts.Pre-type → lts.Post-type → Type 0) → Type 0
-Place place = place tie.the-claims reads.Pre reads.Post
-
--- what is known past the first test
-no-atom : (c : Place lts.Else1) → let args = c.args in is_atom args.n args.c ≡ false
-no-atom c = sym c.is_atom.ensures ∙ c.if-is_atom.false
-
 pub returns-then-is_atom : goal.returns-then-is_atom
-returns-then-is_atom c = sym (next-atom _ _ _ (sym c.is_atom.ensures ∙ c.if-is_atom.true))
+unfolding next_kept
+returns-then-is_atom c = grind (arith, nat_tests)
 
-pub returns-then-len-ne0 : goal.returns-then-len-ne0
-returns-then-len-ne0 c = sym (next-inside _ _ _ (no-atom (search)) c.if-len-ne0.true)
+pub returns-then-len-eq0 : goal.returns-then-len-eq0
+unfolding next_kept
+returns-then-len-eq0 c = grind (arith, nat_tests)
 
-pub returns : goal.returns
-returns c = sym (next-after _ _ _ (no-atom (search)) c.if-len-ne0.false)
+pub returns-else-len-eq0 : goal.returns-else-len-eq0
+unfolding next_kept
+returns-else-len-eq0 c = grind (arith, nat_tests)

@@ -1,6 +1,7 @@
--- `sweep::reached` meets its contract. The invariant of the rounds is `Frontier`, that of a round `Round`;
--- the measures are the rounds still to do, and the words of the round still to do.
+-- `sweep::reached` meets its contract. The invariant of the rounds is `Frontier`, that of a round `Round`.
 use Prim.Native.Nat.{◌<◌}
+use native.Mathlib.Omega.{arith}
+use native.Mathlib.Numerals.{add-one}
 use Rattle.atomset.specs.Set.{has, linked_by}
 use Rattle.atomset.proofs.Members.{none_of}
 use Rattle.sweep.proofs.Frontier.{frontier-start, frontier-used, frontier-end, frontier-decided}
@@ -19,7 +20,7 @@ loop-k-init c = round-start (from_first _) (from_in _ 0) c.empty-front.ensures
 
 pub loop-k-preserved : goal.loop-k-preserved
 loop-k-preserved c =
-    let inside = c.loop-k-test.true in
+    let inside : c.loop-k.k < 2 = omega arith in
     elim c.if-taken-k-ne0.branch [
       | then-taken-k-ne0+else-is_empty w ↦
           rw (w.left-is, w.unseen-is, w.front-is)
@@ -32,7 +33,7 @@ loop-k-preserved c =
 
 pub sweep-preserved : goal.sweep-preserved
 sweep-preserved c =
-    round-end c.loop-k.invariant (from_last _ c.loop-k-test.false) c.sweep-test.true c.sweep.invariant
+    rw add-one (round-end c.loop-k.invariant (from_last _ (omega arith)) c.sweep-test.true c.sweep.invariant)
 
 -- the sweep ends when no round is to do, when no atom is left, or when the next round is empty
 pub returns : goal.returns
@@ -44,16 +45,14 @@ returns c =
     elim c.sweep-test.branch [
       | else-sweep-test w ↦ rw w.left-is (frontier-used c.sweep.invariant w.sweep-test.false)
       | then-sweep-test+then-loop-k-test+then-taken-k-ne0+then-is_empty w ↦
-          let inside : w.loop-k.k < 2 = w.loop-k-test.true in
+          let inside : w.loop-k.k < 2 = omega arith in
           let taken = takes-word _ inside w.near_word-near.ensures in
           rw w.left-is
           (frontier-decided c.sweep.invariant
           (decides-next w.loop-k.invariant c.requires taken w.minus-undecided.ensures) w.sweep-test.true
           (none_of w.is_empty.ensures w.if-is_empty.true))
       | then-sweep-test+else-loop-k-test+then-is_empty-2 w ↦
-          let ended =
-          round-end w.loop-k.invariant (from_last _ w.loop-k-test.false) w.sweep-test.true c.sweep.invariant
-          in
+          let ended = round-end w.loop-k.invariant (from_last _ (omega arith)) w.sweep-test.true c.sweep.invariant in
           rw w.left-is (frontier-end ended (none_of w.is_empty-in-sweep.ensures w.if-is_empty-2.true))
     ]
     in

@@ -1,6 +1,4 @@
--- `sweep::reached` meets its contract. The invariant of the rounds is `Frontier`, that of a round `Round`;
--- the measures are the rounds still to do, and the words of the round still to do.
-use Prim.Native.Nat.{◌-◌}
+-- `sweep::reached` meets its contract. The invariant of the rounds is `Frontier`, that of a round `Round`.
 use Rattle.atomset.specs.Set.{has, linked_by}
 use Rattle.sweep.proofs.Frontier.{Frontier}
 use Rattle.sweep.proofs.Frontier.{Round}
@@ -12,13 +10,7 @@ invariant-loop-k l =
     Round (linked_by l.table) (has l.initial.left) (has l.initial.unseen) (has l.taken) (has l.left) (has l.unseen)
     (from_word l.taken l.k) (has l.front)
 
-abbrev pub decreases-loop-k : goal.decreases-loop-k
-decreases-loop-k l = 2 - l.k
-
 abbrev pub invariant-sweep : goal.invariant-sweep
 invariant-sweep l =
-    Frontier (linked_by l.table) (has l.initial.unseen) (has l.initial.front) (has l.want) l.steps l.rounds
+    Frontier (linked_by l.table) (has l.initial.unseen) (has l.initial.front) (has l.want) l.steps l.counter
     (has l.left) (has l.unseen) (has l.front)
-
-abbrev pub decreases-sweep : goal.decreases-sweep
-decreases-sweep l = l.rounds

@@ -1,18 +1,12 @@
--- `trial::act` meets its contract, by the three kinds of trial: it lists the word, extends the beginning by it, or only
--- raises the next atom.
-use Rattle.trial.proofs.Arrays.{acted-lists, acted-extends, acted-rises}
+-- `trial::act` meets its contract, by the kinds of trial: it extends the beginning, or lists the word, or only raises
+-- the next atom.
+use Rattle.trial.proofs.Arrays.{acted-extends, acted-unwinds}
 use Rattle.trial.proofs.act.Goals as goal
 
-pub returns-then-member : goal.returns-then-member
-returns-then-member c =
-    rw c.if-member.true (acted-lists c.unwind-place.ensures)
-
-pub returns-then-extends : goal.returns-then-extends
-returns-then-extends c =
-    let standing = c.requires.0 in
-    let counting = c.requires.1 in
-    rw (c.if-member.false, c.if-extends.true) (acted-extends standing counting)
+pub returns-then-not-member : goal.returns-then-not-member
+returns-then-not-member c =
+    let (standing, counting) = c.requires in
+    rw (c.if-not-member.true, c.if-extends.true) (acted-extends standing counting)
 
 pub returns : goal.returns
-returns c =
-    rw (c.if-member.false, c.if-extends.false) (acted-rises c.unwind-place-2.ensures)
+returns c = acted-unwinds c.args.member c.args.extends c.else-extends.either c.from.ensures c.unwind-len.ensures

@@ -1,23 +1,15 @@
 -- `trial::unwind` meets its contract. The invariant is `Unwinding`: what is left to unwind comes to what was to be
 -- unwound. The measure is the length of the beginning.
-use mathlib.Core.Path.{refl}
-use native.Mathlib.Omega.{arith}
 use Rattle.trial.proofs.Arrays.{unwinding-pop, unwinding-left, unwinding-end}
 use Rattle.trial.proofs.unwind.Goals as goal
-
-pub loop-len-init : goal.loop-len-init
-loop-len-init c = record { held = c.requires.standing.within; rest = refl }
 
 pub returns-then-c-n : goal.returns-then-c-n
 returns-then-c-n c =
     unwinding-left c.loop-len.invariant c.loop-len-test.true c.if-c-n.true
 
-pub overflow_add-c : goal.overflow_add-c
-overflow_add-c c = omega (arith, c.u8_usize-c.ensures.small)
-
 pub loop-len-preserved : goal.loop-len-preserved
 loop-len-preserved c =
-    unwinding-pop c.loop-len.invariant c.loop-len-test.true c.if-c-n.false c.u8_usize-c.ensures.same
+    unwinding-pop c.loop-len.invariant c.loop-len-test.true c.if-c-n.false c.from-c.ensures
 
 pub returns : goal.returns
 returns c =
