@@ -6,27 +6,26 @@ use mathlib.Core.Bool.{true}
 use mathlib.Core.List.{List, []}
 use mathlib.Core.Logic.{inl, inr}
 use native.Mathlib.Omega.{arith}
+use Rattle.std.specs.Prelude.{Ok}
 use Rattle.graph.proofs.Below.{either}
-use Rattle.enumeration.specs.declared.Stop.{Stop}
 use Rattle.enumeration.specs.Machine.{is_done}
 use Rattle.molecule.specs.declared.Molecule.{Molecule}
 use Rattle.molecule.specs.Record.{well_formed}
 use Rattle.search.specs.declared.Search.{Search}
-use Rattle.search.specs.declared.Ended.TheVariants.{Stopped}
+use Rattle.search.specs.declared.Ran.{Ran}
 use Rattle.search.specs.Place.{state_of, ends_kept, restorable}
 use Rattle.search.specs.Entries.{run_search}
 use Rattle.search.proofs.Readings.{ends-facts, kind-of, restorable-facts}
 use Rattle.history.specs.Calls.{Call, Standing, start, standing, History, said_done}
 use Rattle.history.specs.Demand.{Demand}
 use Rattle.history.proofs.Demand3.{demand3}
-use Rattle.counter.specs.declared.Counted.TheVariants.{Number}
 use Rattle.counter.specs.Count.{shortest_number, count_shortest}
 use Rattle.counter.proofs.Answers.{count-within}
 
 -- a search whose run is not refused keeps rule 12
 run-restorable :
-    (R : Molecule) (q : Search) {why : Stop} → well_formed R ≡ true →
-    (run_search R q 0 []).ended ≡ Stopped why → restorable R q ≡ true
+    (R : Molecule) (q : Search) {ran : Ran} → well_formed R ≡ true → run_search R q 0 [] ≡ Ok ran →
+    restorable R q ≡ true
 unfolding run_search
 run-restorable R q good e = elim (either (restorable R q)) [
   | inl kept ↦ kept
@@ -50,13 +49,13 @@ module _ (R : Molecule) (s t : ℕ) (good : well_formed R ≡ true) (kept : ends
 
   -- once the search is done, the entry answers the number that it has listed
   pub count-is-listed :
-      is_done R.atoms (state_of now.search) ≡ true → count_shortest R s t ≡ Number now.search.listed
+      is_done R.atoms (state_of now.search) ≡ true → count_shortest R s t ≡ Ok now.search.listed
   count-is-listed done =
-      let (why, goes) = demand.goes_on.run_accepted 0 [] in
+      let (ran, goes) = demand.goes_on.run_accepted 0 [] in
       let most = (restorable-facts R now.search (run-restorable R now.search good goes)).listed_most in
       let same = all_listed done in
-      count-within R s t good kept (omega arith) ∙ ap Number (sym same)
+      count-within R s t good kept (omega arith) ∙ ap Ok (sym same)
 
   -- and so once a run has said done
-  pub said-done-listed : said_done calls ≡ true → count_shortest R s t ≡ Number now.search.listed
+  pub said-done-listed : said_done calls ≡ true → count_shortest R s t ≡ Ok now.search.listed
   said-done-listed said = count-is-listed (demand.said-done said)

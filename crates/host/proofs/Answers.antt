@@ -1,40 +1,31 @@
 -- What the entries return and leave, and what a host reads off a mark.
 -- From the definitions, at the tests that were made on the way.
-use Prim.Native.Nat.{ℕ, ◌≤◌, ◌<◌}
+use Rattle.std.specs.Prelude.{Err, Ok, Result, ⊤, Some, None, Option}
+use Rattle.std.specs.Option.{unwrap_or}
+use Prim.Native.Nat.{ℕ, ◌+◌, ◌*◌, ◌≤◌, ◌<◌}
+use native.Mathlib.Omega.{arith}
 use mathlib.Core.Path.{◌≡◌, refl, ap, ap₂, sym, ◌∙◌}
 use mathlib.Core.Bool.{Bool, true, false, ◌&&◌, cond}
 use mathlib.Core.Logic.{◌⊎◌, inl, inr}
 use mathlib.Core.List.{List}
 use lib.ListN.{length}
 use lib.Dec.{leb}
-use borrow.Author.Tests.{eq-eqb, ne_eqb, le-leb, lt-leb}
+use borrow.Author.Tests.{eq-eqb, ne_eqb, le-leb, lt-leb, leb-true}
 use Rattle.fields.proofs.Laws.{value-fits}
 use Rattle.refusal.specs.declared.Refusal.{Refusal}
-use Rattle.refusal.specs.declared.Answer.TheVariants.{Refused}
+use Rattle.refusal.specs.declared.Refusal.TheVariants as refusal
+use Rattle.refusal.proofs.Passed.{passed}
 use Rattle.molecule.specs.declared.Molecule.{Molecule}
 use Rattle.molecule.specs.Record.{well_formed}
-use Rattle.bonds.specs.declared.Reading.{Reading}
-use Rattle.sheet.specs.Read.{read_sheet}
-use Rattle.sheet.proofs.Accepted.{SheetTaken}
-use Rattle.search.specs.declared.Search.{Search}
-use Rattle.search.specs.declared.Ran.{Ran}
-use Rattle.search.specs.declared.Saved.{Saved}
-use Rattle.search.specs.declared.Saved.TheVariants.{Written, Refused}
 use Rattle.search.specs.Place.{fresh_search}
-use Rattle.search.specs.Entries.{accepted_search, run_search, run_output, ended_number}
-use Rattle.search.specs.Mark.{field_kept, value_at, mark_bonds, mark_length, mark_text, save_output, restore_mark}
+use Rattle.search.specs.Mark.{field_kept, value_at, mark_bonds, mark_length, restore_mark}
 use Rattle.search.proofs.Starts.{rings-started}
-use Rattle.bond_writer.specs.Parts.{spliced}
-use Rattle.bond_writer.proofs.Splices.{splice-start}
-use Rattle.counter.specs.declared.Counted.{Counted}
-use Rattle.counter.specs.Count.{count_shortest}
-use Rattle.host.specs.Resume.{Resumed, search_for, run_and_save, named_size, mark_size, listed_in}
-use Rattle.host.specs.Start.{Started, wrote_mark}
-use Rattle.host.specs.Count.{CountedSheet, refused_count, wrote_count, count_sheet}
-use Rattle.host.specs.Written.{WrittenOut, saved_number, saved_length, written_out}
+use Rattle.host.specs.Gate.{mark_room, room_asked}
+use Rattle.host.specs.Parts.{filled_value}
+use Rattle.host.specs.Resume.{search_for, named_size, mark_size, listed_in}
 
 module _ (mol : Molecule) (mark : List ℕ) where
-  pub search-fresh : well_formed mol ≡ true → length mark ≡ 0 → accepted_search (fresh_search 0 0 0) ≡
+  pub search-fresh : well_formed mol ≡ true → length mark ≡ 0 → Ok (fresh_search 0 0 0) ≡
       search_for mol mark
   unfolding search_for
   search-fresh formed e = rw (eq-eqb (length mark) 0 e, rings-started mol formed)
@@ -45,81 +36,38 @@ module _ (mol : Molecule) (mark : List ℕ) where
 
 -- ---- what is returned and left
 
-abbrev pub Leaves : ℕ → List ℕ → List ℕ → Resumed → Type 0
-Leaves number rings next x = (number ≡ x.number) × (rings ≡ x.rings) × (next ≡ x.next_mark)
-
-pub leaves :
-    {x y : Resumed} → x ≡ y → (number : ℕ) (rings next : List ℕ) →
-    Leaves number rings next x → Leaves number rings next y
-leaves e number rings next h = rw (← e) h
-
--- the run and the save, from what the two entries promise
-pub ran-and-saved :
-    (mol : Molecule) (q : Search) (budget : ℕ) (rings next : List ℕ) (ran : Ran) (number : ℕ) (out saved : List ℕ) →
-    (ran ≡ run_search mol q budget rings) × (out ≡ run_output mol q budget rings) →
-    saved ≡ save_output mol ran.search next → number ≡ ended_number ran.ended →
-    Leaves number out saved (run_and_save mol q budget rings next)
-unfolding run_and_save
-ran-and-saved mol q budget rings next ran number out saved (is-ran, is-out) is-saved is_number =
-    (is_number ∙ rw is-ran, is-out, is-saved ∙ rw is-ran)
-
--- the same of the entry that starts a search
-abbrev pub LeavesMark : ℕ → List ℕ → Started → Type 0
-LeavesMark number next x = (number ≡ x.number) × (next ≡ x.next_mark)
-
-pub leaves-mark :
-    {x y : Started} → x ≡ y → (number : ℕ) (next : List ℕ) → LeavesMark number next x → LeavesMark number next y
-leaves-mark e number next h = rw (← e) h
-
--- the mark over the first bytes of the output
-pub mark-put :
-    (mol : Molecule) (q : Search) (next last : List ℕ) → last ≡ spliced 0 (mark_text mol q) next →
-    LeavesMark 0 last (wrote_mark mol q next)
-mark-put mol q next last put = (refl, put ∙ splice-start next (mark_text mol q))
-
--- the same of the entry that counts
-abbrev pub LeavesCount : ℕ → ℕ → CountedSheet → Type 0
-LeavesCount number count x = (number ≡ x.number) × (count ≡ x.count)
-
-pub leaves-count :
-    {x y : CountedSheet} → x ≡ y → (number count : ℕ) → LeavesCount number count x → LeavesCount number count y
-leaves-count e number count h = rw (← e) h
-
--- its two ways: the sheet is refused, or what the count on its record answers is written
-module _ (sheet : List ℕ) {read : Reading} (s t count : ℕ) where
-  pub count-unread :
-      {r : Refusal} → read ≡ read_sheet sheet → read.answer ≡ Refused r →
-      refused_count r count ≡ count_sheet sheet s t count
-  unfolding count_sheet
-  count-unread is_read e = rw (← is_read, e)
-
-  pub count-read :
-      {counted : Counted} → SheetTaken sheet read → counted ≡ count_shortest read.molecule s t →
-      wrote_count counted count ≡ count_sheet sheet s t count
-  unfolding count_sheet
-  count-read taken is-counted = rw (← taken.is_read, taken.accepted, ← is-counted)
-
--- the same of an entry that writes bytes and puts their number down
-abbrev pub LeavesWritten : ℕ → List ℕ → ℕ → WrittenOut → Type 0
-LeavesWritten number bytes length x = (number ≡ x.number) × (bytes ≡ x.bytes) × (length ≡ x.length)
+-- rule 13 was asked, and kept
+pub room-kept : (size : ℕ) {x : ⊤} → room_asked size ≡ Ok x → mark_room ≤ size
+room-kept size e = leb-true mark_room size (passed (leb mark_room size) (Ok tt) refusal.MarkRoom e).0
 
 -- an answer is either of the two
-pub saved-ways : (x : Saved) → ((k : ℕ) × (x ≡ Written k)) ⊎ ((r : Refusal) × (x ≡ Refused r))
-saved-ways (Written k) = inl (k, refl)
-saved-ways (Refused r) = inr (r, refl)
-
--- an answer in numbers
-pub written :
-    (answer : Saved) (output : List ℕ) (before : ℕ) {saved : Saved} {last : List ℕ} {number after : ℕ} →
-    (saved ≡ answer) × (last ≡ output) → (number ≡ saved_number saved) × (after ≡ saved_length saved before) →
-    LeavesWritten number last after (written_out answer output before)
-written answer output before (is-answer, is-output) (is_number, is-length) = (
-  is_number ∙ ap saved_number is-answer,
-  is-output,
-  is-length ∙ ap (λ (x : Saved). saved_length x before) is-answer,
-)
+pub saved-ways : (x : Result ℕ Refusal) → ((k : ℕ) × (x ≡ Ok k)) ⊎ ((r : Refusal) × (x ≡ Err r))
+saved-ways (Ok k) = inl (k, refl)
+saved-ways (Err r) = inr (r, refl)
 
 -- ---- what a host reads off a mark
+
+-- a field of a mark, or none
+told-some : (kept : Bool) {v w : ℕ} → ◌≡◌ {A = Option ℕ} (Some v) (cond kept (Some w) None) → (kept ≡ true) × (v ≡ w)
+told-some true e = (refl, cc)
+told-some false e = absurd (let z : ◌≡◌ {A = ℕ} 0 1 = cc in omega arith)
+
+told-none : (kept : Bool) (w : ℕ) → ◌≡◌ {A = Option ℕ} None (cond kept (Some w) None) → kept ≡ false
+told-none true w e = absurd (let z : ◌≡◌ {A = ℕ} 0 1 = cc in omega arith)
+told-none false w e = refl
+
+told-or-zero : (kept : Bool) (v : ℕ) → unwrap_or (cond kept (Some v) None) 0 ≡ cond kept v 0
+told-or-zero true v = refl
+told-or-zero false v = refl
+
+module _ (columns : ℕ) (bytes : List ℕ) (at : ℕ) where
+  pub value-read :
+      {v : ℕ} → Some v ≡ filled_value columns bytes at →
+      (field_kept columns bytes at ≡ true) × (v ≡ value_at columns bytes at)
+  value-read e = told-some (field_kept columns bytes at) e
+
+  pub value-none : None ≡ filled_value columns bytes at → field_kept columns bytes at ≡ false
+  value-none e = told-none (field_kept columns bytes at) (value_at columns bytes at) e
 
 module _ (bytes : List ℕ) where
   pub size-short : length bytes < 91 → 0 ≡ mark_size bytes
@@ -139,6 +87,11 @@ module _ (bytes : List ℕ) where
     unfolding listed_in
     listed-read e = rw (le-leb 91 (length bytes) room) (sym (ap (λ (t : Bool). cond t (value_at 20 bytes 69) 0) e))
 
+    pub listed-value : {x : Option ℕ} → x ≡ filled_value 20 bytes 69 → unwrap_or x 0 ≡ listed_in bytes
+    unfolding listed_in
+    listed-value e =
+        rw (le-leb 91 (length bytes) room, e) (told-or-zero (field_kept 20 bytes 69) (value_at 20 bytes 69))
+
     pub bonds-none : field_kept 4 bytes 16 ≡ false → 0 ≡ mark_size bytes
     unfolding mark_size
     bonds-none e =
@@ -153,19 +106,38 @@ module _ (bytes : List ℕ) where
         rw (le-leb 91 (length bytes) room)
         (sym (ap₂ (λ (t u : Bool). cond (t && u && leb size (length bytes)) size 0) kept e))
 
--- What is known where the bonds and the length of p stand in fields of a mark
-pub record SizeRead (bytes : List ℕ) : Type 0 where
+-- What is known where the bonds and the length of p were read from fields of a mark
+pub record SizeRead (bytes : List ℕ) (bonds len : ℕ) : Type 0 where
   pub room : 91 ≤ length bytes
   pub bonds-kept : field_kept 4 bytes 16 ≡ true
   pub length-kept : field_kept 4 bytes 20 ≡ true
+  pub bonds-are : bonds ≡ mark_bonds bytes
+  pub length-is : len ≡ mark_length bytes
 
-module _ {bytes : List ℕ} (f : SizeRead bytes) where
+pub size-fields :
+    {bytes : List ℕ} {bonds len : ℕ} → 91 ≤ length bytes → Some bonds ≡ filled_value 4 bytes 16 →
+    Some len ≡ filled_value 4 bytes 20 → SizeRead bytes bonds len
+size-fields {bytes} room bonds-read length-read =
+    let (bonds-kept, bonds-are) = value-read 4 bytes 16 bonds-read in
+    let (length-kept, length-is) = value-read 4 bytes 20 length-read in
+    record {
+      room = room;
+      bonds-kept = bonds-kept;
+      length-kept = length-kept;
+      bonds-are = bonds-are;
+      length-is = length-is;
+    }
+
+module _ {bytes : List ℕ} {bonds len : ℕ} (f : SizeRead bytes bonds len) where
   -- fields of 4 columns
-  pub bonds-small : mark_bonds bytes < 10000
-  bonds-small = value-fits 4 bytes 16
+  pub bonds-small : bonds < 10000
+  bonds-small = rw f.bonds-are (value-fits 4 bytes 16)
 
-  pub length-small : mark_length bytes < 10000
-  length-small = value-fits 4 bytes 20
+  pub length-small : len < 10000
+  length-small = rw f.length-is (value-fits 4 bytes 20)
+
+  size-is : 91 + 4 * len + 9 * bonds ≡ named_size bytes
+  size-is = rw (f.bonds-are, f.length-is)
 
   -- the last test decides
   size-by : (fits : Bool) → leb (named_size bytes) (length bytes) ≡ fits → cond fits (named_size bytes) 0 ≡
@@ -176,8 +148,8 @@ module _ {bytes : List ℕ} (f : SizeRead bytes) where
       (sym (ap₂ (λ (t u : Bool). cond (t && u && leb (named_size bytes) (length bytes)) (named_size bytes) 0)
       f.bonds-kept f.length-kept ∙ ap (λ (t : Bool). cond t (named_size bytes) 0) e))
 
-  pub size-past : length bytes < named_size bytes → 0 ≡ mark_size bytes
-  size-past h = size-by false (lt-leb (named_size bytes) (length bytes) h)
+  pub size-past : length bytes < 91 + 4 * len + 9 * bonds → 0 ≡ mark_size bytes
+  size-past h = size-by false (lt-leb (named_size bytes) (length bytes) (rw size-is at h))
 
-  pub size-read : named_size bytes ≤ length bytes → named_size bytes ≡ mark_size bytes
-  size-read h = size-by true (le-leb (named_size bytes) (length bytes) h)
+  pub size-read : 91 + 4 * len + 9 * bonds ≤ length bytes → 91 + 4 * len + 9 * bonds ≡ mark_size bytes
+  size-read h = size-is ∙ size-by true (le-leb (named_size bytes) (length bytes) (rw size-is at h))

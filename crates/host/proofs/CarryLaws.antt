@@ -1,5 +1,6 @@
 -- The laws of carrying a mark from C: its numbers, what a refusal leaves, that the mark written restores the same
 -- search, and that calls from it go on with the list. By the laws of `carry`; then by `host-from-mark` and demand 3.
+use Rattle.std.specs.Prelude.{Err, Ok, Result}
 use Prim.Native.Nat.{ℕ, ◌≤◌}
 use native.Mathlib.Omega.{arith}
 use mathlib.Core.Path.{◌≡◌, sym, ap, ◌∙◌}
@@ -8,7 +9,6 @@ use mathlib.Core.Bool.{true}
 use mathlib.Core.List.{List, ◌++◌}
 use lib.ListN.{length, take, drop}
 use Rattle.refusal.specs.declared.Refusal.{Refusal}
-use Rattle.refusal.specs.declared.Answer.TheVariants.{Accepted}
 use Rattle.molecule.specs.declared.Molecule.{Molecule}
 use Rattle.molecule.specs.Record.{well_formed}
 use Rattle.sheet.specs.Read.{read_sheet}
@@ -16,10 +16,7 @@ use Rattle.sheet.proofs.Accepted.{accepted-well-formed}
 use Rattle.search.specs.declared.Search.{Search}
 use Rattle.search.specs.declared.Form.{Form}
 use Rattle.search.specs.declared.Form.TheVariants.{Old, New}
-use Rattle.search.specs.declared.Saved.{Saved}
-use Rattle.search.specs.declared.Saved.TheVariants.{Written, Refused}
 use Rattle.search.specs.Place.{kind_kept}
-use Rattle.search.specs.Entries.{accepted_search}
 use Rattle.search.specs.Mark.{mark_text}
 use Rattle.search.specs.Forms.{mark_in, restore_in}
 use Rattle.search.proofs.FormLaws.{form-restores, form-restorable, longest}
@@ -41,7 +38,7 @@ module _ (from to : Form) (sheet mark out : List ℕ) (before : ℕ) where
   abbrev pub call : WrittenOut
   call = carry_sheet from to sheet mark out before
 
-  refused-number : (r : Refusal) → carry_answer from to sheet mark out ≡ Refused r → CarryNumber call.number
+  refused-number : (r : Refusal) → carry_answer from to sheet mark out ≡ Err r → CarryNumber call.number
   refused-number r e = rw e (carry.carry-numbers from to sheet mark out r e)
 
   -- It returns 0, or for a refusal 1 to 8 or 13 to 17
@@ -60,13 +57,13 @@ module _ (from to : Form) (sheet mark out : List ℕ) (before : ℕ) where
   carry-refused-keeps other = elim (saved-ways (carry_answer from to sheet mark out)) [
     | inl (k, e) ↦ absurd (other (ap saved_number e))
     | inr (r, e) ↦
-        (carry.carry-refused from to sheet mark out r e, ap (λ (x : Saved). saved_length x before) e)
+        (carry.carry-refused from to sheet mark out r e, ap (λ (x : Result ℕ Refusal). saved_length x before) e)
   ]
 
   -- 0 means that as many bytes are written as the length says
-  carry-written : call.number ≡ 0 → carry_answer from to sheet mark out ≡ Written call.length
+  carry-written : call.number ≡ 0 → carry_answer from to sheet mark out ≡ Ok call.length
   carry-written zero = elim (saved-ways (carry_answer from to sheet mark out)) [
-    | inl (k, e) ↦ e ∙ ap Written (sym (ap (λ (x : Saved). saved_length x before) e))
+    | inl (k, e) ↦ e ∙ ap Ok (sym (ap (λ (x : Result ℕ Refusal). saved_length x before) e))
     | inr (r, e) ↦ absurd (not-zero call.number (refused-number r e) zero)
   ]
 
@@ -76,11 +73,11 @@ module _ (from to : Form) (sheet mark out : List ℕ) (before : ℕ) where
 
   -- A mark that is accepted is carried, where the output has 599 bytes for an old mark, or 9,815 for a new one
   pub carry-accepted :
-      (read_sheet sheet).answer ≡ Accepted → (q : Search) →
-      restore_in from (read_sheet sheet).molecule mark ≡ accepted_search q → longest to ≤ length out → call.number ≡ 0
-  carry-accepted read q restored room =
-      let fits = carry.carry-roomy from to sheet mark out read q restored room in
-      ap saved_number (carry.carry-accepts from to sheet mark out read q restored fits).0
+      (mol : Molecule) → read_sheet sheet ≡ Ok mol → (q : Search) →
+      restore_in from mol mark ≡ Ok q → longest to ≤ length out → call.number ≡ 0
+  carry-accepted mol read q restored room =
+      let fits = carry.carry-roomy from to sheet mark out mol read q restored room in
+      ap saved_number (carry.carry-accepts from to sheet mark out mol read q restored fits).0
 
 -- There and back: the first bytes, where the second output is long enough
 pub carry-there-and-back :
@@ -92,16 +89,14 @@ pub carry-there-and-back :
 carry-there-and-back from to sheet mark out before zero second other room =
     let written = carry-written from to sheet mark out before zero in
     let (answer, output) = (carry.there_and_back from to sheet mark out second _ written).0 room in
-    (ap saved_number answer, ap (λ (x : Saved). saved_length x other) answer, output)
+    (ap saved_number answer, ap (λ (x : Result ℕ Refusal). saved_length x other) answer, output)
 
 -- ---- an old mark, carried over
 
-module _ (sheet old out : List ℕ) (before : ℕ) (zero : (carry_sheet Old New sheet old out before).number ≡ 0) where
+module _ (sheet old out : List ℕ) (before : ℕ) (zero : (carry_sheet Old New sheet old out before).number ≡ 0)
+    (mol : Molecule) (read : read_sheet sheet ≡ Ok mol) where
   over : carry.CarriedFacts Old New sheet old out (carry_sheet Old New sheet old out before).length
   over = carry-zero Old New sheet old out before zero
-
-  abbrev pub mol : Molecule
-  mol = (read_sheet sheet).molecule
 
   -- the mark written
   abbrev pub carried_over : List ℕ
@@ -109,17 +104,22 @@ module _ (sheet old out : List ℕ) (before : ℕ) (zero : (carry_sheet Old New 
       let call = carry_sheet Old New sheet old out before in
       take call.length call.bytes
 
-  module _ (q : Search) (is : restore_in Old mol old ≡ accepted_search q) where
+  module _ (q : Search) (is : restore_in Old mol old ≡ Ok q) where
     -- it restores the search that the old mark restores
-    pub over-restores : restore_in New mol carried_over ≡ accepted_search q
-    over-restores = over.restores ∙ sym over.restored ∙ is
+    pub over-restores : restore_in New mol carried_over ≡ Ok q
+    over-restores =
+        let reads = sym over.read ∙ read in
+        let same : over.mol ≡ mol = cc in
+        let restored = sym (rw same at over.restored) ∙ is in
+        let found : over.search ≡ q = cc in
+        rw (same, found) at over.restores
 
     -- Calls that begin with it list what follows the old mark's place
     pub over-from-mark :
         (calls : List HostCall) → HostHistory sheet (keeping carried_over) calls →
         HostFromMark sheet mol carried_over q calls
         (kept_by (keeping carried_over) calls) (standing (restored_start q) (all_calls_in calls))
-    over-from-mark = host-from-mark sheet over.read carried_over q over-restores
+    over-from-mark = host-from-mark sheet mol read carried_over q over-restores
 
   -- ---- with the past: the old mark is that of the search as it stood after calls that began with a fresh search
 
@@ -127,7 +127,7 @@ module _ (sheet old out : List ℕ) (before : ℕ) (zero : (carry_sheet Old New 
       (history : History mol (start kind s t) past)
       (was : old ≡ mark_in Old mol (standing (start kind s t) past).search) where
     formed : well_formed mol ≡ true
-    formed = accepted-well-formed sheet over.read
+    formed = accepted-well-formed sheet mol read
 
     -- what stood
     abbrev stood : Standing
@@ -136,7 +136,7 @@ module _ (sheet old out : List ℕ) (before : ℕ) (zero : (carry_sheet Old New 
     demanded : Demand mol kind s t past stood
     demanded = demand3 mol kind s t formed kept past history
 
-    stood-restores : restore_in Old mol old ≡ accepted_search stood.search
+    stood-restores : restore_in Old mol old ≡ Ok stood.search
     stood-restores =
         let accepted = demanded.goes_on.restore_accepted in
         let (_, passes, full) = form-restorable New mol (mark_text mol stood.search) stood.search accepted in
@@ -156,7 +156,7 @@ module _ (sheet old out : List ℕ) (before : ℕ) (zero : (carry_sheet Old New 
         let records = ap (λ l. stood.sheet ++ l) (sym stands.records_kept) in
         let joined = continued-sheet mol (start kind s t) past more ∙ records in
         let restores = over-restores stood.search stood-restores in
-        let done = host-mark-done sheet over.read carried_over stood.search restores calls h in
+        let done = host-mark-done sheet mol read carried_over stood.search restores calls h in
         record {
           demand = d;
           sheet_joined = joined;

@@ -1,9 +1,10 @@
 -- Repeated calls from C, each handed the mark that the last accepted one wrote, are a history of demand 3.
 -- By induction on the calls: an accepted one is `OneCall`, a refused one changes nothing.
+use Rattle.std.specs.Prelude.{Ok}
 use Prim.Native.Nat.{ℕ, ◌≤◌}
 use native.Mathlib.Omega.{arith}
 use native.Mathlib.Decide.{dec_le}
-use mathlib.Core.Path.{◌≡◌, refl, sym, ◌∙◌, subst}
+use mathlib.Core.Path.{◌≡◌, refl, sym, ◌∙◌}
 use mathlib.Core.Logic.{◌⊎◌, inl, inr}
 use mathlib.Core.Bool.{Bool, true, false, ◌||◌, cond, or-false, or_assoc}
 use mathlib.Core.List.{List, [], ◌∷◌}
@@ -11,14 +12,12 @@ use lib.ListN.{length}
 use lib.Dec.{eqb}
 use borrow.Author.Tests.{ltb-true, ne_eqb}
 use Rattle.enumeration.specs.Machine.{fresh, is_done}
-use Rattle.refusal.specs.declared.Answer.TheVariants.{Accepted}
 use Rattle.molecule.specs.declared.Molecule.{Molecule}
 use Rattle.molecule.specs.Record.{well_formed}
 use Rattle.sheet.specs.Read.{read_sheet}
 use Rattle.sheet.proofs.Accepted.{accepted-well-formed}
 use Rattle.search.specs.declared.Search.{Search}
 use Rattle.search.specs.Place.{state_of, search_at, fresh_search, kind_kept, restorable}
-use Rattle.search.specs.Entries.{accepted_search}
 use Rattle.search.specs.Mark.{mark_text, restore_mark}
 use Rattle.search.proofs.MarkLaws.{restorable-facts, restorable-valid, restored-restorable, restored-saves}
 use Rattle.history.specs.Calls.{Call, Standing, start, standing, History}
@@ -80,7 +79,8 @@ module _ {L : Listing} {said : Bool} {k : Kept} {x : Standing} (v : Agrees L sai
   host-on = record {
     call_accepted = λ c e f room. call.not-refused v c (handed c e f) room;
     progress = λ c e f room b l.
-        call.call-progress v c (handed c e f) room ((on_in L v.reached).progress c.budget c.rings b l);
+        call.call-progress v c (handed c e f) room
+        ((on_in L v.reached).progress c.budget c.rings _ b l (call.ran-is v c (handed c e f)));
   }
     where
       handed : (c : HostCall) → c.sheet ≡ L.sheet → c.mark ≡ k.mark → HandedOn L k c
@@ -130,7 +130,7 @@ host-listed {L} v calls h =
 module _ {L : Listing} (q : Search) (is-from : L.began ≡ restored_start q)
     (reached : ReachedIn L false 0 L.began) where
   -- a mark, which restores the search
-  marked-agrees : restore_mark L.mol L.first ≡ accepted_search q → Agrees L false (keeping L.first) L.began
+  marked-agrees : restore_mark L.mol L.first ≡ Ok q → Agrees L false (keeping L.first) L.began
   unfolding keeping restored_start
   marked-agrees e =
       let saved = restored-saves L.mol L.first q e in
@@ -158,11 +158,9 @@ module _ {L : Listing} (q : Search) (is-from : L.began ≡ restored_start q)
 -- ---- the two theorems
 
 -- an accepted sheet keeps rule 9
-module _
-    (sheet : List ℕ) (read : (read_sheet sheet).answer ≡ Accepted)
-    (R : Molecule) (is_record : (read_sheet sheet).molecule ≡ R) where
+module _ (sheet : List ℕ) (R : Molecule) (read : read_sheet sheet ≡ Ok R) where
   formed : well_formed R ≡ true
-  formed = subst (λ (m : Molecule). well_formed m ≡ true) is_record (accepted-well-formed sheet read)
+  formed = accepted-well-formed sheet R read
 
   -- ---- calls that start a search
 
@@ -181,7 +179,6 @@ module _
       first = first;
       began = start kind s t;
       read = read;
-      is_record = is_record;
       formed = formed;
       kept = kinds;
       sound = fresh-sound R kind s t formed kinds;
@@ -226,7 +223,7 @@ module _
 
   -- ---- calls from a mark
 
-  module _ (mark : List ℕ) (q : Search) (e : restore_mark R mark ≡ accepted_search q) where
+  module _ (mark : List ℕ) (q : Search) (e : restore_mark R mark ≡ Ok q) where
     passes : restorable R q ≡ true
     passes = (restored-restorable R mark q e).1
 
@@ -241,7 +238,6 @@ module _
       first = mark;
       began = restored_start q;
       read = read;
-      is_record = is_record;
       formed = formed;
       kept = (restorable-facts R q passes).kind-kept;
       sound = restorable-valid R q passes;
@@ -272,46 +268,45 @@ module _
 
 -- Demand 3 over every accepted sheet, every search that a host may start on it, and every list of calls from C
 pub host-demand3 :
-    (sheet : List ℕ) → (read_sheet sheet).answer ≡ Accepted →
-    (kind s t : ℕ) (first : List ℕ) → FirstMark (read_sheet sheet).molecule kind s t first →
+    (sheet : List ℕ) (R : Molecule) → read_sheet sheet ≡ Ok R →
+    (kind s t : ℕ) (first : List ℕ) → FirstMark R kind s t first →
     (calls : List HostCall) → HostHistory sheet (keeping first) calls →
-    HostDemand sheet (read_sheet sheet).molecule kind s t first calls
+    HostDemand sheet R kind s t first calls
     (kept_by (keeping first) calls) (standing (start kind s t) (all_calls_in calls))
-host-demand3 sheet read = fresh-demand sheet read (read_sheet sheet).molecule refl
+host-demand3 = fresh-demand
 
 -- After a call that returned 101 the search as it stands is done
 pub host-done :
-    (sheet : List ℕ) → (read_sheet sheet).answer ≡ Accepted →
-    (kind s t : ℕ) (first : List ℕ) → FirstMark (read_sheet sheet).molecule kind s t first →
+    (sheet : List ℕ) (R : Molecule) → read_sheet sheet ≡ Ok R →
+    (kind s t : ℕ) (first : List ℕ) → FirstMark R kind s t first →
     (calls : List HostCall) → HostHistory sheet (keeping first) calls → returned_done calls ≡ true →
-    is_done (read_sheet sheet).molecule.atoms (state_of (standing (start kind s t) (all_calls_in calls)).search) ≡ true
-host-done sheet read = fresh-done sheet read (read_sheet sheet).molecule refl
+    is_done R.atoms (state_of (standing (start kind s t) (all_calls_in calls)).search) ≡ true
+host-done = fresh-done
 
 -- Over every accepted sheet, every mark that its record restores, and every list of calls from C that begins with it
 pub host-from-mark :
-    (sheet : List ℕ) → (read_sheet sheet).answer ≡ Accepted →
-    (mark : List ℕ) (q : Search) → restore_mark (read_sheet sheet).molecule mark ≡ accepted_search q →
+    (sheet : List ℕ) (R : Molecule) → read_sheet sheet ≡ Ok R →
+    (mark : List ℕ) (q : Search) → restore_mark R mark ≡ Ok q →
     (calls : List HostCall) → HostHistory sheet (keeping mark) calls →
-    HostFromMark sheet (read_sheet sheet).molecule mark q calls
+    HostFromMark sheet R mark q calls
     (kept_by (keeping mark) calls) (standing (restored_start q) (all_calls_in calls))
-host-from-mark sheet read = mark-followed sheet read (read_sheet sheet).molecule refl
+host-from-mark = mark-followed
 
 -- After a call that returned 101 the search as it stands is done
 pub host-mark-done :
-    (sheet : List ℕ) → (read_sheet sheet).answer ≡ Accepted →
-    (mark : List ℕ) (q : Search) → restore_mark (read_sheet sheet).molecule mark ≡ accepted_search q →
+    (sheet : List ℕ) (R : Molecule) → read_sheet sheet ≡ Ok R →
+    (mark : List ℕ) (q : Search) → restore_mark R mark ≡ Ok q →
     (calls : List HostCall) → HostHistory sheet (keeping mark) calls → returned_done calls ≡ true →
-    is_done (read_sheet sheet).molecule.atoms (state_of (standing (restored_start q) (all_calls_in calls)).search) ≡
-    true
-host-mark-done sheet read = mark-done sheet read (read_sheet sheet).molecule refl
+    is_done R.atoms (state_of (standing (restored_start q) (all_calls_in calls)).search) ≡ true
+host-mark-done = mark-done
 
 -- The entry takes the fresh mark of every search that rule 16 allows on the sheet's record
 pub fresh-accepted :
-    (sheet : List ℕ) → (read_sheet sheet).answer ≡ Accepted →
-    (kind s t : ℕ) → kind_kept (read_sheet sheet).molecule.atoms kind s t ≡ true →
-    (c : HostCall) → c.sheet ≡ sheet → c.mark ≡ mark_text (read_sheet sheet).molecule (fresh_search kind s t) →
+    (sheet : List ℕ) (R : Molecule) → read_sheet sheet ≡ Ok R →
+    (kind s t : ℕ) → kind_kept R.atoms kind s t ≡ true →
+    (c : HostCall) → c.sheet ≡ sheet → c.mark ≡ mark_text R (fresh_search kind s t) →
     mark_room ≤ length c.next → is_refused c ≡ false
 unfolding kept_by keeping
-fresh-accepted sheet read kind s t kept =
-    let first = mark_text (read_sheet sheet).molecule (fresh_search kind s t) in
-    (host-demand3 sheet read kind s t first (kept, inl refl) [] tt).stands.goes_on.call_accepted
+fresh-accepted sheet R read kind s t kept =
+    let first = mark_text R (fresh_search kind s t) in
+    (host-demand3 sheet R read kind s t first (kept, inl refl) [] tt).stands.goes_on.call_accepted

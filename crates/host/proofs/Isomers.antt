@@ -1,5 +1,6 @@
 -- A mark in a call from C (document 02, F-5): its bond lines are laid out as on a blank-filled sheet, and a call with
 -- the mark of an isomer is refused by 15. Line by line; and by the law of the mark of another molecule.
+use Rattle.std.specs.Prelude.{Ok}
 use Prim.Native.Nat.{ℕ}
 use mathlib.Core.Path.{◌≡◌, refl, ap, sym, ◌∙◌}
 use mathlib.Core.Bool.{true, false}
@@ -7,7 +8,6 @@ use mathlib.Core.List.{List, [], ◌∷◌, ◌++◌, append_assoc, append-nil}
 use lib.ListN.{length}
 use Rattle.fields.specs.Field.{field_text}
 use Rattle.refusal.specs.declared.Refusal.TheVariants as refusal
-use Rattle.refusal.specs.declared.Answer.TheVariants.{Accepted}
 use Rattle.molecule.specs.declared.Molecule.{Molecule}
 use Rattle.molecule.specs.Record.{bonded, well_formed}
 use Rattle.molecule.specs.BondList.{Bond}
@@ -15,7 +15,6 @@ use Rattle.sheet.specs.Read.{read_sheet}
 use Rattle.sheet.specs.Text.{Fillings, lines_text, sheet_text}
 use Rattle.sheet.proofs.Accepted.{accepted-well-formed}
 use Rattle.search.specs.declared.Search.{Search}
-use Rattle.search.specs.declared.Made.{Made}
 use Rattle.search.specs.Place.{restorable}
 use Rattle.search.specs.Mark.{fields_text, bond_lines, mark_text}
 use Rattle.search.proofs.Belonging.{isomer-refused}
@@ -42,14 +41,11 @@ sheet-lines n bonds = bond-lines ((n, length bonds) ∷ bonds)
 
 -- A call with a sheet and the mark of a molecule that has another bond, or one less, is refused by 15
 pub isomer-turned-back :
-    (sheet : List ℕ) (A : Molecule) (q : Search) (budget : ℕ) (rings next : List ℕ) →
-    (read_sheet sheet).answer ≡ Accepted → well_formed A ≡ true → restorable A q ≡ true → length q.prefix ≡ 128 →
-    let B = (read_sheet sheet).molecule in
+    (sheet : List ℕ) (A B : Molecule) (q : Search) (budget : ℕ) (rings next : List ℕ) →
+    read_sheet sheet ≡ Ok B → well_formed A ≡ true → restorable A q ≡ true → length q.prefix ≡ 128 →
     (a b : ℕ) → (bonded A.atoms A.rows a b ≡ bonded B.atoms B.rows a b → ⊥) →
     resume sheet (mark_text A q) budget rings next ≡ refused_call refusal.MarkMolecule rings next
-isomer-turned-back sheet A q budget rings next read formed kept full a b differ =
-    let B = (read_sheet sheet).molecule in
-    let refused = isomer-refused A B q formed (accepted-well-formed sheet read) kept full a b differ in
+isomer-turned-back sheet A B q budget rings next read formed kept full a b differ =
+    let refused = isomer-refused A B q formed (accepted-well-formed sheet B read) kept full a b differ in
     let made = sym (search-restored B (mark_text A q) (mark-some A q)) ∙ refused in
-    sym (search-refused (λ r. refused_call r rings next) sheet (λ mol. search_for mol (mark_text A q)) next _
-    (record { is_read = refl; accepted = read }) refl (ap (λ (x : Made). x.answer) made))
+    sym (search-refused (λ r. refused_call r rings next) sheet (λ mol. search_for mol (mark_text A q)) next _ read made)

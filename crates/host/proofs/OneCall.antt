@@ -1,8 +1,9 @@
 -- One call from C, handed the sheet and the mark as it stands, is a run of the search as it stands.
 -- Calls reach that search (`Reached`), so its mark restores it; what the entry returns and leaves is `resume-accepted`.
+use Rattle.std.specs.Prelude.{Ok}
 use Prim.Native.Nat.{ℕ, ◌≤◌, ◌<◌}
 use native.Mathlib.Omega.{arith}
-use mathlib.Core.Path.{◌≡◌, refl, sym, ap, subst, ◌∙◌}
+use mathlib.Core.Path.{◌≡◌, refl, sym, ap, ◌∙◌}
 use mathlib.Core.Logic.{◌⊎◌, inl, inr}
 use mathlib.Core.Bool.{Bool, true, false, ◌||◌, cond}
 use mathlib.Core.List.{List, [], ◌∷◌, ◌++◌, append_assoc}
@@ -18,15 +19,13 @@ use Rattle.enumeration.specs.Run.{Outcome, run, record_of, stop_number}
 use Rattle.enumeration.specs.Trials.{Valid, emitted, records}
 use Rattle.enumeration.specs.RunFacts.{RunFacts}
 use Rattle.enumeration.proofs.Theorems.{run-outcome}
-use Rattle.refusal.specs.declared.Answer.TheVariants.{Accepted}
 use Rattle.molecule.specs.declared.Molecule.{Molecule}
 use Rattle.molecule.specs.Record.{well_formed}
 use Rattle.sheet.specs.Read.{read_sheet}
 use Rattle.search.specs.declared.Search.{Search}
-use Rattle.search.specs.declared.Made.{Made}
 use Rattle.search.specs.declared.Ran.{Ran}
-use Rattle.search.specs.Place.{family_of, family, state_of, search_at, kind_kept}
-use Rattle.search.specs.Entries.{accepted_search, run_search, ended_number}
+use Rattle.search.specs.Place.{family_of, state_of, search_at, kind_kept}
+use Rattle.search.specs.Entries.{run_search}
 use Rattle.search.specs.Mark.{mark_text, restore_mark}
 use Rattle.search.proofs.Restores.{restored-facts}
 use Rattle.history.specs.Calls.{Call, runs, saves, restores, Standing, after_call, standing, Allowed, History}
@@ -37,7 +36,7 @@ use Rattle.history.proofs.Reached as history
 use Rattle.history.proofs.Joined.{standing-joined, history-joined}
 use Rattle.history.proofs.Stands as stands
 use Rattle.host.specs.Gate.{mark_room, gated}
-use Rattle.host.specs.Resume.{Resumed, search_for, resume, mark_size, listed_in}
+use Rattle.host.specs.Resume.{search_for, mark_size, listed_in}
 use Rattle.host.specs.Calls.{HostCall, returned, is_refused, Kept, first_records, mark_left, new_records, kept_after, calls_in}
 use Rattle.host.proofs.Answers.{search-restored}
 use Rattle.host.proofs.Sizes.{listed-restored, mark-some}
@@ -75,8 +74,7 @@ pub record Listing : Type 0 where
   pub origin : State
   pub first : List ℕ
   pub began : Standing
-  pub read : (read_sheet sheet).answer ≡ Accepted
-  pub is_record : (read_sheet sheet).molecule ≡ mol
+  pub read : read_sheet sheet ≡ Ok mol
   pub formed : well_formed mol ≡ true
   pub kept : kind_kept mol.atoms kind s t ≡ true
   pub sound : Valid (family_of mol kind s t) origin
@@ -97,7 +95,7 @@ ReachedIn L said n x = history.Reached L.mol L.kind L.s L.t L.origin said n x
 pub record Agrees (L : Listing) (said : Bool) (k : Kept) (x : Standing) : Type 0 where
   pub count : ℕ
   pub reached : ReachedIn L said count x
-  pub named : search_for L.mol k.mark ≡ accepted_search x.search
+  pub named : search_for L.mol k.mark ≡ Ok x.search
   pub mark_stands : (k.mark ≡ mark_text L.mol x.search) ⊎ ((k.mark ≡ []) × (L.first ≡ []) × (x ≡ L.began))
   pub listed_known : listed_in k.mark ≡ x.search.listed
   pub records_kept : k.rings ≡ x.sheet
@@ -140,7 +138,7 @@ module _ (L : Listing) {said : Bool} {n : ℕ} {x : Standing} (r : ReachedIn L s
     abbrev outcome-in : Outcome
     outcome-in = run (lists L) budget (length out) (state_in L n)
 
-    ran-in : run_search L.mol x.search budget out ≡ ran_at L.kind L.s L.t outcome-in
+    ran-in : run_search L.mol x.search budget out ≡ Ok (ran_at L.kind L.s L.t outcome-in)
     ran-in =
         history.reached-runs
         L.mol L.kind L.s L.t L.formed L.kept L.origin L.sound said n x r budget out
@@ -154,46 +152,9 @@ module _ (L : Listing) {said : Bool} {n : ℕ} {x : Standing} (r : ReachedIn L s
 
 -- the mark of a search has bytes, and where it restores the search it has its listed count
 pub mark-counts :
-    (mol : Molecule) (mark : List ℕ) (q : Search) → restore_mark mol mark ≡ accepted_search q → listed_in mark ≡
+    (mol : Molecule) (mark : List ℕ) (q : Search) → restore_mark mol mark ≡ Ok q → listed_in mark ≡
     q.listed
 mark-counts mol mark q e = listed-restored mol mark q (restored-facts mol mark q e)
-
--- the members that a run of the search q lists, and the mark of the search that it returns
-abbrev newly : Molecule → Search → ℕ → List ℕ → List (List ℕ)
-newly mol q budget rings = emitted (family mol q) (run_search mol q budget rings).made (state_of q)
-
-abbrev mark_next : Molecule → Search → ℕ → List ℕ → List ℕ
-mark_next mol q budget rings = mark_text mol (run_search mol q budget rings).search
-
--- what the entry returns and leaves, by the search q that the mark names
-record Answered (mol : Molecule) (q : Search) (budget : ℕ) (rings next : List ℕ) (a : Resumed) : Type 0 where
-  number_is : a.number ≡ ended_number (run_search mol q budget rings).ended
-  rings_are : a.rings ≡ records (newly mol q budget rings) ++ drop (length (records (newly mol q budget rings))) rings
-  mark_is : a.next_mark ≡ mark_next mol q budget rings ++ drop (length (mark_next mol q budget rings)) next
-  size_is : mark_size a.next_mark ≡ length (mark_next mol q budget rings)
-
-module _ (sheet mark : List ℕ) (budget : ℕ) (rings next : List ℕ) where
-  abbrev AnsweredOn : Molecule → Search → Type 0
-  AnsweredOn mol q = Answered mol q budget rings next (resume sheet mark budget rings next)
-
-  went-answered :
-      Went sheet mark budget rings next →
-      AnsweredOn (read_sheet sheet).molecule (search_for (read_sheet sheet).molecule mark).search
-  went-answered w = record {
-    number_is = w.number_is ∙ sym (ap ended_number w.stopped);
-    rings_are = w.rings_are;
-    mark_is = w.mark_is;
-    size_is = w.size_is;
-  }
-
-  answered :
-      (mol : Molecule) (q : Search) → (read_sheet sheet).answer ≡ Accepted → (read_sheet sheet).molecule ≡ mol →
-      search_for mol mark ≡ accepted_search q → mark_room ≤ length next → AnsweredOn mol q
-  answered mol q read is named room =
-      let made = ap (λ (m : Molecule). (search_for m mark).answer) is ∙ ap (λ (a : Made). a.answer) named in
-      subst (AnsweredOn mol) (ap (λ (a : Made). a.search) named)
-      (subst (λ (m : Molecule). AnsweredOn m (search_for m mark).search) is
-      (went-answered (resume-accepted sheet mark budget rings next read made room)))
 
 -- ---- the call
 
@@ -216,20 +177,23 @@ module _
   abbrev pub ran_to : Standing
   ran_to = moved_by L.kind L.s L.t x outcome
 
-  ran-is : (run_search L.mol x.search c.budget c.rings).search ≡ ran_to.search
-  ran-is = ap (λ (a : Ran). a.search) (ran-in L v.reached c.budget c.rings)
+  abbrev pub ran : Ran
+  ran = ran_at L.kind L.s L.t outcome
+
+  pub ran-is : run_search L.mol x.search c.budget c.rings ≡ Ok ran
+  ran-is = ran-in L v.reached c.budget c.rings
 
   pub no_room : length c.next < mark_room → is_refused c ≡ true
   unfolding is_refused gated
   no_room short =
       let room = lt-leb mark_room (length c.next) short in
-      rw (h.same_sheet, h.same_mark, L.read, L.is_record, v.named, room)
+      rw (h.same_sheet, h.same_mark, L.read, v.named, room)
 
   ran-reached : (n : ℕ) × ReachedIn L (said || is_done_stop outcome.stop) n ran_to
   unfolding says_done
   ran-reached =
       let p = allowed-in L v.reached (runs L.mol x.search c.budget c.rings) (inr (refl, refl)) in
-      rw (moved_in L v.reached c.budget c.rings, ran-in L v.reached c.budget c.rings) at p
+      rw (moved_in L v.reached c.budget c.rings, ran-is) at p
 
   ran_on : GoesOn L.mol ran_to
   ran_on = on_in L ran-reached.1
@@ -237,15 +201,17 @@ module _
   -- ---- with room for the mark
 
   module _ (room : mark_room ≤ length c.next) where
-    told : Answered L.mol x.search c.budget c.rings c.next (returned c)
+    -- what the entry returns and leaves, of the run by the definition
+    told : Went c.sheet c.mark c.budget c.rings c.next L.mol x.search
     told =
-        rw (h.same_sheet, h.same_mark)
-        (answered L.sheet k.mark c.budget c.rings c.next
-        L.mol x.search L.read L.is_record v.named room)
+        resume-accepted c.sheet c.mark c.budget c.rings c.next L.mol x.search (ap read_sheet h.same_sheet ∙ L.read)
+        (ap (search_for L.mol) h.same_mark ∙ v.named) room
+
+    ran-told : told.ran ≡ ran
+    ran-told = let both = sym told.stopped ∙ ran-is in cc
 
     number_is : (returned c).number ≡ stop_number outcome.stop
-    number_is =
-        told.number_is ∙ ap (λ (a : Ran). ended_number a.ended) (ran-in L v.reached c.budget c.rings)
+    number_is = told.number_is ∙ ap (λ (a : Ran). stop_number a.stop) ran-told
 
     pub not-refused : is_refused c ≡ false
     unfolding is_refused
@@ -256,10 +222,10 @@ module _
     new-mark = mark_text L.mol ran_to.search
 
     next-is : (returned c).next_mark ≡ new-mark ++ drop (length new-mark) c.next
-    next-is = rw ran-is at told.mark_is
+    next-is = rw ran-told at told.mark_is
 
     size_is : mark_size (returned c).next_mark ≡ length new-mark
-    size_is = rw ran-is at told.size_is
+    size_is = rw ran-told at told.size_is
 
     mark_is : mark_left c ≡ new-mark
     mark_is =
@@ -280,13 +246,7 @@ module _
     rings-is : (returned c).rings ≡ records new ++ drop (length (records new)) c.rings
     rings-is =
         let parts = parts_in L v.reached in
-        rw (
-          ran-in L v.reached c.budget c.rings,
-          state-in L v.reached,
-          parts.kind_is,
-          parts.s_is,
-          parts.t_is,
-        ) at told.rings_are
+        rw (ran-told, state-in L v.reached, parts.kind_is, parts.s_is, parts.t_is) at told.rings_are
 
     ran-listed : ran_to.search.listed ≡ outcome.state.listed
     unfolding search_at
@@ -321,12 +281,11 @@ module _
 
     -- a run that lists a member, or says done or limit, says so to the host
     pub call-progress :
-        Progress x.search (run_search L.mol x.search c.budget c.rings) →
+        Progress x.search ran →
         (listed_in k.mark < listed_in (kept_after k c).mark) ⊎ ((returned c).number ≡ 101) ⊎ ((returned c).number ≡ 102)
-    call-progress (inl more) =
-        inl (omega (arith, v.listed_known, ran-agrees.listed_known, ap (λ (q : Search). q.listed) ran-is))
-    call-progress (inr (inl e)) = inr (inl (told.number_is ∙ ap ended_number e))
-    call-progress (inr (inr (e, at-limit))) = inr (inr (told.number_is ∙ ap ended_number e))
+    call-progress (inl more) = inl (omega (arith, v.listed_known, ran-agrees.listed_known))
+    call-progress (inr (inl e)) = inr (inl (number_is ∙ ap stop_number e))
+    call-progress (inr (inr (e, at-limit))) = inr (inr (number_is ∙ ap stop_number e))
 
     -- ---- what the call does
 
@@ -335,7 +294,7 @@ module _
 
     calls_are : calls_in c ≡ opening L.mol k.mark ++ last-two
     unfolding calls_in
-    calls_are = rw (h.same_sheet, L.is_record, h.same_mark, v.named, ran-is)
+    calls_are = rw (h.same_sheet, L.read, h.same_mark, v.named, ran-is)
 
     -- the restore is one of the mark of the search as it stands, and leaves all as it is
     abbrev Opened : List ℕ → Type 0

@@ -2,7 +2,7 @@
 -- A saved mark restores its search, so its fields hold that search's numbers; bytes past the mark are not looked at.
 use Prim.Native.Nat.{ℕ, ◌+◌, ◌*◌, ◌≤◌, ◌<◌}
 use native.Mathlib.Omega.{arith}
-use mathlib.Core.Path.{◌≡◌, ap, sym, ◌∙◌}
+use mathlib.Core.Path.{◌≡◌, refl, ap, sym, ◌∙◌}
 use mathlib.Core.Bool.{true}
 use mathlib.Core.List.{List, ◌++◌}
 use lib.ListN.{length, take, drop, length-append, length-drop}
@@ -77,12 +77,14 @@ module _ (mol : Molecule) (q : Search) (formed : well_formed mol ≡ true) (kept
     length-same : field_at 4 buffer 20 ≡ field_at 4 (mark_text mol q) 20
     length-same = front-field 4 20 (mark_text mol q) rest (omega (arith, lines.size))
 
-    size-known : SizeRead buffer
+    size-known : SizeRead buffer (mark_bonds buffer) (mark_length buffer)
     size-known =
         record {
           room = omega (arith, lines.size, whole);
           bonds-kept = ap blanks_only bonds-same ∙ head_kept lines 4 (omega arith);
           length-kept = ap blanks_only length-same ∙ head_kept lines 5 (omega arith);
+          bonds-are = refl;
+          length-is = refl;
         }
 
     pub mark-size : mark_size buffer ≡ length (mark_text mol q)

@@ -1,5 +1,6 @@
 -- The laws of `ringlist_start`: its numbers, that a refusal leaves its output as it was, that else the fresh mark is
 -- written, and demand 3 from there on. By its ways; the mark is a first mark of `host-demand3`.
+use Rattle.std.specs.Prelude.{Err, Ok, Result}
 use Prim.Native.Nat.{ℕ, ◌+◌, ◌*◌, ◌≤◌}
 use native.Mathlib.Omega.{arith}
 use mathlib.Core.Path.{◌≡◌, refl, sym, ap, ◌∙◌}
@@ -11,15 +12,12 @@ use lib.Seq.{take-append_seam}
 use lib.Dec.{eqb}
 use Rattle.enumeration.specs.Machine.{fresh}
 use Rattle.refusal.specs.declared.Refusal.{Refusal}
-use Rattle.refusal.specs.declared.Answer.{Answer}
-use Rattle.refusal.specs.declared.Answer.TheVariants.{Accepted, Refused}
 use Rattle.refusal.specs.Number.{number_of}
 use Rattle.refusal.proofs.Ranges.{by-test}
 use Rattle.molecule.specs.declared.Molecule.{Molecule}
 use Rattle.molecule.specs.Record.{well_formed}
 use Rattle.sheet.specs.Read.{read_sheet}
 use Rattle.sheet.proofs.Accepted.{accepted-well-formed}
-use Rattle.search.specs.declared.Made.{Made}
 use Rattle.search.specs.Place.{lists_paths, beginning, search_at, fresh_search, bound_kept, kind_kept}
 use Rattle.search.specs.Entries.{fresh_paths, fresh_rings_up_to, fresh_of_kind, start_search}
 use Rattle.search.specs.Mark.{mark_text}
@@ -31,10 +29,11 @@ use Rattle.host.specs.Gate.{mark_room}
 use Rattle.host.specs.Resume.{mark_size}
 use Rattle.host.specs.Start.{Started, refused_start, start_mark}
 use Rattle.host.specs.Calls.{HostCall, keeping, kept_by, HostHistory, all_calls_in, FirstMark, HostDemand}
-use Rattle.host.proofs.Gate.{by-ends, went_on, ways}
+use Rattle.host.proofs.Gate.{by-ends, goes_on, ways}
 use Rattle.host.proofs.Sizes.{mark-size}
 use Rattle.host.proofs.Fresh.{fresh-full}
 use Rattle.host.proofs.History.{host-demand3}
+use Rattle.search.specs.declared.Search.{Search}
 
 -- ---- the numbers of its refusals
 
@@ -45,12 +44,9 @@ KindNumber k = (k ≡ 16) ⊎ ((k ≡ 10) ⊎ ((k ≡ 11) ⊎ (k ≡ 21)))
 abbrev pub StartNumber : ℕ → Type 0
 StartNumber k = ((1 ≤ k) × (k ≤ 8)) ⊎ ((k ≡ 13) ⊎ KindNumber k)
 
-abbrev KindRule : Answer → Type 0
-KindRule Accepted = Unit {0}
-KindRule (Refused r) = KindNumber (number_of r)
-
-abbrev OfKind : Made → Type 0
-OfKind x = KindRule x.answer
+abbrev OfKind : Result Search Refusal → Type 0
+OfKind (Ok q) = Unit {0}
+OfKind (Err r) = KindNumber (number_of r)
 
 kind-rules : (n kind s t : ℕ) → OfKind (fresh_of_kind n kind s t)
 unfolding fresh_of_kind fresh_paths fresh_rings_up_to
@@ -64,14 +60,12 @@ kind-rules n kind s t =
 
 -- on a molecule that rule 9 allows, a start is refused by rules 16, 10, 11 and 21
 kind-numbers :
-    (mol : Molecule) (kind s t : ℕ) (r : Refusal) → well_formed mol ≡ true →
-    (start_search mol kind s t).answer ≡ Refused r → KindNumber (number_of r)
-kind-numbers mol kind s t r formed e = go (start_search mol kind s t).answer e rules
+    (kind s t : ℕ) (mol : Molecule) (r : Refusal) → well_formed mol ≡ true →
+    start_search mol kind s t ≡ Err r → KindNumber (number_of r)
+kind-numbers kind s t mol r formed e =
+    go (fresh_of_kind mol.atoms kind s t) (sym (record-taken mol kind s t formed) ∙ e) (kind-rules mol.atoms kind s t)
   where
-    rules : OfKind (start_search mol kind s t)
-    rules = rw (record-taken mol kind s t formed) (kind-rules mol.atoms kind s t)
-
-    go : (x : Answer) → x ≡ Refused r → KindRule x → KindNumber (number_of r)
+    go : (x : Result Search Refusal) → x ≡ Err r → OfKind x → KindNumber (number_of r)
     go x is h = rw is at h
 
 -- ---- the fresh mark
@@ -90,17 +84,6 @@ module _ (sheet : List ℕ) (kind s t : ℕ) (next : List ℕ) where
   abbrev pub answer : Started
   answer = start_mark sheet kind s t next
 
-  -- the molecule that it reads, and the mark of the fresh search
-  abbrev pub mol : Molecule
-  mol = (read_sheet sheet).molecule
-
-  abbrev pub mark : List ℕ
-  mark = mark_text mol (fresh_search kind s t)
-
-  -- its bytes
-  abbrev pub size : ℕ
-  size = 91 + 9 * mol.bonds
-
   -- It is turned back by a rule, and leaves its output as it was
   pub record Turned : Type 0 where
     pub rule : Refusal
@@ -108,13 +91,14 @@ module _ (sheet : List ℕ) (kind s t : ℕ) (next : List ℕ) where
     pub ranged : StartNumber (number_of rule)
     pub mark_kept : answer.next_mark ≡ next
 
-  -- It starts the search: the fresh mark is written, and the bytes past it keep their values
-  pub record Began : Type 0 where
+  -- It starts the search on the molecule that it reads: the fresh mark is written, and the bytes past it keep their
+  -- values
+  pub record Began (mol : Molecule) : Type 0 where
     pub number_is : answer.number ≡ 0
-    pub read : (read_sheet sheet).answer ≡ Accepted
-    pub accepted : (start_search mol kind s t).answer ≡ Accepted
+    pub read : read_sheet sheet ≡ Ok mol
+    pub accepted : start_search mol kind s t ≡ Ok (fresh_search kind s t)
     pub room : mark_room ≤ length next
-    pub mark_is : answer.next_mark ≡ mark ++ drop size next
+    pub mark_is : answer.next_mark ≡ mark_text mol (fresh_search kind s t) ++ drop (91 + 9 * mol.bonds) next
 
   turned : (r : Refusal) → refused_start r next ≡ answer → StartNumber (number_of r) → Turned
   turned r e h = record {
@@ -125,32 +109,33 @@ module _ (sheet : List ℕ) (kind s t : ℕ) (next : List ℕ) where
   }
 
   began :
-      (read_sheet sheet).answer ≡ Accepted → (start_search mol kind s t).answer ≡ Accepted → mark_room ≤ length next →
-      Began
-  began read made room =
-      let written = went_on _ _ _ _ _ read made room in
+      (mol : Molecule) (q : Search) → read_sheet sheet ≡ Ok mol → start_search mol kind s t ≡ Ok q →
+      mark_room ≤ length next → Began mol
+  began mol q read made room =
+      let fresh = started-fresh mol kind s t made in
+      let written = goes_on _ _ _ _ _ read fresh room in
+      let mark = mark_text mol (fresh_search kind s t) in
       record {
         number_is = sym (ap (λ (x : Started). x.number) written);
         read = read;
-        accepted = made;
+        accepted = fresh;
         room = room;
         mark_is =
             sym (ap (λ (x : Started). x.next_mark) written)
-            ∙ ap (λ (x : Made). mark_text mol x.search ++ drop (length (mark_text mol x.search)) next)
-            (started-fresh mol kind s t made)
-            ∙ ap (λ (k : ℕ). mark ++ drop k next) (fresh-size mol kind s t (accepted-well-formed sheet read));
+            ∙ ap (λ (k : ℕ). mark ++ drop k next) (fresh-size mol kind s t (accepted-well-formed sheet mol read));
       }
 
-  either : Turned ⊎ Began
-  either = ways _ _ _ _ _ KindNumber (kind-numbers mol kind s t) turned began
+  either : Turned ⊎ ((mol : Molecule) × Began mol)
+  either =
+      ways _ _ _ _ _ KindNumber (kind-numbers kind s t) turned
+      (λ mol q read made room. (mol, began mol q read made room))
 
   -- It returns 0, or for a refusal 1 to 8, 16, 10, 11, 21 or 13
   pub start-numbers : (answer.number ≡ 0) ⊎ StartNumber answer.number
-  start-numbers = go either
-    where
-      go : Turned ⊎ Began → (answer.number ≡ 0) ⊎ StartNumber answer.number
-      go (inl turned) = inr (rw turned.number_is turned.ranged)
-      go (inr began) = inl began.number_is
+  start-numbers = elim either [
+    | inl turned ↦ inr (rw turned.number_is turned.ranged)
+    | inr (mol, began) ↦ inl began.number_is
+  ]
 
   -- no rule has the number 0
   not-zero : (k : ℕ) → StartNumber k → k ≡ 0 → ⊥
@@ -163,61 +148,74 @@ module _ (sheet : List ℕ) (kind s t : ℕ) (next : List ℕ) where
 
   -- A refusal, which has another number than 0, leaves every byte
   pub start-refused-keeps : (answer.number ≡ 0 → ⊥) → answer.next_mark ≡ next
-  start-refused-keeps other = go either
-    where
-      go : Turned ⊎ Began → answer.next_mark ≡ next
-      go (inl turned) = turned.mark_kept
-      go (inr began) = absurd (other began.number_is)
+  start-refused-keeps other = elim either [
+    | inl turned ↦ turned.mark_kept
+    | inr (mol, began) ↦ absurd (other began.number_is)
+  ]
 
   -- 0 means that the search is started
-  pub start-began : answer.number ≡ 0 → Began
-  start-began zero = go either
-    where
-      go : Turned ⊎ Began → Began
-      go (inl turned) = absurd (not-zero (number_of turned.rule) turned.ranged (sym turned.number_is ∙ zero))
-      go (inr began) = began
+  pub start-began : answer.number ≡ 0 → (mol : Molecule) × Began mol
+  start-began zero = elim either [
+    | inl turned ↦ absurd (not-zero (number_of turned.rule) turned.ranged (sym turned.number_is ∙ zero))
+    | inr began ↦ began
+  ]
 
-  -- Every search that rule 16 allows on the sheet's record is started, where the output has 9,815 bytes
-  pub start-accepts :
-      (read_sheet sheet).answer ≡ Accepted → kind_kept mol.atoms kind s t ≡ true → mark_room ≤ length next → Began
-  start-accepts read kept room =
-      let made = ap (λ (x : Made). x.answer) (kept-starts mol kind s t (accepted-well-formed sheet read) kept) in
-      began read made room
+  -- ---- on a sheet that is accepted
 
-  -- ---- demand 3
+  module _ (mol : Molecule) (read : read_sheet sheet ≡ Ok mol) where
+    formed : well_formed mol ≡ true
+    formed = accepted-well-formed sheet mol read
 
-  module _ (zero : answer.number ≡ 0) where
-    -- rule 16 allows its kind, s and t
-    pub start-kind : kind_kept mol.atoms kind s t ≡ true
-    start-kind = started-kept mol kind s t (start-began zero).accepted
+    abbrev pub mark : List ℕ
+    mark = mark_text mol (fresh_search kind s t)
 
-    -- the first bytes of the output are the fresh mark
-    pub start-mark : take size answer.next_mark ≡ mark
-    start-mark =
-        let formed = accepted-well-formed sheet (start-began zero).read in
-        ap (take size) (start-began zero).mark_is
-        ∙ ap (λ (k : ℕ). take k (mark ++ drop size next)) (sym (fresh-size mol kind s t formed))
-        ∙ take-append_seam mark (drop size next)
+    -- the bytes of the fresh mark
+    abbrev pub size : ℕ
+    size = 91 + 9 * mol.bonds
 
-    -- and ringlist_mark_length says so
-    pub start-size : mark_size answer.next_mark ≡ size
-    start-size =
-        let formed = accepted-well-formed sheet (start-began zero).read in
-        ap mark_size (start-began zero).mark_is
-        ∙ mark-size mol (fresh_search kind s t) formed (fresh-restorable mol kind s t formed start-kind)
-        (fresh-full kind s t) (drop size next)
-        ∙ fresh-size mol kind s t formed
+    -- Every search that rule 16 allows on the sheet's record is started, where the output has 9,815 bytes
+    pub start-accepts : kind_kept mol.atoms kind s t ≡ true → mark_room ≤ length next → Began mol
+    start-accepts kept room = began mol _ read (kept-starts mol kind s t formed kept) room
 
-    -- the mark that it wrote is a first mark
-    pub start_first : FirstMark mol kind s t (take size answer.next_mark)
-    start_first = (start-kind, inl start-mark)
+    -- ---- demand 3
 
-    -- Demand 3 over every sheet, kind, s, t and buffer of a start that returned 0, and every list of calls that
-    -- begins with the mark that it wrote
-    pub start-demand3 :
-        let first = take size answer.next_mark in
-        (calls : List HostCall) → HostHistory sheet (keeping first) calls →
-        HostDemand sheet mol kind s t first calls
-        (kept_by (keeping first) calls) (standing (start kind s t) (all_calls_in calls))
-    start-demand3 =
-        host-demand3 sheet (start-began zero).read kind s t (take size answer.next_mark) start_first
+    module _ (zero : answer.number ≡ 0) where
+      -- the search is started on its record
+      pub start-on : Began mol
+      start-on =
+          let (other, began) = start-began zero in
+          let both = sym began.read ∙ read in
+          let same : other ≡ mol = cc in
+          rw same at began
+
+      -- rule 16 allows its kind, s and t
+      pub start-kind : kind_kept mol.atoms kind s t ≡ true
+      start-kind = started-kept mol kind s t start-on.accepted
+
+      -- the first bytes of the output are the fresh mark
+      pub start-mark : take size answer.next_mark ≡ mark
+      start-mark =
+          ap (take size) start-on.mark_is
+          ∙ ap (λ (k : ℕ). take k (mark ++ drop size next)) (sym (fresh-size mol kind s t formed))
+          ∙ take-append_seam mark (drop size next)
+
+      -- and ringlist_mark_length says so
+      pub start-size : mark_size answer.next_mark ≡ size
+      start-size =
+          ap mark_size start-on.mark_is
+          ∙ mark-size mol (fresh_search kind s t) formed (fresh-restorable mol kind s t formed start-kind)
+          (fresh-full kind s t) (drop size next)
+          ∙ fresh-size mol kind s t formed
+
+      -- the mark that it wrote is a first mark
+      pub start_first : FirstMark mol kind s t (take size answer.next_mark)
+      start_first = (start-kind, inl start-mark)
+
+      -- Demand 3 over every sheet, kind, s, t and buffer of a start that returned 0, and every list of calls that
+      -- begins with the mark that it wrote
+      pub start-demand3 :
+          let first = take size answer.next_mark in
+          (calls : List HostCall) → HostHistory sheet (keeping first) calls →
+          HostDemand sheet mol kind s t first calls
+          (kept_by (keeping first) calls) (standing (start kind s t) (all_calls_in calls))
+      start-demand3 = host-demand3 sheet mol read kind s t (take size answer.next_mark) start_first

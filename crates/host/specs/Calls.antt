@@ -4,11 +4,12 @@
 use Rattle.std.specs.Prelude.{ℕ, zero, suc, ◌+◌, ◌-◌, ◌*◌, ◌≤◌, ◌<◌, ◌≡◌, ◌⊎◌, Bool, true, false, ◌||◌, cond, List, [], ◌∷◌, ◌++◌, length, take, drop, ltb, eqb}
 use Rattle.enumeration.specs.Words.{members}
 use Rattle.enumeration.specs.Trials.{records}
+use Rattle.refusal.specs.Answers.{unless_refused}
 use Rattle.molecule.specs.declared.Molecule.{Molecule}
 use Rattle.sheet.specs.Read.{read_sheet}
 use Rattle.search.specs.declared.Search.{Search}
 use Rattle.search.specs.Place.{family_of, fresh_search, kind_kept}
-use Rattle.search.specs.Entries.{run_search}
+use Rattle.search.specs.Entries.{run_search, search_after}
 use Rattle.search.specs.Mark.{mark_text}
 use Rattle.history.specs.Calls.{Call, runs, saves, restores, Standing, start, History}
 use Rattle.history.specs.Demand.{Demand}
@@ -83,10 +84,10 @@ HostHistory sheet k (c ∷ calls) = HostAllowed sheet k c × HostHistory sheet (
 -- What an accepted call does: it restores its mark, unless that has no bytes, runs and saves
 unfoldable pub calls_in : HostCall → List Call
 calls_in c =
-    let mol = (read_sheet c.sheet).molecule in
-    let q = (search_for mol c.mark).search in
+    unless_refused (read_sheet c.sheet) (λ r. []) (λ mol.
+    unless_refused (search_for mol c.mark) (λ r. []) (λ q.
     cond (eqb (length c.mark) 0) [] (restores mol c.mark ∷ [])
-    ++ (runs mol q c.budget c.rings ∷ saves mol (run_search mol q c.budget c.rings).search c.next ∷ [])
+    ++ (runs mol q c.budget c.rings ∷ saves mol (search_after q (run_search mol q c.budget c.rings)) c.next ∷ [])))
 
 -- And a list of calls, of which those that are refused do nothing
 unfoldable pub all_calls_in : List HostCall → List Call

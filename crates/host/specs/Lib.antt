@@ -3,6 +3,7 @@ pub mod Carry
 pub mod Count
 pub mod Gate
 pub mod Molfile
+pub mod Parts
 pub mod Resume
 pub mod Start
 pub mod Written

@@ -1,12 +1,11 @@
 -- `ringlist_resume`, the entry by which the C host lists (document 01, "Judge, host entry
 -- and `ringlist`"): what it returns and leaves in its outputs.
-use Rattle.std.specs.Prelude.{ℕ, ◌+◌, ◌*◌, ◌&&◌, cond, List, length, leb, eqb}
+use Rattle.std.specs.Prelude.{ℕ, ◌+◌, ◌*◌, ◌&&◌, cond, List, length, leb, eqb, Result}
 use Rattle.refusal.specs.declared.Refusal.{Refusal}
 use Rattle.refusal.specs.Number.{number_of}
 use Rattle.molecule.specs.declared.Molecule.{Molecule}
 use Rattle.search.specs.declared.Search.{Search}
-use Rattle.search.specs.declared.Made.{Made}
-use Rattle.search.specs.Entries.{start_rings, run_search, run_output, ended_number}
+use Rattle.search.specs.Entries.{start_rings, run_search, run_output, search_after, ended_number}
 use Rattle.search.specs.Mark.{field_kept, value_at, mark_bonds, mark_length, save_output, restore_mark}
 use Rattle.host.specs.Gate.{gated}
 
@@ -21,7 +20,7 @@ abbrev pub refused_call : Refusal → List ℕ → List ℕ → Resumed
 refused_call r rings next = record { number = number_of r; rings = rings; next_mark = next }
 
 -- The search to run: no mark bytes mean a fresh ring search
-unfoldable pub search_for : Molecule → List ℕ → Made
+unfoldable pub search_for : Molecule → List ℕ → Result Search Refusal
 search_for mol mark = cond (eqb (length mark) 0) (start_rings mol) (restore_mark mol mark)
 
 -- Runs the search and saves what it returns
@@ -29,9 +28,9 @@ unfoldable pub run_and_save : Molecule → Search → ℕ → List ℕ → List 
 run_and_save mol q budget rings next =
     let ran = run_search mol q budget rings in
     record {
-      number = ended_number ran.ended;
+      number = ended_number ran;
       rings = run_output mol q budget rings;
-      next_mark = save_output mol ran.search next;
+      next_mark = save_output mol (search_after q ran) next;
     }
 
 -- The entry: it reads the sheet (rules 1 to 8), restores the mark

@@ -1,38 +1,23 @@
 -- The judge's tests of two places, by what the code found there.
 -- `joined` goes by its cases; a pair of atoms by whether they are equal and bonded.
-use Prim.Native.Nat.{ℕ, suc, ◌+◌, ◌-◌, ◌≤◌, ◌<◌}
-use native.Mathlib.Numerals.{add-one}
+use Prim.Native.Nat.{ℕ, suc, ◌-◌, ◌≤◌, ◌<◌}
 use native.Mathlib.Omega.{arith}
-use mathlib.Core.Path.{◌≡◌, refl, ap, sym, ◌∙◌}
-use mathlib.Core.Bool.{Bool, true, false, not, beq, and-false}
-use mathlib.Core.List.{List}
-use lib.ListN.{length}
+use mathlib.Core.Path.{◌≡◌, refl, sym, ◌∙◌}
+use mathlib.Core.Bool.{Bool, true, false, ◌&&◌, not, beq}
+use mathlib.Core.List.{List, [], ◌∷◌}
+use lib.ListN.{length, drop}
+use Rattle.std.specs.List.{list_all, range_with_len}
+use Rattle.std.proofs.lemmas.List.Folds.{list_all_at}
+use Rattle.std.proofs.lemmas.List.FromFn.{length-range_with_len, get_or-range_with_len}
 use Rattle.graph.specs.Every.{all_below}
-use lib.Dec.{eqb, eqb-suc-suc, eqb-suc-zero}
-use borrow.Author.Tests.{eq-eqb, ne_eqb, lt-leb, le-leb, lt-ltb, le-ltb}
-use Rattle.graph.proofs.Places.{induces-same, never-closes, range_at}
-use Rattle.graph.specs.Chordless.{Adjacency, atom_at, last_atom, in_range, induces, along_path, along_ring, is_path}
+use lib.Dec.{eqb, ltb}
+use borrow.Author.Tests.{eq-eqb, ne_eqb}
+use Rattle.graph.proofs.Below.{clash, true_of, and_both, same_test, all_below-at, all_below-of}
+use Rattle.graph.proofs.Places.{range_at}
+use Rattle.graph.specs.Chordless.{Adjacency, atom_at, induces, along_ring}
 use Rattle.molecule.specs.Record.{cell, bonded}
 use Rattle.molecule.proofs.Bonds.{bonded-cell}
-use Rattle.judge.specs.Parts.{TwoPlaces, pair_fits, fits_before, in_range_at, above_first}
-
--- two places along a ring of k atoms, or along a path where k is 0
-module _ (k i j : ℕ) where
-  pub joined-next : j ≡ i + 1 → true ≡ along_ring k i j
-  joined-next e = rw (eq-eqb j (suc i) (omega arith))
-
-  module _ (apart : j ≡ i + 1 → ⊥) where
-    pub joined-inner : (i ≡ 0 → ⊥) → false ≡ along_ring k i j
-    joined-inner h = rw (ne_eqb j (suc i) (λ e. apart (omega arith)), ne_eqb i 0 h)
-
-    pub joined-open : k ≡ 0 → false ≡ along_ring k i j
-    joined-open none = rw (ne_eqb j (suc i) (λ e. apart (omega arith)), none, eqb-suc-zero j, and-false (eqb i 0))
-
-    pub joined-close : i ≡ 0 → (k ≡ 0 → ⊥) → eqb j (k - 1) ≡ along_ring k i j
-    joined-close first some =
-        let back : k ≡ suc (k - 1) = omega arith in
-        rw (ne_eqb j (suc i) (λ e. apart (omega arith)), eq-eqb i 0 first)
-        (sym (ap (λ x. eqb (suc j) x) back ∙ eqb-suc-suc j (k - 1)))
+use Rattle.judge.specs.Parts.{TwoPlaces, pair_fits, fits_before, lowest_first, above_first}
 
 -- a and b are the atoms at two places i < j of the list
 pub record PairRead (n : ℕ) (xs : List ℕ) (i j a b : ℕ) : Type 0 where
@@ -61,7 +46,7 @@ module _ {n : ℕ} {xs : List ℕ} {i j a b : ℕ} (pair : PairRead n xs i j a b
       }
 
   module _ (rows : List ℕ) (k : ℕ) where
-    pub pair-equal : a ≡ b → false ≡ pair_fits (bonded n rows) k xs j i
+    pub pair-equal : a ≡ b → not (eqb a b) ≡ pair_fits (bonded n rows) k xs j i
     unfolding pair_fits
     pair-equal e = rw (← pair.left, ← pair.right, eq-eqb a b e)
 
@@ -71,78 +56,69 @@ module _ {n : ℕ} {xs : List ℕ} {i j a b : ℕ} (pair : PairRead n xs i j a b
         bonded-cell n rows a b both.left_low both.left_high both.right_low both.right_high ∙ sym told
 
     -- they differ; the code found whether they are bonded, and whether the places are joined
-    module _ (differ : a ≡ b → ⊥) {linked joined : Bool}
-        (told : linked ≡ cell rows (a - 1) (b - 1)) (along : joined ≡ along_ring k i j) where
-      pub pair-bonded : linked ≡ true → joined ≡ pair_fits (bonded n rows) k xs j i
-      unfolding pair_fits
-      pair-bonded set =
-          rw (← pair.left, ← pair.right, ne_eqb a b differ, bond-is told, set, ← along) (when_true joined)
-        where
-          when_true : (t : Bool) → t ≡ beq true t
-          when_true true = refl
-          when_true false = refl
+    pub pair-differs :
+        (a ≡ b → ⊥) → {linked joined : Bool} → linked ≡ cell rows (a - 1) (b - 1) → joined ≡ along_ring k i j →
+        beq linked joined ≡ pair_fits (bonded n rows) k xs j i
+    unfolding pair_fits
+    pair-differs differ told along =
+        rw (← pair.left, ← pair.right, ne_eqb a b differ, bond-is told, ← along)
 
-      pub pair-not-bonded : linked ≡ false → not joined ≡ pair_fits (bonded n rows) k xs j i
-      unfolding pair_fits
-      pair-not-bonded clear =
-          rw (← pair.left, ← pair.right, ne_eqb a b differ, bond-is told, clear, ← along) (when_false joined)
-        where
-          when_false : (t : Bool) → not t ≡ beq false t
-          when_false true = refl
-          when_false false = refl
+-- ---- the tests over a whole list
 
--- the tests over a whole list
-pub in-range-is : (n : ℕ) (xs : List ℕ) → all_below (length xs) (in_range_at n xs) ≡ in_range n xs
-unfolding in_range in_range_at
-in-range-is n xs = refl
+-- every atom of a list passes, by its places
+list-passes :
+    (test : ℕ → Bool) (xs : List ℕ) → list_all test xs ≡ true → (i : ℕ) → i < length xs → test (atom_at xs i) ≡ true
+list-passes test xs e i h =
+    true_of (test (atom_at xs i)) (λ fails. clash (list_all test xs) e (list_all_at test xs i 0 h fails))
 
+passes-list :
+    (test : ℕ → Bool) (xs : List ℕ) → ((i : ℕ) → i < length xs → test (atom_at xs i) ≡ true) → list_all test xs ≡ true
+passes-list test [] h = refl
+passes-list test (x ∷ xs) h =
+    and_both (test x) (list_all test xs) (h 0 (omega arith)) (passes-list test xs (λ i below. h (suc i) (omega arith)))
+
+pub list-tests :
+    (test : ℕ → Bool) (xs : List ℕ) → list_all test xs ≡ all_below (length xs) (λ i. test (atom_at xs i))
+list-tests test xs =
+    let at : ℕ → Bool = λ i. test (atom_at xs i) in
+    same_test (list_all test xs) (all_below (length xs) at)
+    (λ e. all_below-of (length xs) at (list-passes test xs e))
+    (λ e. passes-list test xs (all_below-at (length xs) at e))
+
+-- every number below k passes
+pub range-tests : (test : ℕ → Bool) (k : ℕ) → list_all test (range_with_len 0 k) ≡ all_below k test
+range-tests test k =
+    let at : ℕ → Bool = λ i. test (atom_at (range_with_len 0 k) i) in
+    list-tests test (range_with_len 0 k) ∙
+    rw (length-range_with_len 0 k)
+    (same_test (all_below k at) (all_below k test)
+    (λ e. all_below-of k test (λ i h. rw (place i h) at (all_below-at k at e i h)))
+    (λ e. all_below-of k at (λ i h. rw (place i h) (all_below-at k test e i h))))
+  where
+    place : (i : ℕ) → i < k → atom_at (range_with_len 0 k) i ≡ i
+    place i h = get_or-range_with_len 0 k i 0 h ∙ (omega arith)
+
+-- every atom after the first passes
+pub above-tests :
+    (xs : List ℕ) → 0 < length xs → list_all (λ a. ltb (atom_at xs 0) a) (drop 1 xs) ≡ lowest_first xs
+unfolding lowest_first above_first
+above-tests [] h = absurd (omega arith)
+above-tests (x ∷ xs) h =
+    let size : length (x ∷ xs) - 1 ≡ length xs = omega arith in
+    rw size (list-tests (λ a. ltb x a) xs)
+
+-- every place of a list fits the places before it
 pub induces-is :
     (adj : Adjacency) (k : ℕ) (xs : List ℕ) →
     all_below (length xs) (fits_before adj k xs) ≡ induces adj (along_ring k) xs
 unfolding induces fits_before pair_fits
 induces-is adj k xs = refl
 
--- the atom a at place i, in range or not
-module _ (n : ℕ) (xs : List ℕ) (i : ℕ) {a : ℕ} (at_i : a ≡ atom_at xs i) where
-  pub out-low : a < 1 → in_range_at n xs i ≡ false
-  unfolding in_range_at
-  out-low low = rw (← at_i, lt-leb 1 a low)
+-- ---- the value of tests joined by `&&`, where the first decides and where the second does
 
-  pub out-high : 1 ≤ a → n < a → in_range_at n xs i ≡ false
-  unfolding in_range_at
-  out-high low high = rw (← at_i, le-leb 1 a low, lt-leb a n high)
+module _ {value first : Bool} (second : Bool) where
+  pub both_tests : first ≡ true → value ≡ second → value ≡ (first && second)
+  both_tests passes told = rw passes told
 
-  pub inside : 1 ≤ a → a ≤ n → in_range_at n xs i ≡ true
-  unfolding in_range_at
-  inside low high = rw (← at_i, le-leb 1 a low, le-leb a n high)
-
--- one atom against the first
-module _ (xs : List ℕ) (i : ℕ) where
-  pub not-above : atom_at xs (i + 1) ≤ atom_at xs 0 → above_first xs i ≡ false
-  unfolding above_first
-  not-above h = le-ltb (atom_at xs 0) (atom_at xs (suc i)) (rw (add-one i) at h)
-
-  pub above : atom_at xs 0 < atom_at xs (i + 1) → above_first xs i ≡ true
-  unfolding above_first
-  above h = lt-ltb (atom_at xs 0) (atom_at xs (suc i)) (rw (add-one i) at h)
-
--- a list of atoms that begins with s
-pub record Begun (n s : ℕ) (xs : List ℕ) : Type 0 where
-  pub long : 1 ≤ length xs
-  pub range : in_range n xs ≡ true
-  pub first : atom_at xs 0 ≡ s
-
--- the last atom of such a list is b
-module _ {n s : ℕ} {xs : List ℕ} (begun : Begun n s xs) (adj : Adjacency) (t : ℕ) {b : ℕ} (last : b ≡ last_atom xs)
-  where
-    pub path-end : (b ≡ t → ⊥) → false ≡ is_path n adj s t xs
-    unfolding is_path
-    path-end differ =
-        rw (le-leb 1 (length xs) begun.long, begun.range, eq-eqb (atom_at xs 0) s begun.first)
-        (rw (← last, ne_eqb b t differ))
-
-    pub path-fits : b ≡ t → induces adj (along_ring 0) xs ≡ is_path n adj s t xs
-    unfolding is_path
-    path-fits ends =
-        rw (le-leb 1 (length xs) begun.long, begun.range, eq-eqb (atom_at xs 0) s begun.first)
-        (rw (← last, eq-eqb b t ends) (induces-same adj (along_ring 0) along_path xs never-closes))
+  pub first_fails : first ≡ false → value ≡ first → value ≡ (first && second)
+  first_fails fails told = rw (told, fails)

@@ -7,29 +7,29 @@ ghost use Rattle.search.specs.Mark.{save_answer, save_output, restore_mark};
 
 use molecule::Molecule;
 use refusal::Refusal;
-use search::{Made, Saved, Search};
+use search::Search;
 
 // Saves a search as a mark: rules 9, 12, 13.
-pub fn save(m: Molecule, q: Search, out: &mut [u8]) -> Saved
+pub fn save(m: Molecule, q: Search, out: &mut [u8]) -> Result<usize, Refusal>
     ensures { (result ≡ save_answer m q out.old) ×
         (out.new ≡ save_output m q out.old) }
 {
     if !molecule::well_formed(m) {
-        return Saved::Refused(Refusal::Record);
+        return Err(Refusal::Record);
     }
     if !search_rules::check_search(m, q) {
-        return Saved::Refused(Refusal::Search);
+        return Err(Refusal::Search);
     }
-    let none = [0u8; 0];
-    mark_writer::save_checked(m, q, &none, out)
+    mark_writer::save_checked(m, q, &[], out)
 }
 
 // Restores a search from a mark: rules 9, 14, 15, 16, 17.
-pub fn restore(m: Molecule, bytes: &[u8]) -> Made
+pub fn restore(m: Molecule, bytes: &[u8]) -> Result<Search, Refusal>
     ensures { result ≡ restore_mark m bytes.now }
 {
-    if !molecule::well_formed(m) {
-        return search::refused_search(Refusal::Record);
+    if molecule::well_formed(m) {
+        mark_reader::restore_checked(m, bytes)
+    } else {
+        Err(Refusal::Record)
     }
-    mark_reader::restore_checked(m, bytes)
 }

@@ -1,5 +1,6 @@
 -- An accepted molfile: its rules are kept, its record satisfies rule 9, and it is read as the sheet with its bonds.
 -- From the answer back through the tests; then by the laws of bonds and of sheets.
+use Rattle.std.specs.Prelude.{Err, Ok, Result}
 use Prim.Native.Nat.{ℕ, zero, suc, ◌≤◌, ◌<◌}
 use native.Mathlib.Omega.{arith}
 use mathlib.Core.Path.{◌≡◌, refl, ap, sym, ◌∙◌}
@@ -8,13 +9,9 @@ use mathlib.Core.List.{List}
 use lib.ListN.{length}
 use borrow.Author.Tests.{leb-true}
 use Rattle.refusal.specs.declared.Refusal.TheVariants as refusal
-use Rattle.refusal.specs.declared.Answer.{Answer}
-use Rattle.refusal.specs.declared.Answer.TheVariants.{Accepted, Refused}
-use Rattle.refusal.specs.Answers.{unless_refused}
 use Rattle.molecule.specs.Record.{well_formed}
-use Rattle.bonds.specs.declared.Reading.{Reading}
 use Rattle.bonds.specs.Bonds.{Bond}
-use Rattle.bonds.specs.Reading.{refused_reading, read_bonds}
+use Rattle.bonds.specs.Reading.{read_bonds}
 use Rattle.bonds.proofs.Record.{kept_on, BondsTaken, bonds-taken, taken-well-formed}
 use Rattle.bonds.proofs.Same.{bonds-same}
 use Rattle.sheet.specs.Read.{few_atoms, few_bonds, read_sheet}
@@ -24,40 +21,38 @@ use Rattle.molfile.specs.Lines.{lines_in}
 use Rattle.molfile.specs.Elements.{Table}
 use Rattle.molfile.specs.Molfile.{atoms_in, bonds_in, bond_in, form_kept, symbols_kept, neighbours_kept, within_limits}
 use Rattle.molfile.specs.Molfile.{read_atoms, limits_of, read_lines, read_molfile, first_bonds, bonds_listed}
+use Rattle.refusal.specs.declared.Refusal.{Refusal}
+use Rattle.molecule.specs.declared.Molecule.{Molecule}
 
 -- rule 20 is kept where what it looks at is accepted
 limited :
-    (limit : ℕ → ℕ) (n : ℕ) (read : Reading) → (within_limits limit n read).answer ≡ Accepted →
-    (read.answer ≡ Accepted) × (neighbours_kept limit n read.molecule.rows ≡ true) ×
-    (within_limits limit n read ≡ read)
-limited limit n read e = go read.answer (neighbours_kept limit n read.molecule.rows) e
+    (limit : ℕ → ℕ) (n : ℕ) (read : Result Molecule Refusal) {mol : Molecule} → within_limits limit n read ≡ Ok mol →
+    (read ≡ Ok mol) × (neighbours_kept limit n mol.rows ≡ true)
+limited limit n (Ok other) {mol} e = go (neighbours_kept limit n other.rows) refl e
   where
-    over : Reading
-    over = refused_reading refusal.TooManyNeighbours
-
     go :
-        (x : Answer) (kept : Bool) → (unless_refused x refused_reading (cond kept read over)).answer ≡ Accepted →
-        (x ≡ Accepted) × (kept ≡ true) × (unless_refused x refused_reading (cond kept read over) ≡ read)
-    go Accepted true told = (refl, refl, refl)
-    go Accepted false told = let z : ◌≡◌ {A = ℕ} 0 1 = cc in absurd (omega arith)
-    go (Refused r) kept told = let z : ◌≡◌ {A = ℕ} 0 1 = cc in absurd (omega arith)
+        (t : Bool) → neighbours_kept limit n other.rows ≡ t →
+        cond t (Ok other) (Err refusal.TooManyNeighbours) ≡ Ok mol →
+        (◌≡◌ {A = Result Molecule Refusal} (Ok other) (Ok mol)) × (neighbours_kept limit n mol.rows ≡ true)
+    go true kept is = let same : other ≡ mol = cc in (is, rw same at kept)
+    go false kept is = cc
+limited limit n (Err r) e = cc
 
 -- the rules that an accepted file keeps
-pub record Rules (table : Table) (lines : List (List ℕ)) : Type 0 where
+pub record Rules (table : Table) (lines : List (List ℕ)) (mol : Molecule) : Type 0 where
   pub form : form_kept lines ≡ true
   pub few : atoms_in lines ≤ 128
   pub light : bonds_in lines ≤ 1024
   pub symbols : symbols_kept (limits_of table lines) (atoms_in lines) ≡ true
   pub taken : BondsTaken (atoms_in lines) (bond_in lines) (bonds_in lines)
-  pub limits :
-      neighbours_kept (limits_of table lines) (atoms_in lines)
-      (read_bonds (atoms_in lines) (bond_in lines) (bonds_in lines)).molecule.rows ≡ true
+  pub limits : neighbours_kept (limits_of table lines) (atoms_in lines) mol.rows ≡ true
   pub reads : read_lines table lines ≡ read_bonds (atoms_in lines) (bond_in lines) (bonds_in lines)
+  pub is : read_bonds (atoms_in lines) (bond_in lines) (bonds_in lines) ≡ Ok mol
 
 pub accepted-rules :
-    (table : Table) (lines : List (List ℕ)) → (read_lines table lines).answer ≡ Accepted → Rules table lines
+    (table : Table) (lines : List (List ℕ)) (mol : Molecule) → read_lines table lines ≡ Ok mol → Rules table lines mol
 unfolding read_lines read_atoms
-accepted-rules table lines e =
+accepted-rules table lines mol e =
     let n = atoms_in lines in
     let m = bonds_in lines in
     let bonds = read_bonds n (bond_in lines) m in
@@ -65,7 +60,7 @@ accepted-rules table lines e =
     let r3 = kept_on (few_atoms n) _ _ r18.1 in
     let r4 = kept_on (few_bonds m) _ _ r3.1 in
     let r19 = kept_on (symbols_kept (limits_of table lines) n) _ _ r4.1 in
-    let (accepted, within, same) = limited (limits_of table lines) n bonds r19.1 in
+    let (accepted, within) = limited (limits_of table lines) n bonds r19.1 in
     record {
       form = r18.0;
       few = leb-true n 128 r3.0;
@@ -73,7 +68,8 @@ accepted-rules table lines e =
       symbols = r19.0;
       taken = bonds-taken n (bond_in lines) m accepted;
       limits = within;
-      reads = rw (r18.0, r3.0, r4.0, r19.0) same;
+      reads = e ∙ sym accepted;
+      is = accepted;
     }
 
 -- the list of the first bonds
@@ -88,13 +84,13 @@ first-at bond zero k h = absurd (omega arith)
 first-at bond (suc m) zero h = refl
 first-at bond (suc m) (suc k) h = first-at (λ j. bond (suc j)) m k (omega arith)
 
-module _ (table : Table) (file : List ℕ) (accepted : (read_molfile table file).answer ≡ Accepted) where
-  rules : Rules table (lines_in file)
-  rules = accepted-rules table (lines_in file) accepted
+module _ (table : Table) (file : List ℕ) (mol : Molecule) (accepted : read_molfile table file ≡ Ok mol) where
+  rules : Rules table (lines_in file) mol
+  rules = accepted-rules table (lines_in file) mol accepted
 
   -- Its record satisfies rule 9
-  pub accepted-well-formed : well_formed (read_molfile table file).molecule ≡ true
-  accepted-well-formed = rw rules.reads (taken-well-formed rules.few rules.taken rules.light)
+  pub accepted-well-formed : well_formed mol ≡ true
+  accepted-well-formed = taken-well-formed rules.few rules.taken rules.is rules.light
 
   -- It is read as the sheet with the same n and bonds, whatever fills the sheet's fields
   pub accepted-as-sheet :
@@ -107,9 +103,7 @@ module _ (table : Table) (file : List ℕ) (accepted : (read_molfile table file)
       let listed = bonds_listed lines in
       let size = first-length (bond_in lines) m in
       let same = bonds-same n (bond_at listed) (bond_in lines) m (first-at (bond_in lines) m) in
-      let taken = rules.taken in
-      let answer = ap (λ (x : Reading). x.answer) (same ∙ taken.reads) in
-      let again = bonds-taken n (bond_at listed) m answer in
+      let again = bonds-taken n (bond_at listed) m (same ∙ rules.is) in
       let light : length listed ≤ 1024 = rw size rules.light in
       let sheet =
       every-molecule-has-a-sheet zeros n listed rules.few light (rw size again.atoms-kept)

@@ -1,5 +1,6 @@
 -- Every molecule that a molfile can name has one: the plain molfile of its list of bonds and of symbols that the table
 -- allows its atoms. Its lines name them, and the list of the bonds of a record is read as that record.
+use Rattle.std.specs.Prelude.{Ok}
 use Prim.Native.Nat.{ℕ, zero, suc, ◌*◌, ◌≤◌, ◌<◌}
 use native.Mathlib.Nat.{suc-mul}
 use native.Mathlib.Decide.{dec_lt}
@@ -12,7 +13,6 @@ use lib.Dec.{leb}
 use borrow.Author.Tests.{le-leb, eqb-true}
 use Rattle.graph.proofs.Below.{false_of, all_below-of}
 use Rattle.graph.proofs.Sums.{sum, sum_same, sum-none}
-use Rattle.refusal.specs.declared.Answer.TheVariants.{Accepted}
 use Rattle.molecule.specs.declared.Molecule.{Molecule}
 use Rattle.molecule.specs.Record.{cell, ones_of, neighbours, well_formed}
 use Rattle.molecule.specs.BondList.{bond_list}
@@ -72,7 +72,7 @@ module _ (mol : Molecule) (formed : well_formed mol ≡ true) where
 
     atoms-read :
         mol.bonds ≤ 999 →
-        read_atoms mol.atoms (length bonds) limit (bond_at bonds) ≡ record { answer = Accepted; molecule = mol }
+        read_atoms mol.atoms (length bonds) limit (bond_at bonds) ≡ Ok mol
     unfolding symbols_kept neighbours_kept
     atoms-read light =
         let few = (rule9 mol formed).atoms_high in
@@ -81,12 +81,12 @@ module _ (mol : Molecule) (formed : well_formed mol ≡ true) where
         let room =
         all_below-of mol.atoms (λ i. leb (neighbours mol.rows i) (limit i))
         (λ i h. le-leb (neighbours mol.rows i) (limit i) (suits.room i h)) in
-        let within = limited-within limit mol.atoms (sym (record-reads mol formed)) refl room in
+        let within = limited-within limit mol.atoms (sym (record-reads mol formed)) room in
         sym (within ∙ symbols-known mol.atoms (length bonds) limit (bond_at bonds) few (omega arith) known)
 
     -- Every molecule of at most 999 bonds is read from a molfile
     pub every-molecule-has-a-molfile :
-        mol.bonds ≤ 999 → read_molfile table (plain_file symbols bonds) ≡ record { answer = Accepted; molecule = mol }
+        mol.bonds ≤ 999 → read_molfile table (plain_file symbols bonds) ≡ Ok mol
     every-molecule-has-a-molfile light =
         let few = (rule9 mol formed).atoms_high in
         let count = bonds-count mol formed in
@@ -152,7 +152,7 @@ module _ (mol : Molecule) (formed : well_formed mol ≡ true) where
   -- Every molecule whose atoms the built-in table allows is read from a molfile
   pub every-molecule-has-a-molfile-built-in :
       {symbols : List (List ℕ)} → Suits built_in mol symbols →
-      read_molfile built_in (plain_file symbols (bond_list mol.rows)) ≡ record { answer = Accepted; molecule = mol }
+      read_molfile built_in (plain_file symbols (bond_list mol.rows)) ≡ Ok mol
   every-molecule-has-a-molfile-built-in {symbols} suits =
       let range = built-in-range (λ i h. omega (arith, suits.room i h, built-in-most (get_or symbols i []))) in
       every-molecule-has-a-molfile mol formed suits (omega arith)
@@ -187,5 +187,5 @@ module _ (mol : Molecule) (most : (i : ℕ) → i < mol.atoms → neighbours mol
   pub sulfurs-read :
       well_formed mol ≡ true →
       read_molfile built_in (plain_file (replicate mol.atoms (one_letter 83)) (bond_list mol.rows)) ≡
-      record { answer = Accepted; molecule = mol }
+      Ok mol
   sulfurs-read formed = every-molecule-has-a-molfile-built-in mol formed sulfurs-suit

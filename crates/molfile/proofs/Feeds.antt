@@ -1,22 +1,23 @@
 -- The line that begins at a place, by the first line feed from there on, and the lines passed one after another.
 -- Bytes before the first line feed are put in front of its line one by one.
 use Prim.Native.Nat.{ℕ, zero, suc, ◌+◌, ◌-◌, ◌≤◌, ◌<◌}
-use native.Mathlib.Nat.{add-zero, eq-or-lt_of_le}
-use native.Mathlib.Numerals.{add-one}
-use native.Mathlib.Decide.{dec_lt}
+use native.Mathlib.Nat.{add-zero}
 use native.Mathlib.Omega.{arith}
 use mathlib.Core.Path.{◌≡◌, refl, ap, sym, ◌∙◌}
-use mathlib.Core.Bool.{Bool, true, false, true≢false, and-true, and-false}
 use mathlib.Core.List.{List, [], ◌∷◌}
-use mathlib.Core.Logic.{⊎_elim}
 use lib.ListN.{length, get_or, take, drop, length-drop}
-use lib.Dec.{eqb}
 use lib.Seq.{get_or-drop, drop-drop, drop-nil, get_or-take, length-take-le, take-take}
-use borrow.Author.Tests.{eq-eqb, ne_eqb, eqb-false, not-true}
-use Rattle.graph.specs.Every.{all_below}
-use Rattle.graph.proofs.Below.{all_below-at}
+use borrow.Author.Tests.{eq-eqb, ne_eqb}
 use Rattle.molfile.specs.Lines.{in_front, before_feeds, without_return, lines_in, file_line}
-use Rattle.molfile.specs.Parts.{lines_from, between, no_feed_at, NoFeed, FirstFeed, LineFound, ReadsFileLine, LinesPassed, no_lines, SkipsLines}
+use Rattle.molfile.specs.Parts.{lines_from, between, NoFeed, FirstFeed, LineFound, LinesPassed}
+use native.Mathlib.Decide.{dec_lt}
+use borrow.Author.Tests.{eqb-false}
+use borrow.Author.Tests.{not-true}
+use Rattle.graph.proofs.Below.{all_below-at}
+use Rattle.molfile.specs.Parts.{no_feed_at}
+use Rattle.graph.specs.Every.{all_below}
+use lib.Dec.{eqb}
+use mathlib.Core.Bool.{true}
 
 -- ---- bytes before the first line feed
 
@@ -39,100 +40,7 @@ first-line (suc k) (b ∷ bytes) inside feed none =
     let rest = first-line k bytes (omega arith) feed (λ j h. none (suc j) (omega arith)) in
     rw (ne_eqb b 10 (none 0 (omega arith)), rest)
 
--- ---- a line of the bytes s, from a place on
-
-module _ {s : List ℕ} {from feed : ℕ} (found : FirstFeed s from feed) where
-  abbrev apart : NoFeed s from feed
-  apart = found.none_before
-
-  module _ (past : length s ≤ feed) where
-    pub line-missing : lines_from s from ≡ []
-    unfolding lines_in
-    line-missing = rw (no_lines_lem (drop from s) none)
-      where
-        none : (j : ℕ) → j < length (drop from s) → get_or (drop from s) j 0 ≡ 10 → ⊥
-        none j h e =
-            let size = length-drop from s in
-            apart.none (from + j) (omega arith) (omega arith) (sym (get_or-drop from s j 0) ∙ e)
-
-  module _ (inside : feed < length s) where
-    line : before_feeds (drop from s) ≡ between s from feed ∷ before_feeds (drop (feed + 1) s)
-    line =
-        let ordered = apart.ordered in
-        let size = length-drop from s in
-        let at : from + (feed - from) ≡ feed = omega arith in
-        let here : get_or (drop from s) (feed - from) 0 ≡ 10 =
-        get_or-drop from s (feed - from) 0 ∙ rw at (found.here inside) in
-        let past : from + suc (feed - from) ≡ feed + 1 = omega arith in
-        first-line (feed - from) (drop from s) (omega arith) here none
-        ∙ ap (λ rest. between s from feed ∷ before_feeds rest) (drop-drop (suc (feed - from)) from s ∙ rw past)
-      where
-        none : (j : ℕ) → j < feed - from → get_or (drop from s) j 0 ≡ 10 → ⊥
-        none j h e = apart.none (from + j) (omega arith) (omega arith) (sym (get_or-drop from s j 0) ∙ e)
-
-    size : length (between s from feed) ≡ feed - from
-    size = let room = length-drop from s in length-take-le (feed - from) (drop from s) (omega arith)
-
-    -- its last byte
-    last_byte_lem : from < feed → get_or (between s from feed) (length (between s from feed) - 1) 0 ≡
-        get_or s (feed - 1) 0
-    last_byte_lem more =
-        let at : from + (feed - from - 1) ≡ feed - 1 = omega arith in
-        rw size (
-        get_or-take (feed - from) (drop from s) (feed - from - 1) 0 (omega arith)
-        ∙ get_or-drop from s (feed - from - 1) 0
-        ∙ rw at
-        )
-
-    found-line :
-        {end : ℕ} → from ≤ end → end ≤ feed → without_return (between s from feed) ≡ between s from end →
-        LineFound s from end (feed + 1)
-    unfolding lines_in
-    found-line low high text =
-        record { starts = low; ends = omega arith; inside = omega arith; first = rw (line, text) }
-
-    -- nothing before the line feed, or another byte than a carriage return
-    pub line-empty : feed ≤ from → LineFound s from feed (feed + 1)
-    unfolding without_return
-    line-empty none =
-        let ordered = apart.ordered in
-        let nothing : feed - from ≡ 0 = omega arith in
-        found-line ordered (omega arith) (rw nothing)
-
-    module _ (more : from < feed) where
-      pub line_plain : (get_or s (feed - 1) 0 ≡ 13 → ⊥) → LineFound s from feed (feed + 1)
-      unfolding without_return
-      line_plain other =
-          found-line apart.ordered (omega arith) (rw (last_byte_lem more, ne_eqb (get_or s (feed - 1) 0) 13 other))
-
-      pub line-returned : get_or s (feed - 1) 0 ≡ 13 → LineFound s from (feed - 1) (feed + 1)
-      unfolding without_return
-      line-returned return =
-          let last = eq-eqb (get_or s (feed - 1) 0) 13 return in
-          found-line (omega arith) (omega arith) (rw (last_byte_lem more, last, size) cut)
-        where
-          cut : take (feed - from - 1) (between s from feed) ≡ between s from (feed - 1)
-          cut =
-              let same : feed - from - 1 ≡ feed - 1 - from = omega arith in
-              take-take (feed - from - 1) (feed - from) (drop from s) (omega arith) ∙ rw same
-
--- the loop over the bytes
-pub no-feed-yet : {s : List ℕ} {from : ℕ} → from ≤ length s → NoFeed s from from
-no-feed-yet inside = record { ordered = omega arith; inside = inside; none = λ j h l. absurd (omega arith) }
-
-pub no-feed-more :
-    {s : List ℕ} {from i : ℕ} → NoFeed s from i → i < length s → (get_or s i 0 ≡ 10 → ⊥) → NoFeed s from (i + 1)
-no-feed-more {s} {from} {i} apart inside other =
-    record { ordered = let o = apart.ordered in omega arith; inside = omega arith; none = none }
-  where
-    none : (j : ℕ) → from ≤ j → j < i + 1 → get_or s j 0 ≡ 10 → ⊥
-    none j low high e =
-        ⊎_elim
-        (λ (same : j ≡ i). other (rw same at e))
-        (λ (less : j < i). apart.none j low less e)
-        (eq-or-lt_of_le (omega arith))
-
--- a block of 16 bytes without one
+-- a block of 16 bytes without a line feed after bytes without one
 pub no-feed-block :
     {s : List ℕ} {from i : ℕ} → NoFeed s from i → 16 ≤ length s - i → all_below 16 (no_feed_at s i) ≡ true →
     NoFeed s from (i + 16)
@@ -153,30 +61,83 @@ no-feed-block {s} {from} {i} apart room clear =
             let other = all_below-at 16 (no_feed_at s i) clear (j - i) (omega arith) in
             eqb-false (get_or s (i + (j - i)) 0) 10 (not-true (eqb (get_or s (i + (j - i)) 0) 10) other) (rw here e)
 
--- whether the first j of the bytes from a place on are none, as the loop knows it
-pub record Sifted (s : List ℕ) (at j : ℕ) (clear : Bool) : Type 0 where
-  pub within : j ≤ 16
-  pub is : clear ≡ all_below j (no_feed_at s at)
+-- ---- a line of the bytes s, from a place on
 
-pub sifted-none : {s : List ℕ} {at : ℕ} → Sifted s at 0 true
-sifted-none = record { within = omega arith; is = refl }
+pub line-missing : {s : List ℕ} {from : ℕ} → NoFeed s from (length s) → lines_from s from ≡ []
+unfolding lines_in
+line-missing {s} {from} apart = rw (no_lines_lem (drop from s) none)
+  where
+    none : (j : ℕ) → j < length (drop from s) → get_or (drop from s) j 0 ≡ 10 → ⊥
+    none j h e =
+        let size = length-drop from s in
+        apart.none (from + j) (omega arith) (omega arith) (sym (get_or-drop from s j 0) ∙ e)
 
-module _ {s : List ℕ} {at j : ℕ} {clear : Bool} (sifted : Sifted s at j clear) where
-  pub sifted-feed : j < 16 → get_or s (at + j) 0 ≡ 10 → Sifted s at (j + 1) false
-  sifted-feed more feed =
-      let none = and-false (all_below j (no_feed_at s at)) in
-      record { within = omega arith; is = rw (add-one, eq-eqb (get_or s (at + j) 0) 10 feed) (sym none) }
+module _ {s : List ℕ} {from feed : ℕ} (found : FirstFeed s from feed) where
+  abbrev apart : NoFeed s from feed
+  apart = found.none_before
 
-  pub sifted-other : j < 16 → (get_or s (at + j) 0 ≡ 10 → ⊥) → Sifted s at (j + 1) clear
-  sifted-other more other =
-      let all = and-true (all_below j (no_feed_at s at)) in
-      record { within = omega arith; is = rw (add-one, ne_eqb (get_or s (at + j) 0) 10 other) (sifted.is ∙ sym all) }
+  abbrev inside : feed < length s
+  inside = found.inside
 
-  pub sifted-all : 16 ≤ j → clear ≡ all_below 16 (no_feed_at s at)
-  sifted-all end =
-      let most = sifted.within in
-      let same : j ≡ 16 = omega arith in
-      rw same at sifted.is
+  line : before_feeds (drop from s) ≡ between s from feed ∷ before_feeds (drop (feed + 1) s)
+  line =
+      let ordered = apart.ordered in
+      let size = length-drop from s in
+      let at : from + (feed - from) ≡ feed = omega arith in
+      let here : get_or (drop from s) (feed - from) 0 ≡ 10 =
+      get_or-drop from s (feed - from) 0 ∙ rw at found.here in
+      let past : from + suc (feed - from) ≡ feed + 1 = omega arith in
+      first-line (feed - from) (drop from s) (omega arith) here none
+      ∙ ap (λ rest. between s from feed ∷ before_feeds rest) (drop-drop (suc (feed - from)) from s ∙ rw past)
+    where
+      none : (j : ℕ) → j < feed - from → get_or (drop from s) j 0 ≡ 10 → ⊥
+      none j h e = apart.none (from + j) (omega arith) (omega arith) (sym (get_or-drop from s j 0) ∙ e)
+
+  size : length (between s from feed) ≡ feed - from
+  size = let room = length-drop from s in length-take-le (feed - from) (drop from s) (omega arith)
+
+  -- its last byte
+  last_byte_lem :
+      from < feed → get_or (between s from feed) (length (between s from feed) - 1) 0 ≡ get_or s (feed - 1) 0
+  last_byte_lem more =
+      let at : from + (feed - from - 1) ≡ feed - 1 = omega arith in
+      rw size (
+      get_or-take (feed - from) (drop from s) (feed - from - 1) 0 (omega arith)
+      ∙ get_or-drop from s (feed - from - 1) 0
+      ∙ rw at
+      )
+
+  found-line :
+      {end : ℕ} → from ≤ end → end ≤ feed → without_return (between s from feed) ≡ between s from end →
+      LineFound s from end (feed + 1)
+  unfolding lines_in
+  found-line low high text =
+      record { starts = low; ends = omega arith; inside = omega arith; first = rw (line, text) }
+
+  -- nothing before the line feed, or another byte than a carriage return
+  pub line-empty : feed ≤ from → LineFound s from feed (feed + 1)
+  unfolding without_return
+  line-empty none =
+      let ordered = apart.ordered in
+      let nothing : feed - from ≡ 0 = omega arith in
+      found-line ordered (omega arith) (rw nothing)
+
+  module _ (more : from < feed) where
+    pub line_plain : (get_or s (feed - 1) 0 ≡ 13 → ⊥) → LineFound s from feed (feed + 1)
+    unfolding without_return
+    line_plain other =
+        found-line apart.ordered (omega arith) (rw (last_byte_lem more, ne_eqb (get_or s (feed - 1) 0) 13 other))
+
+    pub line-returned : get_or s (feed - 1) 0 ≡ 13 → LineFound s from (feed - 1) (feed + 1)
+    unfolding without_return
+    line-returned return =
+        let last = eq-eqb (get_or s (feed - 1) 0) 13 return in
+        found-line (omega arith) (omega arith) (rw (last_byte_lem more, last, size) cut)
+      where
+        cut : take (feed - from - 1) (between s from feed) ≡ between s from (feed - 1)
+        cut =
+            let same : feed - from - 1 ≡ feed - 1 - from = omega arith in
+            take-take (feed - from - 1) (feed - from) (drop from s) (omega arith) ∙ rw same
 
 -- ---- lines passed one after another
 
@@ -187,14 +148,13 @@ module _ {s : List ℕ} {from i at : ℕ} (passed : LinesPassed s from i at) whe
   line_at : file_line (lines_from s from) i ≡ file_line (drop i (lines_from s from)) 0
   line_at = sym (get_or-drop i (lines_from s from) 0 [] ∙ rw (add-zero i))
 
-  -- line i, where one stands at the place, and where none does
-  pub line-here : {end next : ℕ} → LineFound s at end next → file_line (lines_from s from) i ≡ between s at end
-  line-here found =
-      line_at ∙ ap (λ lines. file_line lines 0) (sym passed.rest ∙ found.first)
+  -- line i is the first from the place on
+  pub line-first : file_line (lines_from s from) i ≡ file_line (lines_from s at) 0
+  line-first = line_at ∙ ap (λ lines. file_line lines 0) (sym passed.rest)
 
-  pub none_here : lines_from s at ≡ [] → file_line (lines_from s from) i ≡ []
-  none_here none =
-      line_at ∙ ap (λ lines. file_line lines 0) (sym passed.rest ∙ none)
+  -- where one stands there
+  pub line-here : {end next : ℕ} → LineFound s at end next → file_line (lines_from s from) i ≡ between s at end
+  line-here found = line-first ∙ ap (λ lines. file_line lines 0) found.first
 
   pub passed-more : {end next : ℕ} → LineFound s at end next → LinesPassed s from (i + 1) next
   passed-more {next = next} found =
@@ -203,32 +163,15 @@ module _ {s : List ℕ} {from i at : ℕ} (passed : LinesPassed s from i at) whe
         rest = sym (sym (drop-drop 1 i (lines_from s from)) ∙ ap (drop 1) (sym passed.rest ∙ found.first));
       }
 
--- a line that is there
-pub line_read :
-    {s : List ℕ} {from end next : ℕ} → LineFound s from end next →
-    ReadsFileLine s from (record { there = true; end = end; next = next })
-line_read found = record { missing = λ e. absurd (true≢false e); found = λ e. found }
-
--- lines that are skipped, and one that is missing
+-- a line that is missing, of so many
 pub skipped-none :
     {s : List ℕ} {count i at : ℕ} → LinesPassed s 0 i at → i < count → lines_from s at ≡ [] →
-    SkipsLines s count no_lines
+    drop count (lines_from s 0) ≡ []
 skipped-none {s} {count} {i} passed more none =
-    record { missing = λ e. all; passed = λ e. absurd (true≢false (sym e)) }
-  where
-    all : drop count (lines_from s 0) ≡ []
-    all =
-        let size : i + (count - i) ≡ count = omega arith in
-        sym (rw size at (drop-drop (count - i) i (lines_from s 0)))
-        ∙ ap (drop (count - i)) (sym passed.rest ∙ none)
-        ∙ drop-nil (count - i)
-
-pub skipped-all :
-    {s : List ℕ} {count i at : ℕ} → LinesPassed s 0 i at → i ≤ count → count ≤ i →
-    SkipsLines s count (record { ok = true; next = at })
-skipped-all {count = count} {i = i} passed most least =
-    let same : i ≡ count = omega arith in
-    record { missing = λ e. absurd (true≢false e); passed = λ e. rw same at passed }
+    let size : i + (count - i) ≡ count = omega arith in
+    sym (rw size at (drop-drop (count - i) i (lines_from s 0)))
+    ∙ ap (drop (count - i)) (sym passed.rest ∙ none)
+    ∙ drop-nil (count - i)
 
 -- ---- lines passed, and then more
 

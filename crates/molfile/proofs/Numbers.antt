@@ -1,5 +1,6 @@
 -- The numbers that a molfile is refused by: 3, 6 to 8, and 18 to 20; a file that keeps rule 18 names at most 999 bonds.
 -- Each test of the definition is looked at.
+use Rattle.std.specs.Prelude.{Err, None, Ok, Option, Result, Some}
 use Prim.Native.Nat.{ℕ, ◌+◌, ◌≤◌}
 use native.Mathlib.Omega.{arith}
 use mathlib.Core.Path.{◌≡◌, refl, sym}
@@ -11,24 +12,20 @@ use lib.Dec.{leb}
 use borrow.Author.Tests.{leb-true, le-leb}
 use Rattle.graph.proofs.Below.{either}
 use Rattle.fields.specs.declared.Number.{Number}
-use Rattle.fields.specs.declared.Number.TheVariants.{Value, Bad}
 use Rattle.fields.specs.Field.{value_of}
 use Rattle.refusal.specs.declared.Refusal.{Refusal}
 use Rattle.refusal.specs.declared.Refusal.TheVariants as refusal
-use Rattle.refusal.specs.declared.Answer.{Answer}
-use Rattle.refusal.specs.declared.Answer.TheVariants.{Accepted, Refused}
 use Rattle.refusal.specs.Number.{number_of}
-use Rattle.refusal.specs.Answers.{unless_refused}
 use Rattle.refusal.proofs.Ranges.{by-test}
-use Rattle.bonds.specs.declared.Reading.{Reading}
 use Rattle.bonds.specs.Bonds.{Bond, atoms_kept, none_to_itself, none_twice}
-use Rattle.bonds.specs.Reading.{refused_reading, read_bonds}
+use Rattle.bonds.specs.Reading.{read_bonds}
 use Rattle.sheet.specs.Read.{few_atoms, few_bonds}
 use Rattle.molfile.specs.Lines.{file_line}
 use Rattle.molfile.specs.Elements.{Table}
 use Rattle.molfile.specs.Molfile.{number_at, counts_line_kept, atoms_in, bonds_in, bond_in, form_kept, symbols_kept}
 use Rattle.molfile.specs.Molfile.{neighbours_kept, within_limits, read_atoms, limits_of, read_lines}
 use Rattle.molfile.proofs.Columns.{three-digits}
+use Rattle.molecule.specs.declared.Molecule.{Molecule}
 
 -- ---- at most 999 bonds
 
@@ -36,9 +33,9 @@ use Rattle.molfile.proofs.Columns.{three-digits}
 three-most : (line : List ℕ) (at : ℕ) → at + 3 ≤ length line → value_of (number_at line at) ≤ 999
 three-most line at room = go (number_at line at) refl
   where
-    go : (x : Number) → number_at line at ≡ x → value_of x ≤ 999
-    go (Value v zeros) e = three-digits line at v zeros e room
-    go Bad e = omega arith
+    go : (x : Option Number) → number_at line at ≡ x → value_of x ≤ 999
+    go (Some x) e = three-digits line at e room
+    go None e = omega arith
 
 pub few-named : (lines : List (List ℕ)) → form_kept lines ≡ true → bonds_in lines ≤ 999
 unfolding form_kept counts_line_kept
@@ -59,12 +56,9 @@ few-named lines kept = reached (either (counts_line_kept line)) (either (leb 39 
 abbrev pub MolfileNumber : ℕ → Type 0
 MolfileNumber k = (k ≡ 3) ⊎ (((6 ≤ k) × (k ≤ 8)) ⊎ ((18 ≤ k) × (k ≤ 20)))
 
-abbrev Numbered : Answer → Type 0
-Numbered Accepted = Unit {0}
-Numbered (Refused r) = MolfileNumber (number_of r)
-
-abbrev Rule : Reading → Type 0
-Rule x = Numbered x.answer
+abbrev Rule : Result Molecule Refusal → Type 0
+Rule (Ok mol) = Unit {0}
+Rule (Err r) = MolfileNumber (number_of r)
 
 bonds-numbered : (n : ℕ) (bond : ℕ → Bond) (m : ℕ) → Rule (read_bonds n bond m)
 unfolding read_bonds
@@ -77,23 +71,16 @@ module _ (table : Table) (lines : List (List ℕ)) where
   abbrev limit : ℕ → ℕ
   limit = limits_of table lines
 
-  abbrev read : Reading
+  abbrev read : Result Molecule Refusal
   read = read_bonds (atoms_in lines) (bond_in lines) (bonds_in lines)
 
   limited-numbered : Rule (within_limits limit (atoms_in lines) read)
-  limited-numbered = go read.answer (bonds-numbered (atoms_in lines) (bond_in lines) (bonds_in lines))
+  limited-numbered = go read (bonds-numbered (atoms_in lines) (bond_in lines) (bonds_in lines))
     where
-      over : Reading
-      over = refused_reading refusal.TooManyNeighbours
-
-      kept : Bool
-      kept = neighbours_kept limit (atoms_in lines) read.molecule.rows
-
-      go : (x : Answer) → Numbered x → Rule (unless_refused x refused_reading (cond kept read over))
-      go Accepted told =
-          by-test Rule kept read over (inr (inr (omega arith, omega arith)))
-          (bonds-numbered (atoms_in lines) (bond_in lines) (bonds_in lines))
-      go (Refused r) told = told
+      go : (x : Result Molecule Refusal) → Rule x → Rule (within_limits limit (atoms_in lines) x)
+      go (Ok mol) told =
+          by-test Rule (neighbours_kept limit (atoms_in lines) mol.rows) _ _ (inr (inr (omega arith, omega arith))) tt
+      go (Err r) told = told
 
   lines-numbered : Rule (read_lines table lines)
   unfolding read_lines read_atoms
@@ -109,5 +96,5 @@ module _ (table : Table) (lines : List (List ℕ)) where
           (by-test Rule (symbols_kept limit (atoms_in lines)) _ _ (inr (inr (omega arith, omega arith)))
           limited-numbered))
 
-  pub molfile-numbers : (r : Refusal) → (read_lines table lines).answer ≡ Refused r → MolfileNumber (number_of r)
+  pub molfile-numbers : (r : Refusal) → read_lines table lines ≡ Err r → MolfileNumber (number_of r)
   molfile-numbers r e = rw e at lines-numbered

@@ -1,5 +1,6 @@
 -- The plain lines of some symbols and bonds name them, and fit the lines of a file.
 -- A written number reads back from its columns; line i of the text is the line of symbol or bond i.
+use Rattle.std.specs.Prelude.{None}
 use Prim.Native.Nat.{ℕ, zero, suc, ◌+◌, ◌-◌, ◌*◌, ◌/◌, ◌%◌, ◌≤◌, ◌<◌}
 use native.Mathlib.Omega.{arith}
 use mathlib.Core.Path.{◌≡◌, refl, ap, sym, ◌∙◌}
@@ -10,8 +11,7 @@ use lib.Seq.{take_at, drop_at, take_all, drop-append-add, get_or-append-add}
 use lib.Dec.{eqb}
 use borrow.Author.Tests.{le-leb, eq-eqb, ne_eqb}
 use Rattle.graph.proofs.Below.{and_left, and_right, and_parts, and_both, not-of, all_below-of}
-use Rattle.fields.specs.declared.Number.TheVariants.{Value, Bad}
-use Rattle.fields.specs.Field.{limit, is_digit, digits, after_blanks, column, columns, field_text}
+use Rattle.fields.specs.Field.{number, limit, is_digit, digits, after_blanks, column, columns, field_text}
 use Rattle.fields.proofs.Digits.{passed, digits-end-value, digit-read}
 use Rattle.fields.proofs.Blanks.{text-read}
 use Rattle.fields.proofs.Laws.{field-length}
@@ -28,9 +28,10 @@ use Rattle.molfile.proofs.Texts.{lacks-append}
 
 -- what is a number filled with blanks is one where leading zeros are allowed
 digits-zeros :
-    (w : ℕ) (bs : List ℕ) (v : ℕ) (filled : Bool) → digits false w bs ≡ Value v filled → digits true w bs ≡ Value v true
+    (w : ℕ) (bs : List ℕ) (v : ℕ) (filled : Bool) → digits false w bs ≡ number v filled →
+    digits true w bs ≡ number v true
 unfolding digits
-digits-zeros w [] v filled e = ap (λ x. Value x true) (digits-end-value false w v filled e).0
+digits-zeros w [] v filled e = ap (λ x. number x true) (digits-end-value false w v filled e).0
 digits-zeros w (b ∷ bs) v filled e =
     let digit = digit-read false w b bs v filled e in
     let now = w * 10 + (b - 48) in
@@ -38,31 +39,32 @@ digits-zeros w (b ∷ bs) v filled e =
     (digits-zeros now bs v filled digit.rest)
 
 blanks-zeros :
-    (bs : List ℕ) (v : ℕ) (filled : Bool) → after_blanks false bs ≡ Value v filled → after_blanks true bs ≡ Value v true
+    (bs : List ℕ) (v : ℕ) (filled : Bool) → after_blanks false bs ≡ number v filled →
+    after_blanks true bs ≡ number v true
 unfolding after_blanks
 blanks-zeros [] v filled e = let z : ◌≡◌ {A = ℕ} 0 1 = cc in absurd (omega arith)
 blanks-zeros (b ∷ bs) v filled e = go (blanks-zeros bs v filled) (eqb b 32) e
   where
     go :
-        (after_blanks false bs ≡ Value v filled → after_blanks true bs ≡ Value v true) → (t : Bool) →
-        cond t (after_blanks false bs) (cond (is_digit b) (digits false (b - 48) bs) Bad) ≡ Value v filled →
-        cond t (after_blanks true bs) (cond (is_digit b) (digits true (b - 48) bs) Bad) ≡ Value v true
+        (after_blanks false bs ≡ number v filled → after_blanks true bs ≡ number v true) → (t : Bool) →
+        cond t (after_blanks false bs) (cond (is_digit b) (digits false (b - 48) bs) None) ≡ number v filled →
+        cond t (after_blanks true bs) (cond (is_digit b) (digits true (b - 48) bs) None) ≡ number v true
     go more true e = more e
     go more false e =
         let (digit, rest) = passed (is_digit b) (digits false (b - 48) bs) v filled e in
         rw digit (digits-zeros (b - 48) bs v filled rest)
 
-number_read : (v : ℕ) → v ≤ 999 → after_blanks true (field_text 3 v) ≡ Value v true
+number_read : (v : ℕ) → v ≤ 999 → after_blanks true (field_text 3 v) ≡ number v true
 number_read v small =
     blanks-zeros (field_text 3 v) v false (text-read 3 v (omega arith) (omega arith) (omega arith))
 
 -- ---- two numbers, and what follows them
 
 module _ {a b : ℕ} (left : a ≤ 999) (right : b ≤ 999) (rest : List ℕ) where
-  left-number : number_at (pair_text a b rest) 0 ≡ Value a true
+  left-number : number_at (pair_text a b rest) 0 ≡ number a true
   left-number = rw (take_at (field_text 3 a) (field_text 3 b ++ rest) 3 (field-length 3 a)) (number_read a left)
 
-  right-number : number_at (pair_text a b rest) 3 ≡ Value b true
+  right-number : number_at (pair_text a b rest) 3 ≡ number b true
   right-number =
       let skip = drop_at (field_text 3 a) (field_text 3 b ++ rest) 3 (field-length 3 a) in
       let field = take_at (field_text 3 b) rest 3 (field-length 3 b) in

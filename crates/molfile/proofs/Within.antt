@@ -1,5 +1,6 @@
 -- What follows the bytes of an accepted molfile makes no difference.
 -- The lines of the longer file begin with those of the shorter, and every line that is read stands before its M  END.
+use Rattle.std.specs.Prelude.{Ok}
 use Prim.Native.Nat.{ℕ, ◌+◌, ◌<◌}
 use native.Mathlib.Omega.{arith}
 use mathlib.Core.Path.{◌≡◌, refl, ap, ◌∙◌}
@@ -11,7 +12,7 @@ use lib.Dec.{eqb}
 use Rattle.graph.specs.Every.{all_below}
 use Rattle.graph.proofs.Below.{and_right}
 use Rattle.graph.proofs.Places.{all_same}
-use Rattle.refusal.specs.declared.Answer.TheVariants.{Accepted}
+use Rattle.molecule.specs.declared.Molecule.{Molecule}
 use Rattle.molfile.specs.Lines.{in_front, before_feeds, without_return, lines_in, file_line}
 use Rattle.molfile.specs.Elements.{Table, limit_of}
 use Rattle.molfile.specs.Molfile.{numbers_in, counts_line_kept, atom_line_kept, symbol_in, bond_line_kept, has_end}
@@ -110,9 +111,9 @@ module _ (lines more : List (List ℕ)) (kept : form_kept lines ≡ true) where
 
 -- An accepted file is read alike with any bytes after it
 pub accepted-within :
-    (table : Table) (file rest : List ℕ) → (read_molfile table file).answer ≡ Accepted →
+    (table : Table) (file rest : List ℕ) (mol : Molecule) → read_molfile table file ≡ Ok mol →
     read_molfile table (file ++ rest) ≡ read_molfile table file
-accepted-within table file rest accepted =
+accepted-within table file rest mol accepted =
     let (more, e) = lines-begin file rest in
-    let rules = accepted-rules table (lines_in file) accepted in
+    let rules = accepted-rules table (lines_in file) mol accepted in
     ap (read_lines table) e ∙ read_more (lines_in file) more rules.form table

@@ -4,33 +4,79 @@ use Prim.Native.Nat.{ℕ, suc, ◌+◌, ◌-◌, ◌≤◌, ◌<◌}
 use native.Mathlib.Nat.{zero-add}
 use native.Mathlib.Omega.{arith}
 use mathlib.Core.Path.{◌≡◌, ap, sym, ◌∙◌}
-use mathlib.Core.Bool.{Bool, true, false}
+use mathlib.Core.Bool.{true, ◌&&◌}
 use mathlib.Core.List.{List, [], ◌∷◌}
 use lib.ListN.{length, get_or, take, drop, length-drop}
 use lib.Dec.{eqb}
 use lib.Seq.{get_or-drop, get_or-take, length-take-le, ext_get_or, drop-cons}
-use borrow.Author.Tests.{eq-eqb, ne_eqb}
+use lib.Pointwise.{pointwise}
+use borrow.Author.Tests.{eq-eqb, eqb-true}
+use Rattle.std.specs.List.{starts_with}
+use Rattle.std.specs.Cmp.Lexicographic.{same_text, other_text}
+use Rattle.graph.proofs.Below.{true_of, and_parts, and_both, same_test, all_below-at, all_below-of}
 use Rattle.graph.proofs.Places.{all_same}
 use Rattle.molfile.specs.Lines.{stands}
 use Rattle.molfile.specs.Parts.{between}
 
 -- ---- a word in the bytes, byte by byte
 
-abbrev pub matches : List ℕ → ℕ → List ℕ → ℕ → Bool
-matches word at s k = eqb (get_or (drop at s) (0 + k) 0) (get_or word k 0)
-
 byte_at : (s : List ℕ) (at k : ℕ) → get_or (drop at s) (0 + k) 0 ≡ get_or s (at + k) 0
 byte_at s at k = rw zero-add (get_or-drop at s k 0)
 
-pub matches-yes :
-    (word : List ℕ) (at : ℕ) (s : List ℕ) (k : ℕ) → get_or s (at + k) 0 ≡ get_or word k 0 → matches word at s k ≡ true
-matches-yes word at s k e = eq-eqb (get_or (drop at s) (0 + k) 0) (get_or word k 0) (byte_at s at k ∙ e)
+-- a text is as long as a word that stands in it, just when it is the word
+module _ (word line : List ℕ) where
+  word-here : length line ≡ length word → stands word 0 line ≡ true → line ≡ word
+  unfolding stands
+  word-here size all =
+      ext_get_or 0 line word size (λ i h. eqb-true (get_or line i 0) (get_or word i 0) (byte i (omega arith)))
+    where
+      byte : (i : ℕ) → i < length word → eqb (get_or line i 0) (get_or word i 0) ≡ true
+      byte i h =
+          let here = all_below-at (length word) (λ k. eqb (get_or line (0 + k) 0) (get_or word k 0)) all i h in
+          rw zero-add at here
 
-pub matches-no :
-    (word : List ℕ) (at : ℕ) (s : List ℕ) (k : ℕ) → (get_or s (at + k) 0 ≡ get_or word k 0 → ⊥) →
-    matches word at s k ≡ false
-matches-no word at s k other =
-    ne_eqb (get_or (drop at s) (0 + k) 0) (get_or word k 0) (λ e. other (sym (byte_at s at k) ∙ e))
+  word-itself : line ≡ word → stands word 0 line ≡ true
+  unfolding stands
+  word-itself same =
+      all_below-of (length word) _ (λ k h. eq-eqb (get_or line (0 + k) 0) (get_or word k 0) (rw (zero-add, same)))
+
+  texts-same : line ≡ word → pointwise eqb line word ≡ true
+  texts-same same = true_of (pointwise eqb line word) (λ e. other_text line word (sym e) same)
+
+  -- so the test of two texts looks for it
+  pub word-is : pointwise eqb line word ≡ (eqb (length line) (length word) && stands word 0 line)
+  word-is =
+      same_test _ _
+      (λ e. let same = same_text line word (sym e) in
+      and_both _ _ (eq-eqb (length line) (length word) (ap length same)) (word-itself same))
+      (λ e. let parts = and_parts _ _ e in texts-same (word-here (eqb-true _ _ parts.0) parts.1))
+
+-- and so does the test of what a text starts with
+pub word-starts :
+    (word s : List ℕ) → length word ≤ length s → starts_with eqb s word ≡ stands word 0 s
+unfolding stands
+word-starts word s room = same_test _ _ there back
+  where
+    part : List ℕ
+    part = take (length word) s
+
+    size : length part ≡ length word
+    size = length-take-le (length word) s room
+
+    same_part : stands word 0 part ≡ stands word 0 s
+    same_part =
+        all_same (length word) _ _
+        (λ k h.
+        ap (λ b. eqb b (get_or word k 0))
+        (rw zero-add (get_or-take (length word) s k 0 h)))
+
+    there : pointwise eqb word part ≡ true → stands word 0 s ≡ true
+    there e = sym same_part ∙ word-itself word part (sym (same_text word part (sym e)))
+
+    back : stands word 0 s ≡ true → pointwise eqb word part ≡ true
+    back e =
+        true_of (pointwise eqb word part)
+        (λ f. other_text word part (sym f) (sym (word-here word part size (same_part ∙ e))))
 
 -- ---- columns of a line
 

@@ -1,22 +1,23 @@
 -- Molfiles (document 02, F-1): what any bytes are read as, rules 18, 3, 4, 19, 6, 7, 8 and 20, each tried over the
 -- whole input before the next. Columns are counted from 0 here, lines too.
-use Rattle.std.specs.Prelude.{ℕ, zero, suc, ◌+◌, Bool, true, false, ◌&&◌, ◌||◌, cond, List, [], ◌∷◌, length, take, drop, leb, eqb}
+use Rattle.std.specs.Prelude.{ℕ, zero, suc, ◌+◌, Bool, true, false, ◌&&◌, ◌||◌, cond, List, [], ◌∷◌, length, take, drop, leb, eqb, Err, Ok, Option, Result}
 use Rattle.graph.specs.Every.{all_below}
 use Rattle.fields.specs.declared.Number.{Number}
 use Rattle.fields.specs.Field.{after_blanks, is_value, value_of}
 use Rattle.refusal.specs.declared.Refusal.TheVariants as refusal
-use Rattle.refusal.specs.Answers.{unless_refused}
+use Rattle.refusal.specs.Answers.{◌>>=◌}
 use Rattle.molecule.specs.Record.{neighbours}
-use Rattle.bonds.specs.declared.Reading.{Reading}
 use Rattle.bonds.specs.Bonds.{Bond}
-use Rattle.bonds.specs.Reading.{refused_reading, read_bonds}
+use Rattle.bonds.specs.Reading.{read_bonds}
 use Rattle.sheet.specs.Read.{few_atoms, few_bonds}
 use Rattle.molfile.specs.Lines.{lines_in, file_line, reaches, stands}
 use Rattle.molfile.specs.Elements.{Table, limit_of}
+use Rattle.refusal.specs.declared.Refusal.{Refusal}
+use Rattle.molecule.specs.declared.Molecule.{Molecule}
 
 -- A number of three columns: blanks, then one or more digits, leading zeros allowed, right-justified (what it says of
 -- zeros is not used)
-abbrev pub number_at : List ℕ → ℕ → Number
+abbrev pub number_at : List ℕ → ℕ → Option Number
 number_at line at = after_blanks true (take 3 (drop at line))
 
 -- the two numbers in columns 1 to 3 and 4 to 6 of a line, and whether they are numbers
@@ -101,32 +102,31 @@ unfoldable pub neighbours_kept : (ℕ → ℕ) → ℕ → List ℕ → Bool
 neighbours_kept limit n rows = all_below n (λ i. leb (neighbours rows i) (limit i))
 
 -- rule 20 on what the bonds are read as
-abbrev pub within_limits : (ℕ → ℕ) → ℕ → Reading → Reading
+abbrev pub within_limits : (ℕ → ℕ) → ℕ → Result Molecule Refusal → Result Molecule Refusal
 within_limits limit n read =
-    unless_refused read.answer refused_reading
-    (cond (neighbours_kept limit n read.molecule.rows) read (refused_reading refusal.TooManyNeighbours))
+    read >>= λ mol. cond (neighbours_kept limit n mol.rows) (Ok mol) (Err refusal.TooManyNeighbours)
 
 -- Rules 3, 4, 19, then 6, 7 and 8, then 20
-unfoldable pub read_atoms : ℕ → ℕ → (ℕ → ℕ) → (ℕ → Bond) → Reading
+unfoldable pub read_atoms : ℕ → ℕ → (ℕ → ℕ) → (ℕ → Bond) → Result Molecule Refusal
 read_atoms n m limit bond =
     cond (few_atoms n)
     (cond (few_bonds m)
-    (cond (symbols_kept limit n) (within_limits limit n (read_bonds n bond m)) (refused_reading refusal.UnknownSymbol))
-    (refused_reading refusal.TooManyBonds))
-    (refused_reading refusal.TooManyAtoms)
+    (cond (symbols_kept limit n) (within_limits limit n (read_bonds n bond m)) (Err refusal.UnknownSymbol))
+    (Err refusal.TooManyBonds))
+    (Err refusal.TooManyAtoms)
 
 -- the most neighbours of each atom, by its symbol
 abbrev pub limits_of : Table → List (List ℕ) → ℕ → ℕ
 limits_of table lines i = limit_of table (symbol_in (atom_line lines i))
 
 -- What lines are read as: rule 18 first
-unfoldable pub read_lines : Table → List (List ℕ) → Reading
+unfoldable pub read_lines : Table → List (List ℕ) → Result Molecule Refusal
 read_lines table lines =
     cond (form_kept lines) (read_atoms (atoms_in lines) (bonds_in lines) (limits_of table lines) (bond_in lines))
-    (refused_reading refusal.MolfileLines)
+    (Err refusal.MolfileLines)
 
 -- What a molfile is read as with a table
-abbrev pub read_molfile : Table → List ℕ → Reading
+abbrev pub read_molfile : Table → List ℕ → Result Molecule Refusal
 read_molfile table bytes = read_lines table (lines_in bytes)
 
 -- ---- the bonds that lines name, as a list, for the law that an accepted file is read as the sheet with the same bonds

@@ -1,5 +1,6 @@
 -- The sheet of a record as the code writes it: the line of n and m, and then a line for each bond.
 -- A field that blanks fill is the text of its number, so the sheet is bond lines.
+use Rattle.std.specs.Prelude.{Err, Ok}
 use Prim.Native.Nat.{ℕ, ◌+◌, ◌*◌, ◌≤◌, ◌<◌}
 use native.Mathlib.Omega.{arith}
 use mathlib.Core.Path.{◌≡◌, refl, ap, sym, ◌∙◌}
@@ -14,7 +15,6 @@ use Rattle.molecule.proofs.Bonds.{rule9}
 use Rattle.refusal.specs.declared.Refusal.TheVariants as refusal
 use Rattle.sheet.specs.Text.{later, lines_text, sheet_text, blanks, record_sheet}
 use Rattle.sheet.proofs.EveryRecord.{record-sheet-size}
-use Rattle.search.specs.declared.Saved.TheVariants.{Written, Refused}
 use Rattle.search.specs.Mark.{fields_text, bond_lines, write_answer, written_bytes}
 use Rattle.search.proofs.BondLines.{bond-lines-length}
 use Rattle.search.proofs.FormLaws.{write-fits, write-short}
@@ -57,8 +57,8 @@ module _ (mol : Molecule) (formed : well_formed mol ≡ true) where
   module _ (out : List ℕ) where
     pub no_room :
         length out < 9 * (mol.bonds + 1) →
-        (Refused refusal.MarkRoom ≡ write_answer (record_sheet mol) out) ×
-        (out ≡ written_bytes (Refused refusal.MarkRoom) (record_sheet mol) out)
+        (Err refusal.MarkRoom ≡ write_answer (record_sheet mol) out) ×
+        (out ≡ written_bytes (Err refusal.MarkRoom) (record_sheet mol) out)
     no_room short = let size = sheet-size in (sym (write-short (record_sheet mol) out (omega arith)), refl)
 
     module _ (room : 9 * (mol.bonds + 1) ≤ length out) where
@@ -70,8 +70,8 @@ module _ (mol : Molecule) (formed : well_formed mol ≡ true) where
 
       pub sheet-put :
           {one two : List ℕ} → one ≡ spliced 0 first out → two ≡ spliced 9 rest one →
-          (Written (9 * (mol.bonds + 1)) ≡ write_answer (record_sheet mol) out) ×
-          (two ≡ written_bytes (Written (9 * (mol.bonds + 1))) (record_sheet mol) out)
+          (Ok (9 * (mol.bonds + 1)) ≡ write_answer (record_sheet mol) out) ×
+          (two ≡ written_bytes (Ok (9 * (mol.bonds + 1))) (record_sheet mol) out)
       sheet-put {one} {two} e1 e2 =
           let size = sheet-size in
           let front = first-size in
@@ -80,4 +80,4 @@ module _ (mol : Molecule) (formed : well_formed mol ≡ true) where
           let joined = splice-next out first rest one 0 9 e1 (omega arith) (omega arith) in
           let text = ap (λ t. spliced 0 t out) (sym sheet-lines) in
           let answer = write-fits (record_sheet mol) out (omega arith) in
-          (sym (answer ∙ ap Written size), e2 ∙ joined ∙ text ∙ rw (← size) (splice-start out (record_sheet mol)))
+          (sym (answer ∙ ap Ok size), e2 ∙ joined ∙ text ∙ rw (← size) (splice-start out (record_sheet mol)))

@@ -10,34 +10,27 @@ ghost use Rattle.molfile.specs.Elements.{built_in};
 ghost use Rattle.molsheet.specs.Sheet.{sheet_answer, sheet_output};
 
 use molecule::Molecule;
-use refusal::{Answer, Refusal};
-use search::Saved;
+use refusal::Refusal;
 
 // Writes the sheet of a record that rule 9 allows: rule 13.
-fn write_record(m: Molecule, out: &mut [u8]) -> Saved
+fn write_record(m: Molecule, out: &mut [u8]) -> Result<usize, Refusal>
     requires { well_formed m ≡ true }
     ensures { (result ≡ write_answer (record_sheet m) out.old) ×
         (out.new ≡ written_bytes result (record_sheet m) out.old) }
 {
     let size = 9 * (m.bonds + 1);
     if out.len() < size {
-        return Saved::Refused(Refusal::MarkRoom);
+        return Err(Refusal::MarkRoom);
     }
-    let rows = m.rows;
     bond_writer::put_bond(out, 0, m.atoms, m.bonds);
-    bond_writer::put_bonds(out, 9, &rows, m.atoms);
-    Saved::Written(size)
+    bond_writer::put_bonds(out, 9, &m.rows, m.atoms);
+    Ok(size)
 }
 
 // Reads a molfile and writes the sheet of its record. Only the sheet's bytes are written.
-pub fn write_sheet(molfile: &[u8], sheet: &mut [u8]) -> Saved
+pub fn write_sheet(molfile: &[u8], sheet: &mut [u8]) -> Result<usize, Refusal>
     ensures { (result ≡ sheet_answer built_in molfile.now sheet.old) ×
         (sheet.new ≡ sheet_output built_in molfile.now sheet.old) }
 {
-    let read = molfile::read_molfile(molfile);
-    let read_answer = read.answer;
-    match read_answer {
-        Answer::Refused(r) => Saved::Refused(r),
-        Answer::Accepted => write_record(read.molecule, sheet),
-    }
+    write_record(molfile::read_molfile(molfile)?, sheet)
 }

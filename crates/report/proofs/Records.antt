@@ -2,12 +2,11 @@
 -- ahead are the lines of all. Each turn takes one record off the front of the bytes and writes its line where the last
 -- one ends.
 use Prim.Native.Nat.{ℕ, zero, suc, ◌+◌, ◌-◌, ◌*◌, ◌≤◌, ◌<◌}
-use native.Mathlib.Numerals.{add-one}
 use native.Mathlib.Omega.{arith}
 use mathlib.Core.Path.{◌≡◌, refl, ap, sym, ◌∙◌}
 use mathlib.Core.List.{List, [], ◌∷◌, ◌++◌, append_assoc, append-nil}
-use lib.ListN.{length, get_or, take, drop, length-append, length-drop, take-append-drop, drop_of_length-le}
-use lib.Seq.{take_at, drop_at, drop-drop, drop-cons, take_all, take-append_seam, drop-append_seam, length-take-le}
+use lib.ListN.{length, take, drop, length-append, length-drop, take-append-drop, drop_of_length-le}
+use lib.Seq.{take_at, drop_at, drop-drop, take_all, take-append_seam, drop-append_seam, length-take-le}
 use borrow.Author.Tests.{le-leb, lt-leb}
 use borrow.Rule.Slice.PartMut.{put_mid}
 use Rattle.enumeration.specs.Run.{record_of}
@@ -47,6 +46,10 @@ lines_none : ring_lines [] ≡ []
 unfolding ring_lines lines_of_first
 lines_none = refl
 
+no-bytes : (bytes : List ℕ) → length bytes ≡ 0 → ring_lines bytes ≡ []
+no-bytes [] e = lines_none
+no-bytes (k ∷ rest) e = absurd (omega arith)
+
 -- The records of rings before other bytes: their lines, in order, before the lines of those bytes
 pub lines-joined :
     (ws : List (List ℕ)) (bytes : List ℕ) → ring_lines (records ws ++ bytes) ≡ lines_of ws ++ ring_lines bytes
@@ -65,41 +68,45 @@ lines-of-records ws = rw (append-nil (records ws), lines_none, append-nil (lines
 
 -- ---- printing them
 
--- i bytes of the records are behind, and the lines of those fill the first `used` bytes of the text
-pub record Printing (rs before text : List ℕ) (used i : ℕ) : Type 0 where
+-- the lines of the records before the bytes `left` fill the first `used` bytes of the text
+pub record Printing (rs before text : List ℕ) (used : ℕ) (left : List ℕ) : Type 0 where
   pub room : 4 * length rs ≤ length before
-  pub within : i ≤ length rs
-  pub short : used ≤ 4 * i
+  pub short : used + 4 * length left ≤ 4 * length rs
   pub size : length text ≡ length before
-  pub ahead : ring_lines rs ≡ take used text ++ ring_lines (drop i rs)
+  pub ahead : ring_lines rs ≡ take used text ++ ring_lines left
   pub past : drop used text ≡ drop used before
 
-pub printing-starts : {rs before : List ℕ} → 4 * length rs ≤ length before → Printing rs before before 0 0
-printing-starts room =
-    record { room = room; within = omega arith; short = omega arith; size = refl; ahead = refl; past = refl }
+pub printing-starts : {rs before : List ℕ} → 4 * length rs ≤ length before → Printing rs before before 0 rs
+printing-starts room = record { room = room; short = omega arith; size = refl; ahead = refl; past = refl }
 
-module _ {rs before text : List ℕ} {used i : ℕ} (p : Printing rs before text used i) where
+module _ {rs before text : List ℕ} {used : ℕ} {left : List ℕ} (p : Printing rs before text used left) where
   -- the lines so far are within the text
   used-within : used ≤ length text
-  used-within = omega (arith, p.room, p.within, p.short, p.size)
+  used-within = omega (arith, p.room, p.short, p.size)
 
   -- no line is ahead
-  printing-ends : ring_lines (drop i rs) ≡ [] → PrintedInto (4 * length rs) (ring_lines rs) before used text
+  printing-ends : ring_lines left ≡ [] → PrintedInto (4 * length rs) (ring_lines rs) before used text
   printing-ends none =
       let all : ring_lines rs ≡ take used text = p.ahead ∙ rw (none, append-nil (take used text)) in
       let size = ap length all ∙ length-take-le used text used-within in
       prints p.room
       (record { size = size; is = sym (take-append-drop used text) ∙ rw (p.past, size, all) })
 
-  pub printed-all : length rs ≤ i → PrintedInto (4 * length rs) (ring_lines rs) before used text
-  printed-all h = printing-ends (rw (drop_of_length-le rs h) lines_none)
+  pub printed-all : length left ≡ 0 → PrintedInto (4 * length rs) (ring_lines rs) before used text
+  printed-all none = printing-ends (no-bytes left none)
+
+  -- a record that is cut off
+  pub printed-cut :
+      {k : ℕ} {rest : List ℕ} → left ≡ k ∷ rest → length rest < k →
+      PrintedInto (4 * length rs) (ring_lines rs) before used text
+  printed-cut {k} {rest} is h = printing-ends (rw is (lines_cut k rest h))
 
   -- a line of so many bytes is written at the start of what stands past `used`
   line_on :
-      (line : List ℕ) {part : List ℕ} {next : ℕ} → next ≤ length rs → used + length line ≤ 4 * next →
-      ring_lines (drop i rs) ≡ line ++ ring_lines (drop next rs) → part ≡ onto line (drop used text) →
+      (line : List ℕ) {part next : List ℕ} → used + length line + 4 * length next ≤ 4 * length rs →
+      ring_lines left ≡ line ++ ring_lines next → part ≡ onto line (drop used text) →
       Printing rs before (put_mid used (length text - used) text part) (used + length line) next
-  line_on line {part} {next} within short is-next is-part =
+  line_on line {part} {next} short is-next is-part =
       let front = take used text ++ line in
       let rest = drop (length line) (drop used text) in
       let least : length (drop used text) ≤ length text - used = omega (arith, length-drop used text) in
@@ -110,56 +117,45 @@ module _ {rs before text : List ℕ} {used i : ℕ} (p : Printing rs before text
       let past = length-drop (length line) (drop used text) in
       record {
         room = p.room;
-        within = within;
         short = short;
         size =
             ap length bytes ∙
             rw (length-append, size, past, length-drop used text) (omega (arith, p.room, p.size));
         ahead =
             p.ahead ∙ rw (is-next, bytes, take_at front rest (used + length line) size)
-            (sym (append_assoc (take used text) line (ring_lines (drop next rs))));
+            (sym (append_assoc (take used text) line (ring_lines next)));
         past = rw (bytes, drop_at front rest (used + length line) size, p.past) (drop-drop (length line) used before);
       }
 
-  module _ {k : ℕ} (more : i < length rs) (byte : k ≡ get_or rs i 0) where
-    at-record : drop i rs ≡ k ∷ drop (i + 1) rs
-    at-record = rw (byte, add-one i) (drop-cons rs i 0 more)
-
-    -- a record that is cut off
-    pub printed-cut : length rs - (i + 1) < k → PrintedInto (4 * length rs) (ring_lines rs) before used text
-    printed-cut h =
-        printing-ends (rw at-record (lines_cut k (drop (i + 1) rs) (omega (arith, length-drop (i + 1) rs))))
-
-    module _ (whole : k ≤ length rs - (i + 1)) where
-      -- the ring of the record
-      abbrev ring : List ℕ
-      ring = take (i + 1 + k - (i + 1)) (drop (i + 1) rs)
-
+  -- the ring of a record, and the bytes past it
+  module _
+      {k : ℕ} {tail ring next : List ℕ} (is : left ≡ k ∷ tail) (whole : k ≤ length tail) (is-ring : ring ≡ take k tail)
+      (is-next : next ≡ drop k tail)
+    where
       ring-size : length ring ≡ k
-      ring-size =
-          let width : i + 1 + k - (i + 1) ≡ k = omega arith in
-          rw width (length-take-le k (drop (i + 1) rs) (omega (arith, length-drop (i + 1) rs)))
+      ring-size = ap length is-ring ∙ length-take-le k tail whole
 
-      next-line : ring_lines (drop i rs) ≡ ring_line ring ++ ring_lines (drop (i + 1 + k) rs)
-      next-line =
-          let width : i + 1 + k - (i + 1) ≡ k = omega arith in
-          rw (at-record, width, ← drop-drop k (i + 1) rs)
-          (lines-record k (drop (i + 1) rs) (omega (arith, length-drop (i + 1) rs)))
+      next-line : ring_lines left ≡ ring_line ring ++ ring_lines next
+      next-line = rw (is, is-ring, is-next) (lines-record k tail whole)
 
       -- the part of the text that is lent is all past `used`, and has room for the line
       part-is : take (length text - used) (drop used text) ≡ drop used text
       part-is = take_all (length text - used) (drop used text) (omega (arith, length-drop used text))
 
+      more : length left ≡ suc (length tail)
+      more = ap length is
+
       enough : 4 * length ring + 1 ≤ length (drop used text)
-      enough = omega (arith, ring-size, length-drop used text, p.room, p.short, p.size)
+      enough = omega (arith, ring-size, length-drop used text, p.room, p.short, p.size, more)
 
       pub printing-goes-on :
           {part : List ℕ} {r : ℕ} →
           PrintedInto (4 * length ring + 1) (ring_line ring) (take (length text - used) (drop used text)) r part →
-          Printing rs before (put_mid used (length text - used) text part) (used + r) (i + 1 + k)
+          Printing rs before (put_mid used (length text - used) text part) (used + r) next
       printing-goes-on (is-size, is-part) =
           let line = printed-whole (4 * length ring + 1) (ring_line ring) (drop used text) enough in
           let size : length (ring_line ring) ≡ 4 * k + 1 = rw (ring-length, ring-size) in
           let put = rw (part-is, line.1) at is-part in
+          let past = ap length is-next ∙ length-drop k tail in
           rw (is-size, part-is, line.0)
-          (line_on (ring_line ring) (omega arith) (omega (arith, size, p.short)) next-line put)
+          (line_on (ring_line ring) (omega (arith, size, p.short, more, past)) next-line put)

@@ -7,7 +7,7 @@ use mathlib.Core.Path.{◌≡◌, refl, ap, sym, ◌∙◌}
 use mathlib.Core.Bool.{Bool, true, false, cond}
 use mathlib.Core.List.{List, [], ◌∷◌, ◌++◌, append_assoc, append-nil}
 use lib.ListN.{length, get_or, take, drop, set, length-append, length-drop}
-use lib.Seq.{take_at, drop_at, drop-drop, drop-cons, set_at, append_snoc, take_all, length-take-le, sets, sets-eq}
+use lib.Seq.{take_at, drop_at, drop-drop, drop-cons, set_at, append_snoc, take_all, length-take-le}
 use borrow.Rule.Slice.PartMut.{put_mid}
 use lib.Dec.{leb}
 use borrow.Author.Tests.{le-leb, lt-leb}
@@ -114,15 +114,14 @@ counts-put l x y z room is_x is_y is-z =
 
 -- ---- a refusal
 
--- the word's bytes, a field and a line feed
+-- the word, a field and a line feed
 pub refusal-put :
-    (l : List ℕ) {a : List ℕ} (k : ℕ) → 12 ≤ length l →
-    a ≡ field_text (length (take 4 (drop 7 (sets l 0 refused_word)))) k →
-    Begins l (refusal_line k) (set (put_mid 7 4 (sets l 0 refused_word) a) 11 10) 12
+    (l : List ℕ) {word a : List ℕ} (k : ℕ) → word ≡ refused_word → 12 ≤ length l →
+    a ≡ field_text (length (take 4 (drop 7 (word ++ drop 7 l)))) k →
+    Begins l (refusal_line k) (set (put_mid 7 4 (word ++ drop 7 l) a) 11 10) 12
 unfolding refusal_line
-refusal-put l k room is_number =
-    let word : Begins l refused_word (sets l 0 refused_word) 7 =
-    record { size = refl; is = sets-eq refused_word l 0 (omega arith) } in
+refusal-put l k is-word room is_number =
+    let word : Begins l refused_word _ 7 = record { size = refl; is = ap (λ w. w ++ drop 7 l) is-word } in
     let number = begins-field word 4 k refl (omega arith) is_number in
     begins-byte number 10 (omega arith)
 

@@ -5,6 +5,8 @@ ghost use Rattle.std.specs.Prelude.{◌≡◌, ◌+◌, ◌*◌, length};
 ghost use Rattle.report.specs.Lines.{ring_line, count_line, refusal_line, ring_lines, PrintedInto};
 
 // The three counts of a search: 61 bytes.
+// 0 where there is no room, as `PrintedInto` says; plain numbers, as no narrower type may be asked for; and no Display,
+// which writes into no slice.
 pub fn count_line(listed: u64, extensions: u64, trials: u64, text: &mut [u8]) -> usize
     ensures { PrintedInto 61 (count_line listed extensions trials) text.old result text.new }
 {
@@ -25,14 +27,8 @@ pub fn refusal_line(number: u32, text: &mut [u8]) -> usize
     if text.len() < 12 {
         return 0;
     }
-    text[0] = b'r';
-    text[1] = b'e';
-    text[2] = b'f';
-    text[3] = b'u';
-    text[4] = b's';
-    text[5] = b'e';
-    text[6] = b'd';
-    fields::write_number(&mut text[7..11], number as u64);
+    text[..7].copy_from_slice(b"refused");
+    fields::write_number(&mut text[7..11], u64::from(number));
     text[11] = b'\n';
     12
 }
@@ -49,12 +45,10 @@ pub fn ring_line(atoms: &[u8], text: &mut [u8]) -> usize
     if end == text.len() {
         return 0;
     }
-    let mut i: usize = 0;
-    while i < atoms.len() {
+    for (i, &atom) in atoms.iter().enumerate() {
         let at = 4 * i;
         let next = at + 4;
-        fields::write_number(&mut text[at..next], widen::u8_u64(atoms[i]));
-        i += 1;
+        fields::write_number(&mut text[at..next], u64::from(atom));
     }
     text[end] = b'\n';
     end + 1
@@ -68,17 +62,16 @@ pub fn ring_lines(records: &[u8], text: &mut [u8]) -> usize
     if text.len() / 4 < records.len() {
         return 0;
     }
-    let mut used: usize = 0;
-    let mut i: usize = 0;
-    while i < records.len() {
-        let first = i + 1;
-        let k = widen::u8_usize(records[i]);
-        if records.len() - first < k {
+    let mut used = 0;
+    let mut left = records;
+    while let Some((&size, rest)) = left.split_first() {
+        let k = usize::from(size);
+        if rest.len() < k {
             return used;
         }
-        let next = first + k;
-        used += ring_line(&records[first..next], &mut text[used..]);
-        i = next;
+        let (ring, next) = rest.split_at(k);
+        used += ring_line(ring, &mut text[used..]);
+        left = next;
     }
     used
 }

@@ -1,6 +1,7 @@
 -- Every n and list of bonds that keep the rules have a sheet in any choice of fillings, and it
 -- reads to exactly that record: no reader that refuses all, or one of the fillings, would do.
 -- Line i of the text is what its two numbers are written as, and a written field reads back.
+use Rattle.std.specs.Prelude.{Option}
 use Prim.Native.Nat.{ℕ, zero, suc, ◌+◌, ◌*◌, ◌/◌, ◌≤◌, ◌<◌}
 use native.Mathlib.Nat.{add-zero, mul-mod_right, mul-div_right}
 use native.Mathlib.Omega.{arith}
@@ -9,20 +10,19 @@ use mathlib.Core.Bool.{Bool, true}
 use mathlib.Core.List.{List, [], ◌∷◌, ◌++◌, append_assoc}
 use lib.ListN.{length, get_or, take, drop, length-append}
 use lib.Seq.{take_at, drop_at, drop-append-add, get_or-append-add, get_or-drop}
+use borrow.Author.Tests.{le-leb}
 use Rattle.graph.specs.Every.{all_below}
 use Rattle.graph.proofs.Below.{and_parts, all_below-at, all_below-of}
 use Rattle.fields.specs.declared.Number.{Number}
-use Rattle.fields.specs.declared.Number.TheVariants.{Value}
-use Rattle.fields.specs.Field.{zero_first, read_field, filled_text, field_at}
+use Rattle.fields.specs.Field.{number, zero_first, read_field, filled_text, field_at}
 use Rattle.fields.proofs.Laws.{written-reads-back, filled-length}
 use Rattle.molecule.specs.Record.{is_atom}
 use Rattle.molecule.proofs.Bonds.{atom-bounds}
 use Rattle.bonds.specs.Bonds.{Bond, atoms_kept, none_to_itself, none_twice}
 use Rattle.bonds.specs.Reading.{accepted_reading, read_bonds}
-use Rattle.sheet.specs.Read.{line_kept, line_of, atoms_of, bonds_of, bond_of, read_sheet}
+use Rattle.sheet.specs.Read.{length_kept, lines_kept, line_kept, line_of, atoms_of, bonds_of, bond_of, read_sheet}
 use Rattle.sheet.specs.Text.{Fillings, later, lines_text, sheet_text, bond_at}
-use Rattle.sheet.specs.Parts.{ReadsLine}
-use Rattle.sheet.proofs.Lines.{entry, line-good}
+use Rattle.sheet.proofs.Lines.{line-good, line_is}
 use Rattle.bonds.proofs.Answers.{bonds-read}
 use Rattle.sheet.proofs.Answers.{Lined, sheet-read}
 use Rattle.bonds.proofs.Same.{bonds-same}
@@ -39,8 +39,8 @@ lines-length zeros (x ∷ xs) =
 -- ---- the first line of a text
 
 -- a field holds v, in one filling or the other
-abbrev Holds : Number → ℕ → Type 0
-Holds field v = (filled : Bool) × (field ≡ Value v filled)
+abbrev Holds : Option Number → ℕ → Type 0
+Holds field v = (filled : Bool) × (field ≡ number v filled)
 
 module _ (zeros : Fillings) (x : Bond) (xs : List Bond) where
   abbrev left_text : List ℕ
@@ -152,17 +152,15 @@ text-end zeros (x ∷ xs) (suc i) h = shift-byte zeros x xs i ∙ text-end (late
 
 -- each line is kept, and holds its two numbers
 module _ (zeros : Fillings) (xs : List Bond) (small : Small xs) (i : ℕ) (h : i < length xs) where
-  text-read : ReadsLine (lines_text zeros xs) i (entry (bond_at xs i).0 (bond_at xs i).1)
-  text-read =
-      let left = rw (add-zero (9 * i)) at (text-left zeros xs i h small) in
-      let right = text-right zeros xs i h small in
-      line-good left.1 right.1 (text-end zeros xs i h)
-
   text-kept : line_kept (lines_text zeros xs) i ≡ true
-  text-kept = sym text-read.ok
+  text-kept =
+      line-good _ i (rw (add-zero (9 * i)) at (text-left zeros xs i h small)).1 (text-right zeros xs i h small).1
+      (text-end zeros xs i h)
 
   text-line : line_of (lines_text zeros xs) i ≡ bond_at xs i
-  text-line = sym (text-read.values refl)
+  text-line =
+      line_is _ i (rw (add-zero (9 * i)) at (text-left zeros xs i h small)).1 (text-right zeros xs i h small).1
+      (text-end zeros xs i h)
 
 -- the numbers of a sheet that keeps the rules are small
 sheet-small :
@@ -184,7 +182,7 @@ pub every-molecule-has-a-sheet :
     atoms_kept n (bond_at bonds) (length bonds) ≡ true → none_to_itself (bond_at bonds) (length bonds) ≡ true →
     none_twice (bond_at bonds) (length bonds) ≡ true →
     read_sheet (sheet_text zeros n bonds) ≡ accepted_reading n (bond_at bonds) (length bonds)
-unfolding sheet_text
+unfolding sheet_text length_kept lines_kept
 every-molecule-has-a-sheet zeros n bonds few light atoms apart twice =
     sheet-read lined (rw (← atoms-here) at few) (rw (← bonds-here) at light) size-here
     ∙ ap₂ (λ x y. read_bonds x (bond_of text) y) atoms-here bonds-here
@@ -210,13 +208,12 @@ every-molecule-has-a-sheet zeros n bonds few light atoms apart twice =
     lines : all_below (length text / 9) (line_kept text) ≡ true
     lines = rw count (all_below-of (suc (length bonds)) (line_kept text) (λ i h. text-kept zeros all small i h))
 
+    whole : length_kept text ≡ true
+    whole =
+        rw (size, le-leb 9 (9 * suc (length bonds)) (omega arith), mul-mod_right 9 (suc (length bonds)))
+
     lined : Lined text
-    lined =
-        record {
-          long = rw size (omega arith);
-          whole = rw size (mul-mod_right 9 (suc (length bonds)));
-          lines = lines;
-        }
+    lined = record { whole = whole; lines = lines }
 
     atoms-here : atoms_of text ≡ n
     atoms-here = ap (λ x. x.0) (text-line zeros all small 0 (omega arith))

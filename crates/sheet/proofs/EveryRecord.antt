@@ -1,5 +1,6 @@
 -- Every record that rule 9 allows is read from some sheet: the one of its list of bonds.
 -- The list keeps the rules of a sheet, and the record read from that sheet has the same list, so it is the same record.
+use Rattle.std.specs.Prelude.{Ok}
 use Prim.Native.Nat.{ℕ, ◌+◌, ◌-◌, ◌*◌, ◌≤◌, ◌<◌}
 use native.Mathlib.Omega.{arith}
 use mathlib.Core.Path.{◌≡◌, refl, sym, ◌∙◌}
@@ -10,7 +11,6 @@ use lib.ListN.{length}
 use lib.Dec.{eqb}
 use borrow.Author.Tests.{eq-eqb, ne_eqb}
 use Rattle.graph.proofs.Below.{false_of, and_left, and_both, not-of, all_below-of}
-use Rattle.refusal.specs.declared.Answer.TheVariants.{Accepted}
 use Rattle.molecule.specs.declared.Molecule.{Molecule}
 use Rattle.molecule.specs.Record.{cell, is_atom, bonded, well_formed}
 use Rattle.molecule.specs.BondList.{bond_list}
@@ -118,15 +118,15 @@ module _ (mol : Molecule) (formed : well_formed mol ≡ true) where
   same-record : read ≡ mol
   same-record = listed-record read mol read-formed formed refl (sym same-listed)
 
-  accepted : accepted_reading n bond m ≡ record { answer = Accepted; molecule = mol }
+  accepted : accepted_reading n bond m ≡ Ok mol
   accepted = rw same-record
 
   -- The list of the bonds of a record is read as that record, from any text that names n and them
-  pub record-reads : read_bonds n bond m ≡ record { answer = Accepted; molecule = mol }
+  pub record-reads : read_bonds n bond m ≡ Ok mol
   record-reads = bonds-read n bond m atoms-kept none-to-itself none-twice ∙ accepted
 
   -- Its blank-filled sheet is read as the record
-  pub record-sheet-reads : read_sheet (record_sheet mol) ≡ record { answer = Accepted; molecule = mol }
+  pub record-sheet-reads : read_sheet (record_sheet mol) ≡ Ok mol
   unfolding record_sheet
   record-sheet-reads =
       every-molecule-has-a-sheet blanks n bonds few light atoms-kept none-to-itself none-twice ∙ accepted
@@ -142,5 +142,5 @@ module _ (mol : Molecule) (formed : well_formed mol ≡ true) where
 -- Every record that rule 9 allows is read from a sheet
 pub every-record-has-a-sheet :
     (mol : Molecule) → well_formed mol ≡ true →
-    (s : List ℕ) × (read_sheet s ≡ record { answer = Accepted; molecule = mol })
+    (s : List ℕ) × (read_sheet s ≡ Ok mol)
 every-record-has-a-sheet mol formed = (record_sheet mol, record-sheet-reads mol formed)

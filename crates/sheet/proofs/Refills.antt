@@ -1,5 +1,6 @@
 -- Sheets that differ in fillings only are read as the same record, and one that was accepted before is read as before.
 -- The rules past rule 2 look at the numbers of the lines alone, and a number is the same in every filling.
+use Rattle.std.specs.Prelude.{Err, None, Ok, Option, Result, Some}
 use Prim.Native.Nat.{ℕ, suc, ◌+◌, ◌*◌, ◌/◌, ◌%◌, ◌<◌}
 use native.Mathlib.Omega.{arith}
 use mathlib.Core.Path.{◌≡◌, refl, ap, sym, ◌∙◌}
@@ -12,19 +13,18 @@ use Rattle.graph.specs.Every.{all_below}
 use Rattle.graph.proofs.Below.{and_parts, all_below-at, all_below-of}
 use Rattle.graph.proofs.Places.{all_same}
 use Rattle.fields.specs.declared.Number.{Number}
-use Rattle.fields.specs.declared.Number.TheVariants.{Value, Bad}
 use Rattle.fields.specs.Field.{field_at, is_value, value_of, value_at, Refilled}
 use Rattle.fields.proofs.Laws.{refilled_same, as_before}
 use Rattle.refusal.specs.declared.Refusal.TheVariants as refusal
-use Rattle.refusal.specs.declared.Answer.TheVariants.{Accepted}
-use Rattle.bonds.specs.declared.Reading.{Reading}
 use Rattle.bonds.specs.Bonds.{Bond}
-use Rattle.bonds.specs.Reading.{refused_reading, read_bonds}
+use Rattle.bonds.specs.Reading.{read_bonds}
 use Rattle.sheet.specs.Read.{length_kept, line_kept, lines_kept, line_of}
 use Rattle.sheet.specs.Read.{few_atoms, few_bonds, size_kept, read_numbers, read_sheet}
 use Rattle.sheet.specs.OtherFillings.{four_at, OtherFillings, field_before, line_kept_before, line_before, read_before}
 use Rattle.bonds.proofs.Same.{bonds-same}
 use Rattle.bonds.proofs.Record.{kept_on}
+use Rattle.refusal.specs.declared.Refusal.{Refusal}
+use Rattle.molecule.specs.declared.Molecule.{Molecule}
 
 -- the same numbers in as many bytes
 numbers-same :
@@ -32,9 +32,9 @@ numbers-same :
     read_numbers size line ≡ read_numbers size line'
 numbers-same size line line' first same =
     rw first
-    (ap (λ (x : Reading).
-    cond (few_atoms n) (cond (few_bonds m) x (refused_reading refusal.TooManyBonds))
-    (refused_reading refusal.TooManyAtoms))
+    (ap (λ (x : Result Molecule Refusal).
+    cond (few_atoms n) (cond (few_bonds m) x (Err refusal.TooManyBonds))
+    (Err refusal.TooManyAtoms))
     (go (size_kept size m) refl))
   where
     n : ℕ
@@ -46,8 +46,8 @@ numbers-same size line line' first same =
     -- by whether the size is that of m bonds
     go :
         (t : Bool) → size_kept size m ≡ t →
-        cond t (read_bonds n (λ k. line (suc k)) m) (refused_reading refusal.SheetSize)
-        ≡ cond t (read_bonds n (λ k. line' (suc k)) m) (refused_reading refusal.SheetSize)
+        cond t (read_bonds n (λ k. line (suc k)) m) (Err refusal.SheetSize)
+        ≡ cond t (read_bonds n (λ k. line' (suc k)) m) (Err refusal.SheetSize)
     go true e =
         let is = eqb-true size (9 * suc m) e in
         bonds-same n (λ k. line (suc k)) (λ k. line' (suc k)) m (λ k h. same (suc k) (omega arith))
@@ -89,12 +89,12 @@ module _ (s : List ℕ) where
   field-before at e = go (field_before s at) refl e
     where
       go :
-          (x : Number) → field_before s at ≡ x → is_value x ≡ true →
+          (x : Option Number) → field_before s at ≡ x → is_value x ≡ true →
           (is_value (field_at 4 s at) ≡ true) × (value_of (field_before s at) ≡ value_of (field_at 4 s at))
-      go (Value v zeros) is e =
-          let read = as_before (four_at s at) v zeros is in
+      go (Some x) is e =
+          let read = as_before (four_at s at) x.value x.zeros is in
           (ap is_value read, ap value_of is ∙ sym (ap value_of read))
-      go Bad is e = absurd (true≢false (sym e))
+      go None is e = absurd (true≢false (sym e))
 
   -- and so is a line
   line_before_lem : (i : ℕ) → line_kept_before s i ≡ true → (line_kept s i ≡ true) × (line_before s i ≡ line_of s i)
@@ -107,7 +107,7 @@ module _ (s : List ℕ) where
       (rw (left.0, right.0, feed), rw (left.1, right.1))
 
   -- A sheet that was accepted before is read as before
-  pub accepted-as-before : (read_before s).answer ≡ Accepted → read_sheet s ≡ read_before s
+  pub accepted-as-before : {mol : Molecule} → read_before s ≡ Ok mol → read_sheet s ≡ read_before s
   unfolding read_before read_sheet lines_kept length_kept
   accepted-as-before e =
       let (long, e2) = kept_on (length_kept s) _ _ e in

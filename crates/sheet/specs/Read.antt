@@ -1,12 +1,13 @@
 -- The bond sheet of document 01: what any bytes are read as,
 -- rules 1 to 8, each tried over the whole input before the next.
-use Rattle.std.specs.Prelude.{ℕ, suc, ◌+◌, ◌*◌, ◌/◌, ◌%◌, Bool, ◌&&◌, cond, List, length, get_or, leb, eqb}
+use Rattle.std.specs.Prelude.{ℕ, suc, ◌+◌, ◌*◌, ◌/◌, ◌%◌, Bool, ◌&&◌, cond, List, length, get_or, leb, eqb, Err, Result}
 use Rattle.graph.specs.Every.{all_below}
 use Rattle.fields.specs.Field.{field_at, is_value, value_at}
 use Rattle.refusal.specs.declared.Refusal.TheVariants as refusal
-use Rattle.bonds.specs.declared.Reading.{Reading}
 use Rattle.bonds.specs.Bonds.{Bond}
-use Rattle.bonds.specs.Reading.{refused_reading, read_bonds}
+use Rattle.bonds.specs.Reading.{read_bonds}
+use Rattle.refusal.specs.declared.Refusal.{Refusal}
+use Rattle.molecule.specs.declared.Molecule.{Molecule}
 
 -- Rule 1 kept: at least 9 bytes, and a multiple of 9
 unfoldable pub length_kept : List ℕ → Bool
@@ -48,19 +49,19 @@ abbrev pub size_kept : ℕ → ℕ → Bool
 size_kept size m = eqb size (9 * suc m)
 
 -- What the numbers of the lines of so many bytes are read as: rules 3, 4, 5, then rules 6, 7, 8
-abbrev pub read_numbers : ℕ → (ℕ → Bond) → Reading
+abbrev pub read_numbers : ℕ → (ℕ → Bond) → Result Molecule Refusal
 read_numbers size line =
     cond (few_atoms (line 0).0)
     (cond (few_bonds (line 0).1)
     (cond (size_kept size (line 0).1)
     (read_bonds (line 0).0 (λ k. line (suc k)) (line 0).1)
-    (refused_reading refusal.SheetSize))
-    (refused_reading refusal.TooManyBonds))
-    (refused_reading refusal.TooManyAtoms)
+    (Err refusal.SheetSize))
+    (Err refusal.TooManyBonds))
+    (Err refusal.TooManyAtoms)
 
 -- What a sheet is read as: rules 1 and 2, then the rules on its numbers
-unfoldable pub read_sheet : List ℕ → Reading
+unfoldable pub read_sheet : List ℕ → Result Molecule Refusal
 read_sheet s =
     cond (length_kept s)
-    (cond (lines_kept s) (read_numbers (length s) (line_of s)) (refused_reading refusal.SheetBytes))
-    (refused_reading refusal.SheetLength)
+    (cond (lines_kept s) (read_numbers (length s) (line_of s)) (Err refusal.SheetBytes))
+    (Err refusal.SheetLength)

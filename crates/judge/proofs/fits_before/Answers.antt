@@ -1,25 +1,18 @@
--- One place against every place before it.
--- Invariant: the places passed fit.
-use Rattle.graph.proofs.Passed.{none_passed, told-fails, told_more, all-passed}
-use Rattle.judge.specs.Parts.{fits_before}
+-- One place against every place before it: what `all` tells of the numbers below j.
+use Rattle.std.proofs.Common.{rules, tests, arith}
+use Rattle.molecule.specs.Record.{bonded}
+use Rattle.judge.specs.Parts.{fits_before, pair_fits}
+use Rattle.judge.proofs.Tests.{range-tests}
 use Rattle.judge.proofs.fits_before.Goals as goal
-
-pub loop-i-init : goal.loop-i-init
-loop-i-init c = none_passed
-
-pub pair_fits-requires : goal.pair_fits-requires
-pair_fits-requires c =
-    record { later = c.requires; before = c.loop-i-test.true }
-
-pub returns-then-not-pair_fits : goal.returns-then-not-pair_fits
-unfolding fits_before
-returns-then-not-pair_fits c =
-    told-fails c.loop-i.invariant c.loop-i-test.true c.pair_fits.ensures c.if-not-pair_fits.true-raw
-
-pub loop-i-preserved : goal.loop-i-preserved
-loop-i-preserved c =
-    told_more c.loop-i.invariant c.loop-i-test.true c.pair_fits.ensures c.if-not-pair_fits.false-raw
+use mathlib.Core.Path.{◌∙◌, refl}
+use Rattle.std.proofs.lemmas.Iterator.{YieldsList-from_range}
+use Rattle.std.proofs.lemmas.Iterator.Search.{all_from_yields_List}
 
 pub returns : goal.returns
 unfolding fits_before
-returns c = all-passed c.loop-i.invariant c.loop-i-test.false
+returns c =
+    let args = c.args in
+    let test = pair_fits (bonded args.n args.rows.now) args.k args.xs.now args.j in
+    all_from_yields_List test _ _ _ c.all.ensures.ran (YieldsList-from_range 0 args.j args.j refl (omega arith))
+    (λ x b q k. search (rules, tests))
+    ∙ range-tests test args.j

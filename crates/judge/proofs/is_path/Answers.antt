@@ -1,55 +1,50 @@
--- Whether a list is a path from s to t.
--- Each return by the tests of `is_path` in their order.
-use mathlib.Core.Path.{sym, ◌∙◌}
-use borrow.Author.Tests.{le-leb, lt-leb, ne_eqb}
-use Rattle.graph.specs.Chordless.{is_path}
-use Rattle.graph.proofs.Passed.{refuted, confirmed}
-use Rattle.judge.specs.Parts.{Atoms}
-use Rattle.judge.proofs.Tests.{Begun, path-end, path-fits}
+-- Whether a list is a path from s to t: the tests of `is_path`, one after the other.
+use mathlib.Core.Path.{◌≡◌, ap, ◌∙◌}
+use mathlib.Core.Bool.{◌&&◌}
+use lib.Dec.{leb, eqb}
+use lib.ListN.{length}
+use borrow.Author.Tests.{le-leb, lt-leb}
+use Rattle.graph.specs.Chordless.{atom_at, last_atom, in_range, along_path, along_ring, is_path}
+use Rattle.graph.proofs.Places.{induces-same, never-closes}
+use Rattle.judge.proofs.Tests.{both_tests, first_fails}
 use Rattle.judge.proofs.is_path.Lts as lts
 use Rattle.judge.proofs.is_path.Reads as reads
 use Rattle.judge.proofs.is_path.Tie as tie
 use Rattle.judge.proofs.is_path.Goals as goal
+use Rattle.judge.proofs.is_path.Goals.{then-xs-ge1, else-xs-ge1, then-in_range, else-in_range, then-from-s, else-from-s}
 
 -- what is known at a place of the function
 abbrev Place : (lts.Claims → lts.Pre-type → lts.Post-type → Type 0) → Type 0
 Place place = place tie.the-claims reads.Pre reads.Post
 
--- ---- what is known there
+atoms :
+    (c : Place lts.Joined1) → let xs = c.args.xs.now in c.if-xs-ge1.value ≡ (leb 1 (length xs) && in_range c.args.n xs)
+atoms c = elim c.if-xs-ge1.branch [
+  | then-xs-ge1 w ↦ both_tests _ (le-leb 1 _ w.if-xs-ge1.true) (w.value-is ∙ w.in_range.ensures)
+  | else-xs-ge1 w ↦ first_fails _ (lt-leb 1 _ w.if-xs-ge1.false) w.value-is
+]
 
-atoms : (c : Place lts.Else2) → Atoms c.args.n c.args.xs.now
-atoms c =
-    record { few = c.requires; range = confirmed c.in_range.ensures c.if-not-in_range.false-raw }
+first :
+    (c : Place lts.Joined2) → c.if-in_range.value ≡ (c.if-xs-ge1.value && eqb (atom_at c.args.xs.now 0) c.args.s)
+first c = elim c.if-in_range.branch [
+  | then-in_range w ↦ both_tests _ w.if-in_range.true (w.value-is ∙ ap (λ x. eqb x c.args.s) w.from.ensures)
+  | else-in_range w ↦ first_fails _ w.if-in_range.false w.value-is
+]
 
-begun : (c : Place lts.Else3) → let args = c.args in Begun args.n args.s args.xs.now
-begun c =
-    record {
-      long = c.if-xs-lt1.false;
-      range = (atoms (search)).range;
-      first = sym c.u8_usize.ensures.same ∙ c.if-u8_usize-s.false;
-    }
+last : (c : Place lts.Joined3) → c.if-from-s.value ≡ (c.if-in_range.value && eqb (last_atom c.args.xs.now) c.args.t)
+last c = elim c.if-from-s.branch [
+  | then-from-s w ↦
+      both_tests _ w.if-from-s.true (w.value-is ∙ ap (λ x. eqb x c.args.t) w.from-then-from-s.ensures)
+  | else-from-s w ↦ first_fails _ w.if-from-s.false w.value-is
+]
 
-pub returns-then-xs-lt1 : goal.returns-then-xs-lt1
+pub returns-then-from-t : goal.returns-then-from-t
 unfolding is_path
-returns-then-xs-lt1 c = rw (lt-leb 1 _ c.if-xs-lt1.true)
+returns-then-from-t c =
+    rw (← atoms (search), ← first (search), ← last (search), c.if-from-t.true)
+    (c.fits.ensures ∙ induces-same _ (along_ring 0) along_path c.args.xs.now never-closes)
 
-pub returns-then-not-in_range : goal.returns-then-not-in_range
+pub returns-else-from-t : goal.returns-else-from-t
 unfolding is_path
-returns-then-not-in_range c =
-    rw (le-leb 1 _ c.if-xs-lt1.false, refuted c.in_range.ensures c.if-not-in_range.true-raw)
-
-pub returns-then-u8_usize-s : goal.returns-then-u8_usize-s
-unfolding is_path
-returns-then-u8_usize-s c =
-    let first = c.u8_usize.ensures.same in
-    rw (le-leb 1 _ c.if-xs-lt1.false, (atoms (search)).range, ne_eqb _ _ (λ e. c.if-u8_usize-s.true (first ∙ e)))
-
-pub returns-then-u8_usize-t : goal.returns-then-u8_usize-t
-returns-then-u8_usize-t c = path-end (begun (search)) _ _ c.u8_usize-2.ensures.same c.if-u8_usize-t.true
-
-pub fits-requires : goal.fits-requires
-fits-requires c = atoms (search)
-
-pub returns : goal.returns
-returns c =
-    c.fits.ensures ∙ path-fits (begun (search)) _ _ c.u8_usize-2.ensures.same c.if-u8_usize-t.false
+returns-else-from-t c =
+    rw (← atoms (search), ← first (search), ← last (search), c.if-from-t.false)

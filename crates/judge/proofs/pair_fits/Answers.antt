@@ -1,7 +1,7 @@
 -- One pair of places: different atoms, bonded exactly when joined.
 -- The bit that the code reads is the bond, since both atoms are in range.
 use native.Mathlib.Omega.{arith}
-use Rattle.judge.proofs.Tests.{PairRead, two-atoms, pair-equal, pair-bonded, pair-not-bonded}
+use Rattle.judge.proofs.Tests.{PairRead, two-atoms, pair-equal, pair-differs}
 use Rattle.judge.proofs.pair_fits.Lts as lts
 use Rattle.judge.proofs.pair_fits.Reads as reads
 use Rattle.judge.proofs.pair_fits.Tie as tie
@@ -11,21 +11,11 @@ use Rattle.judge.proofs.pair_fits.Goals as goal
 abbrev Place : (lts.Claims → lts.Pre-type → lts.Post-type → Type 0) → Type 0
 Place place = place tie.the-claims reads.Pre reads.Post
 
--- ---- what is known there
-
 pair :
-    (c : Place lts.After-u8_usize2) →
+    (c : Place lts.After-from2) →
     let args = c.args in
-    PairRead args.n args.xs.now args.i args.j c.u8_usize-a.result c.u8_usize-b.result
-pair c =
-    record {
-      places = c.requires;
-      left = c.u8_usize-a.ensures.same;
-      right = c.u8_usize-b.ensures.same;
-    }
-
-pub returns-then-a-b : goal.returns-then-a-b
-returns-then-a-b c = pair-equal (pair (search)) _ _ c.if-a-b.true
+    PairRead args.n args.xs.now args.i args.j c.from-a.result c.from-b.result
+pair c = record { places = c.requires; left = c.from-a.ensures; right = c.from-b.ensures }
 
 pub overflow_sub-a : goal.overflow_sub-a
 overflow_sub-a c = (two-atoms (pair (search))).left_low
@@ -36,12 +26,8 @@ overflow_sub-b c = (two-atoms (pair (search))).right_low
 pub linked-requires : goal.linked-requires
 linked-requires c = omega (arith, two-atoms (pair (search)))
 
-pub returns-then-linked : goal.returns-then-linked
-returns-then-linked c =
-    pair-bonded (pair (search)) _ _ c.if-a-b.false c.linked.ensures c.joined.ensures
-    c.if-linked.true
+pub returns-then-a-b : goal.returns-then-a-b
+returns-then-a-b c = pair-differs (pair (search)) _ _ c.if-a-b.true c.linked.ensures c.joined.ensures
 
-pub returns : goal.returns
-returns c =
-    pair-not-bonded (pair (search)) _ _ c.if-a-b.false c.linked.ensures c.joined-2.ensures
-    c.if-linked.false
+pub returns-else-a-b : goal.returns-else-a-b
+returns-else-a-b c = pair-equal (pair (search)) _ _ c.if-a-b.false

@@ -1,11 +1,9 @@
 -- Whether none of 16 bytes is a line feed.
 -- Invariant: the flag tells it of the bytes passed.
-use Prim.Native.Nat.{◌-◌}
-use Rattle.molfile.proofs.Feeds.{Sifted}
+use mathlib.Core.Path.{◌≡◌}
+use Rattle.graph.specs.Every.{all_below}
+use Rattle.molfile.specs.Parts.{no_feed_at}
 use Rattle.molfile.proofs.block_clear.Given as goal
 
 abbrev pub invariant-loop-j : goal.invariant-loop-j
-invariant-loop-j l = Sifted l.s l.at l.j l.clear
-
-abbrev pub decreases-loop-j : goal.decreases-loop-j
-decreases-loop-j l = 16 - l.j
+invariant-loop-j l = l.clear ≡ all_below l.j (no_feed_at l.s l.at)

@@ -1,11 +1,7 @@
 -- The bond lines.
 -- Invariant: the lines passed keep rule 18, and the atoms of their bonds are stored.
-use Prim.Native.Nat.{◌-◌}
 use Rattle.molfile.proofs.Loops.{BondsRead}
 use Rattle.molfile.proofs.bond_lines.Given as goal
 
 abbrev pub invariant-loop-k : goal.invariant-loop-k
-invariant-loop-k l = BondsRead l.s l.from l.m l.initial.values l.values l.k l.at
-
-abbrev pub decreases-loop-k : goal.decreases-loop-k
-decreases-loop-k l = l.m - l.k
+invariant-loop-k l = BondsRead l.s l.from l.initial.bonds l.bonds l.k l.at

@@ -1,25 +1,19 @@
 -- The line that begins at a place.
 -- Each return by what stands before the first line feed.
-use mathlib.Core.Path.{sym}
-use mathlib.Core.Bool.{true≢false}
-use Rattle.molfile.proofs.Feeds.{line-missing, line-empty, line_plain, line-returned, line_read}
+use Rattle.molfile.proofs.Feeds.{line-missing, line-empty, line_plain, line-returned}
+use Rattle.molfile.proofs.line_at.Goals.{else-from-feed-via-then-from-feed+else-s-feed-eq-RETURN, else-from-feed-via-else-from-feed}
 use Rattle.molfile.proofs.line_at.Goals as goal
 
-pub returns-then-s-feed : goal.returns-then-s-feed
-returns-then-s-feed c =
-    record {
-      missing = λ e. line-missing c.feed_from-feed.ensures c.if-s-feed.true;
-      found = λ e. absurd (true≢false (sym e));
-    }
+pub returns-in_err-feed : goal.returns-in_err-feed
+returns-in_err-feed c = rw c.from_residual.ensures (line-missing c.in_err-feed.ensures)
 
-pub returns-then-s-feed-eq13 : goal.returns-then-s-feed-eq13
-returns-then-s-feed-eq13 c =
-    line_read (line-returned c.feed_from-feed.ensures c.if-s-feed.false c.if-from-feed.true c.if-s-feed-eq13.true)
+pub returns-then-s-feed-eq-RETURN : goal.returns-then-s-feed-eq-RETURN
+returns-then-s-feed-eq-RETURN c =
+    line-returned c.in_ok-feed.ensures c.if-from-feed.true c.if-s-feed-eq-RETURN.true
 
-pub returns-else-s-feed-eq13 : goal.returns-else-s-feed-eq13
-returns-else-s-feed-eq13 c =
-    line_read (line_plain c.feed_from-feed.ensures c.if-s-feed.false c.if-from-feed.true c.if-s-feed-eq13.false)
-
-pub returns-else-from-feed : goal.returns-else-from-feed
-returns-else-from-feed c =
-    line_read (line-empty c.feed_from-feed.ensures c.if-s-feed.false c.if-from-feed.false)
+pub returns : goal.returns
+returns c = elim c.else-from-feed.branch [
+  | else-from-feed-via-then-from-feed+else-s-feed-eq-RETURN w ↦
+      line_plain c.in_ok-feed.ensures w.if-from-feed.true w.if-s-feed-eq-RETURN.false
+  | else-from-feed-via-else-from-feed w ↦ line-empty c.in_ok-feed.ensures w.if-from-feed.false
+]

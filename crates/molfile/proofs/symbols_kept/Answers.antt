@@ -1,22 +1,17 @@
 -- Rule 19.
--- Invariant: the symbols passed are in the table.
-use Rattle.graph.proofs.Loops.{passing-none, passing-more, passing-not, passing-all}
+-- `all` over the atoms is `all_below`.
+use Rattle.std.proofs.Common.{◌∙◌, rules, tests, refl, arith, leb, ℕ, Bool}
+use Rattle.std.proofs.lemmas.Iterator.{YieldsList-from_range}
+use Rattle.std.proofs.lemmas.Iterator.Search.{all_from_yields_List}
+use Rattle.molecule.proofs.Checks.{all-range}
 use Rattle.molfile.specs.Molfile.{symbols_kept}
-use Rattle.molfile.proofs.Limits.{no_symbol, symbol-there}
+use Rattle.molfile.specs.Parts.{held_limit}
 use Rattle.molfile.proofs.symbols_kept.Goals as goal
-
-pub returns-then-limits-i-eq0 : goal.returns-then-limits-i-eq0
-unfolding symbols_kept
-returns-then-limits-i-eq0 c =
-    passing-not c.loop-i.invariant c.loop-i-test.true (no_symbol c.if-limits-i-eq0.true)
-
-pub loop-i-preserved : goal.loop-i-preserved
-loop-i-preserved c =
-    passing-more c.loop-i.invariant c.loop-i-test.true (symbol-there c.if-limits-i-eq0.false)
 
 pub returns : goal.returns
 unfolding symbols_kept
-returns c = passing-all c.loop-i.invariant c.loop-i-test.false
-
-pub loop-i-init : goal.loop-i-init
-loop-i-init c = passing-none
+returns c =
+    let test : ℕ → Bool = λ i. leb 1 (held_limit c.args.limits.now i) in
+    all_from_yields_List test _ _ _ c.all.ensures.ran (YieldsList-from_range 0 c.args.n c.args.n refl (omega arith))
+    (λ x b q k. search (rules, tests))
+    ∙ all-range test c.args.n

@@ -16,7 +16,7 @@ loop-i-init c = lining-starts (omega arith)
 
 pub loop-i-preserved : goal.loop-i-preserved
 loop-i-preserved c =
-    lining-goes-on c.loop-i.invariant c.loop-i-test.true c.u8_u64.ensures.same
+    lining-goes-on c.loop-i.invariant c.loop-i-test.true c.from.ensures
     c.write_number.ensures
 
 pub shape_of-text : goal.shape_of-text

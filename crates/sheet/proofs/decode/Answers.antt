@@ -1,33 +1,23 @@
 -- Every line of a sheet, and the numbers of the first 1,025.
--- Invariant: the lines passed are right, and their numbers are stored.
+-- A line is read as none where it breaks rule 2.
 use native.Mathlib.Omega.{arith}
-use lib.ListN.{length-set}
-use borrow.Author.Tests.{not-true, not-false}
-use Rattle.sheet.proofs.Lines.{decoding-none, decoding-bad, decoding-more, decoding-all}
+use mathlib.Core.Path.{sym, ◌∙◌}
+use Rattle.std.proofs.lemmas.Result.{err_from_is_err_and}
+use Rattle.sheet.proofs.Lines.{decoding-bad, decoding-more, decoding-all}
 use Rattle.sheet.proofs.decode.Goals as goal
 
-pub loop-i-init : goal.loop-i-init
-loop-i-init c =
-    decoding-none c.requires
-
-pub shape_of-values-then-not-l : goal.shape_of-values-then-not-l
-shape_of-values-then-not-l c = c.loop-i.invariant.size
-
-pub returns-then-not-l : goal.returns-then-not-l
-returns-then-not-l c =
-    let bad = not-true _ c.if-not-l.true in
-    decoding-bad c.loop-i.invariant c.loop-i-test.true c.line-l.ensures bad
+pub returns-in_err-values : goal.returns-in_err-values
+returns-in_err-values c =
+    let p = err_from_is_err_and c.from_residual.result c.from_residual.ensures.1 in
+    let none = c.in_err-values.ensures.ok_part in
+    let bad = decoding-bad c.loop-i.invariant c.loop-i-test.true (sym c.line.ensures ∙ none) in
+    let said = rw none at c.in_err-values.ensures.value in
+    rw (p.1, p.2) (cc, bad)
 
 pub loop-i-preserved : goal.loop-i-preserved
 loop-i-preserved c =
-    let ok = not-false _ c.if-not-l.false in
-    decoding-more c.loop-i.invariant c.loop-i-test.true c.line-l.ensures ok c.slot-k.ensures
-
-pub shape_of-values : goal.shape_of-values
-shape_of-values c = c.loop-i.invariant.size
+    decoding-more c.loop-i.invariant c.loop-i-test.true (sym c.line.ensures ∙ c.in_ok-values.ensures.ok_part)
+    c.min-place.ensures
 
 pub returns : goal.returns
-returns c = decoding-all c.loop-i.invariant c.loop-i-test.false
-
-pub bounds-values-k-in-loop-i : goal.bounds-values-k-in-loop-i
-bounds-values-k-in-loop-i c = rw length-set (omega arith)
+returns c = decoding-all c.loop-i.invariant (omega arith)

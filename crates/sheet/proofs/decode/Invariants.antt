@@ -1,11 +1,7 @@
 -- Every line of a sheet, and the numbers of the first 1,025.
 -- Invariant: the lines passed are right, and their numbers are stored.
-use Prim.Native.Nat.{◌-◌}
 use Rattle.sheet.proofs.Lines.{Decoding}
 use Rattle.sheet.proofs.decode.Given as goal
 
 abbrev pub invariant-loop-i : goal.invariant-loop-i
-invariant-loop-i l = Decoding l.s l.lines l.initial.values l.values l.i
-
-abbrev pub decreases-loop-i : goal.decreases-loop-i
-decreases-loop-i l = l.lines - l.i
+invariant-loop-i l = Decoding l.s l.initial.values l.values l.i
