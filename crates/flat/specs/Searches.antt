@@ -1,17 +1,11 @@
 -- What the test-only boundary returns and writes of searches. A search is ten numbers (kind, s, t, length of p, next
 -- atom, trials, extensions, listed, used, made) and the 128 bytes of its array; used and made are results only.
-use Rattle.std.specs.Prelude.{ℕ, ◌≡◌, Bool, ◌&&◌, cond, List, [], ◌∷◌, length, get_or, eqb}
+use Rattle.std.specs.Prelude.{ℕ, ◌≡◌, Bool, ◌&&◌, cond, List, [], ◌∷◌, length, get_or, eqb, Err, Ok, Result}
+use Rattle.refusal.specs.declared.Refusal.{Refusal}
 use Rattle.refusal.specs.Number.{number_of}
 use Rattle.molecule.specs.declared.Molecule.{Molecule}
 use Rattle.search.specs.declared.Search.{Search}
-use Rattle.search.specs.declared.Made.{Made}
 use Rattle.search.specs.declared.Ran.{Ran}
-use Rattle.search.specs.declared.Ended.{Ended}
-use Rattle.search.specs.declared.Ended.TheVariants.{Stopped}
-use Rattle.search.specs.declared.Ended.TheVariants as ended
-use Rattle.search.specs.declared.Saved.{Saved}
-use Rattle.search.specs.declared.Saved.TheVariants.{Written}
-use Rattle.search.specs.declared.Saved.TheVariants as saved
 use Rattle.search.specs.Entries.{run_search, run_output, ended_number}
 use Rattle.search.specs.Mark.{save_answer, save_output}
 use Rattle.flat.specs.Codes.{wrong_length, answer_code, if_accepted, molecule}
@@ -59,45 +53,46 @@ unfoldable pub sized : {A : Type 0} → List ℕ → List ℕ → List ℕ → A
 sized rows numbers prefix answer other = cond (sizes_kept rows numbers prefix) answer other
 
 -- A made search is written over the buffers where it was accepted
-unfoldable pub made_numbers : Made → List ℕ → List ℕ
-made_numbers made numbers = if_accepted made.answer (numbers_of made.search 0 0) numbers
+unfoldable pub made_numbers : Result Search Refusal → List ℕ → List ℕ
+made_numbers made numbers = if_accepted made (λ q. numbers_of q 0 0) numbers
 
-unfoldable pub made_prefix : Made → List ℕ → List ℕ
-made_prefix made prefix = if_accepted made.answer made.search.prefix prefix
+unfoldable pub made_prefix : Result Search Refusal → List ℕ → List ℕ
+made_prefix made prefix = if_accepted made (λ (q : Search). q.prefix) prefix
 
 -- the code of a made search, and the numbers and the array after it
-pub record MadeStored (made : Made) (numbers prefix : List ℕ) (code : ℕ) (numbers' prefix' : List ℕ) : Type 0 where
-  pub code_is : code ≡ answer_code made.answer
+pub record MadeStored
+    (made : Result Search Refusal) (numbers prefix : List ℕ) (code : ℕ) (numbers' prefix' : List ℕ) : Type 0 where
+  pub code_is : code ≡ answer_code made
   pub numbers_are : numbers' ≡ made_numbers made numbers
   pub prefix_is : prefix' ≡ made_prefix made prefix
 
 -- the same of an entry on the buffers rows, numbers and prefix: where one has not its length, nothing changes
-pub record MadeLeft (rows numbers prefix : List ℕ) (made : Made) (code : ℕ) (numbers' prefix' : List ℕ) : Type 0 where
-  pub code_is : code ≡ sized rows numbers prefix (answer_code made.answer) wrong_length
+pub record MadeLeft
+    (rows numbers prefix : List ℕ) (made : Result Search Refusal)
+    (code : ℕ) (numbers' prefix' : List ℕ) : Type 0 where
+  pub code_is : code ≡ sized rows numbers prefix (answer_code made) wrong_length
   pub numbers_are : numbers' ≡ sized rows numbers prefix (made_numbers made numbers) numbers
   pub prefix_is : prefix' ≡ sized rows numbers prefix (made_prefix made prefix) prefix
 
--- the new list where a run stopped; nothing changes otherwise
-abbrev pub if_stopped : Ended → List ℕ → List ℕ → List ℕ
-if_stopped (Stopped why) new old = new
-if_stopped (ended.Refused r) new old = old
+-- A run's search, used and made are written over the buffers where it stopped; nothing changes otherwise
+abbrev pub ran_numbers : Result Ran Refusal → List ℕ → List ℕ
+ran_numbers (Ok ran) numbers = numbers_of ran.search ran.used ran.made
+ran_numbers (Err r) numbers = numbers
 
--- A run's search, used and made are written over the buffers where it stopped
-unfoldable pub ran_numbers : Ran → List ℕ → List ℕ
-ran_numbers ran numbers = if_stopped ran.ended (numbers_of ran.search ran.used ran.made) numbers
-
-unfoldable pub ran_prefix : Ran → List ℕ → List ℕ
-ran_prefix ran prefix = if_stopped ran.ended ran.search.prefix prefix
+abbrev pub ran_prefix : Result Ran Refusal → List ℕ → List ℕ
+ran_prefix (Ok ran) prefix = ran.search.prefix
+ran_prefix (Err r) prefix = prefix
 
 -- the code of a run, and the numbers and the array after it
-pub record RanStored (ran : Ran) (numbers prefix : List ℕ) (code : ℕ) (numbers' prefix' : List ℕ) : Type 0 where
-  pub code_is : code ≡ ended_number ran.ended
+pub record RanStored
+    (ran : Result Ran Refusal) (numbers prefix : List ℕ) (code : ℕ) (numbers' prefix' : List ℕ) : Type 0 where
+  pub code_is : code ≡ ended_number ran
   pub numbers_are : numbers' ≡ ran_numbers ran numbers
   pub prefix_is : prefix' ≡ ran_prefix ran prefix
 
-abbrev pub saved_code : Saved → ℕ
-saved_code (Written size) = size
-saved_code (saved.Refused r) = number_of r
+abbrev pub saved_code : Result ℕ Refusal → ℕ
+saved_code (Ok size) = size
+saved_code (Err r) = number_of r
 
 -- What a run and a save leave: the arguments of the entry, its code, and the buffers after it
 module _ (atoms bonds : ℕ) (rows numbers prefix : List ℕ) where
@@ -108,7 +103,7 @@ module _ (atoms bonds : ℕ) (rows numbers prefix : List ℕ) where
   q = search_from numbers prefix
 
   pub record RunLeft (budget : ℕ) (out : List ℕ) (code : ℕ) (numbers' prefix' out' : List ℕ) : Type 0 where
-    pub code_is : code ≡ sized rows numbers prefix (ended_number (run_search mol q budget out).ended) wrong_length
+    pub code_is : code ≡ sized rows numbers prefix (ended_number (run_search mol q budget out)) wrong_length
     pub numbers_are : numbers' ≡ sized rows numbers prefix (ran_numbers (run_search mol q budget out) numbers) numbers
     pub prefix_is : prefix' ≡ sized rows numbers prefix (ran_prefix (run_search mol q budget out) prefix) prefix
     pub out_is : out' ≡ sized rows numbers prefix (run_output mol q budget out) out

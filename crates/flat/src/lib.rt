@@ -1,7 +1,10 @@
-// A test-only boundary: the entries on flat byte buffers, for tests in C and Rust. Declared in include/flat.h.
+// A test-only boundary: the entries on flat byte buffers, for tests in C and Rust. Declared in include/flat.h: numbers
+// and slices, as C takes them; entries of one shape stay apart, since C knows each by its name.
 #![tactic(auto)]
 
-ghost use Rattle.std.specs.Prelude.{◌≡◌, ◌≤◌, ◌++◌, length, drop};
+ghost use Rattle.std.specs.Prelude.{◌≡◌, ◌≤◌, ◌++◌, length, drop, Result};
+ghost use Rattle.refusal.specs.declared.Refusal.{Refusal};
+ghost use Rattle.search.specs.declared.Search.{Search};
 ghost use Rattle.fields.specs.Field.{read_field, field_text};
 ghost use Rattle.sheet.specs.Read.{read_sheet};
 ghost use Rattle.molfile.specs.Elements.{built_in};
@@ -14,21 +17,19 @@ ghost use Rattle.flat.specs.Codes.{count_code, count_output};
 ghost use Rattle.flat.specs.Searches.{SizesTold, SearchSize, search_from, Packed, MadeStored, RanStored};
 ghost use Rattle.flat.specs.Searches.{MadeLeft, RunLeft, SaveLeft};
 
-use bonds::Reading;
-use counter::Counted;
-use fields::Number;
-use judge::Verdict;
 use molecule::Molecule;
-use refusal::Answer;
-use search::{Ended, Made, Ran, Saved, Search};
+use refusal::Refusal;
+use search::{Ran, Search};
 
-fn verdict_code(v: Verdict) -> u32
+// What an entry returns where a buffer or the rows have another length than they must have.
+const WRONG_LENGTH: u32 = 10000;
+
+fn verdict_code(v: Result<bool, Refusal>) -> u32
     ensures { result ≡ verdict_code v }
 {
     match v {
-        Verdict::Yes => 1,
-        Verdict::No => 0,
-        Verdict::Refused(r) => refusal::number(r),
+        Ok(yes) => u32::from(yes),
+        Err(r) => refusal::number(r),
     }
 }
 
@@ -40,13 +41,13 @@ fn assemble(atoms: usize, bonds: usize, rows: &[u8]) -> Molecule
     let mut local = [0u8; 2048];
     local.copy_from_slice(rows);
     Molecule {
-        atoms: atoms,
-        bonds: bonds,
+        atoms,
+        bonds,
         rows: local,
     }
 }
 
-// Writes atoms and bonds into the first four bytes.
+// Writes atoms and bonds into the first four bytes, by hand: `to_le_bytes` would give eight bytes of each.
 fn head(out: &mut [u8], atoms: usize, bonds: usize)
     requires { 4 ≤ length out.old }
     ensures { out.new ≡ head_bytes atoms bonds ++ drop 4 out.old }
@@ -62,27 +63,24 @@ fn flatten(m: Molecule, out: &mut [u8])
     requires { length out.old ≡ 2052 }
     ensures { out.new ≡ flat_bytes m }
 {
-    let rows = m.rows;
     head(out, m.atoms, m.bonds);
-    out[4..].copy_from_slice(&rows);
+    out[4..].copy_from_slice(&m.rows);
 }
 
 // Puts what a text was read as into a record of 2,052 bytes.
-fn put_reading(read: Reading, record: &mut [u8]) -> u32
+fn put_reading(read: Result<Molecule, Refusal>, record: &mut [u8]) -> u32
     ensures value { result ≡ read_code read «record».old }
     ensures record_after { «record».new ≡ read_output read «record».old }
 {
     if record.len() != 2052 {
-        return 10000;
+        return WRONG_LENGTH;
     }
-    let answer = read.answer;
-    let m = read.molecule;
-    match answer {
-        Answer::Accepted => {
+    match read {
+        Ok(m) => {
             flatten(m, record);
             0
         }
-        Answer::Refused(r) => refusal::number(r),
+        Err(r) => refusal::number(r),
     }
 }
 
@@ -111,12 +109,12 @@ pub extern "C" fn flat_check_record(atoms: usize, bonds: usize, rows: &[u8]) -> 
     ensures { result ≡ check_code atoms bonds rows.now }
 {
     if rows.len() != 2048 {
-        return 10000;
+        return WRONG_LENGTH;
     }
     if molecule::well_formed(assemble(atoms, bonds, rows)) {
         return 0;
     }
-    9
+    refusal::number(Refusal::Record)
 }
 
 // The judge of rings.
@@ -125,7 +123,7 @@ pub extern "C" fn flat_judge_ring(atoms: usize, bonds: usize, rows: &[u8], list:
     ensures { result ≡ ring_code atoms bonds rows.now list.now }
 {
     if rows.len() != 2048 {
-        return 10000;
+        return WRONG_LENGTH;
     }
     verdict_code(judge::judge_ring(assemble(atoms, bonds, rows), list))
 }
@@ -143,7 +141,7 @@ pub extern "C" fn flat_judge_path(
     ensures { result ≡ path_code atoms bonds rows.now s t list.now }
 {
     if rows.len() != 2048 {
-        return 10000;
+        return WRONG_LENGTH;
     }
     verdict_code(judge::judge_path(assemble(atoms, bonds, rows), s, t, list))
 }
@@ -162,15 +160,14 @@ pub extern "C" fn flat_count_shortest(
     ensures count_after { count.new ≡ count_output atoms bonds rows.now s t count.old }
 {
     if rows.len() != 2048 {
-        return 10000;
+        return WRONG_LENGTH;
     }
-    let counted = count::count_shortest(assemble(atoms, bonds, rows), s, t);
-    match counted {
-        Counted::Number(k) => {
+    match count::count_shortest(assemble(atoms, bonds, rows), s, t) {
+        Ok(k) => {
             *count = k;
             0
         }
-        Counted::Refused(r) => refusal::number(r),
+        Err(r) => refusal::number(r),
     }
 }
 
@@ -179,11 +176,7 @@ pub extern "C" fn flat_count_shortest(
 pub extern "C" fn flat_read_field(field: &[u8]) -> u64
     ensures { result ≡ field_code (read_field field.now) }
 {
-    let number = fields::read_number(field);
-    match number {
-        Number::Value(v, _) => v,
-        Number::Bad => 18_446_744_073_709_551_615,
-    }
+    fields::read_number(field).map_or(u64::MAX, |x| x.value)
 }
 
 // Whether the bytes are a number field that zeros fill: 1, or 0.
@@ -191,14 +184,7 @@ pub extern "C" fn flat_read_field(field: &[u8]) -> u64
 pub extern "C" fn flat_zero_filled(field: &[u8]) -> u32
     ensures { result ≡ zeros_code (read_field field.now) }
 {
-    let number = fields::read_number(field);
-    let Number::Value(_, zeros) = number else {
-        return 0;
-    };
-    if zeros {
-        return 1;
-    }
-    0
+    u32::from(fields::read_number(field).is_some_and(|x| x.zeros))
 }
 
 #[unsafe(no_mangle)]
@@ -210,34 +196,13 @@ pub extern "C" fn flat_write_field(field: &mut [u8], value: u64)
 
 // ---- searches
 
-// Whether the rows, the numbers and the array have their lengths.
+// Whether the rows, the numbers and the array have their lengths. Slices are tested and not turned into arrays: each
+// entry would turn both buffers by itself, and return the same number where either fails.
+#[tactic(auto, unfolding(crate::specs::Searches::sizes_kept))]
 fn sizes_kept(rows: &[u8], numbers: &[u64], prefix: &[u8]) -> bool
     ensures { SizesTold rows.now numbers.now prefix.now result }
 {
-    if rows.len() != 2048 {
-        return false;
-    }
-    if numbers.len() != 10 {
-        return false;
-    }
-    prefix.len() == 128
-}
-
-fn copy_words(src: &[u64], dst: &mut [u64])
-    requires { length dst.old ≡ length src.now }
-    ensures { dst.new ≡ src.now }
-{
-    let mut i: usize = 0;
-    while i < src.len() {
-        dst[i] = src[i];
-        i += 1;
-    }
-}
-
-fn size(x: u64) -> usize
-    ensures { result ≡ x }
-{
-    x as usize
+    rows.len() == 2048 && numbers.len() == 10 && prefix.len() == 128
 }
 
 // The search that numbers and an array name.
@@ -248,12 +213,12 @@ fn unpack(numbers: &[u64], prefix: &[u8]) -> Search
     let mut local = [0u8; 128];
     local.copy_from_slice(prefix);
     Search {
-        kind: size(numbers[0]),
-        s: size(numbers[1]),
-        t: size(numbers[2]),
-        len: size(numbers[3]),
+        kind: numbers[0] as usize,
+        s: numbers[1] as usize,
+        t: numbers[2] as usize,
+        len: numbers[3] as usize,
         prefix: local,
-        next: size(numbers[4]),
+        next: numbers[4] as usize,
         trials: numbers[5],
         extensions: numbers[6],
         listed: numbers[7],
@@ -265,7 +230,6 @@ fn pack(q: Search, used: usize, made: u64, numbers: &mut [u64], prefix: &mut [u8
     requires { SearchSize numbers.old prefix.old }
     ensures { Packed q used made numbers.new prefix.new }
 {
-    let local = q.prefix;
     let all = [
         q.kind as u64,
         q.s as u64,
@@ -278,41 +242,57 @@ fn pack(q: Search, used: usize, made: u64, numbers: &mut [u64], prefix: &mut [u8
         used as u64,
         made,
     ];
-    copy_words(&all, numbers);
-    prefix.copy_from_slice(&local);
+    numbers.copy_from_slice(&all);
+    prefix.copy_from_slice(&q.prefix);
 }
 
 // Writes a made search where it was accepted.
-fn store_made(made: Made, numbers: &mut [u64], prefix: &mut [u8]) -> u32
+fn store_made(made: Result<Search, Refusal>, numbers: &mut [u64], prefix: &mut [u8]) -> u32
     requires { SearchSize numbers.old prefix.old }
     ensures { MadeStored made numbers.old prefix.old
         result numbers.new prefix.new }
 {
-    let answer = made.answer;
-    let q = made.search;
-    match answer {
-        Answer::Accepted => {
+    match made {
+        Ok(q) => {
             pack(q, 0, 0, numbers, prefix);
             0
         }
-        Answer::Refused(r) => refusal::number(r),
+        Err(r) => refusal::number(r),
     }
 }
 
+// Makes a search on a record, and writes it where it was accepted.
+fn store_from<F: FnOnce(Molecule) -> Result<Search, Refusal>>(
+    atoms: usize,
+    bonds: usize,
+    rows: &[u8],
+    numbers: &mut [u64],
+    prefix: &mut [u8],
+    make: F,
+) -> u32
+    requires { F.pre make (molecule atoms bonds rows.now) }
+    ensures { (made : Result Search Refusal) →
+        ((x : Result Search Refusal) → F.post make (molecule atoms bonds rows.now) x → x ≡ made) →
+        MadeLeft rows.now numbers.old prefix.old made result numbers.new prefix.new }
+{
+    if !sizes_kept(rows, numbers, prefix) {
+        return WRONG_LENGTH;
+    }
+    store_made(make(assemble(atoms, bonds, rows)), numbers, prefix)
+}
+
 // Writes a run's search, used and made where it stopped.
-fn store_ran(ran: Ran, numbers: &mut [u64], prefix: &mut [u8]) -> u32
+fn store_ran(ran: Result<Ran, Refusal>, numbers: &mut [u64], prefix: &mut [u8]) -> u32
     requires { SearchSize numbers.old prefix.old }
     ensures { RanStored ran numbers.old prefix.old
         result numbers.new prefix.new }
 {
-    let ended = ran.ended;
-    let q = ran.search;
-    match ended {
-        Ended::Stopped(stop) => {
-            pack(q, ran.used, ran.made, numbers, prefix);
-            enumeration::stop_number(stop)
+    match ran {
+        Ok(ran) => {
+            pack(ran.search, ran.used, ran.made, numbers, prefix);
+            enumeration::stop_number(ran.stop)
         }
-        Ended::Refused(r) => refusal::number(r),
+        Err(r) => refusal::number(r),
     }
 }
 
@@ -329,11 +309,14 @@ pub extern "C" fn flat_start_rings(
         (start_rings (molecule atoms bonds rows.now))
         result numbers.new prefix.new }
 {
-    if !sizes_kept(rows, numbers, prefix) {
-        return 10000;
-    }
-    let made = start::start_rings(assemble(atoms, bonds, rows));
-    store_made(made, numbers, prefix)
+    store_from(
+        atoms,
+        bonds,
+        rows,
+        numbers,
+        prefix,
+        |m| start::start_rings(m),
+    )
 }
 
 // A fresh search for the paths from s to t.
@@ -351,11 +334,14 @@ pub extern "C" fn flat_start_paths(
         (start_paths (molecule atoms bonds rows.now) s t)
         result numbers.new prefix.new }
 {
-    if !sizes_kept(rows, numbers, prefix) {
-        return 10000;
-    }
-    let made = start::start_paths(assemble(atoms, bonds, rows), s, t);
-    store_made(made, numbers, prefix)
+    store_from(
+        atoms,
+        bonds,
+        rows,
+        numbers,
+        prefix,
+        |m| start::start_paths(m, s, t),
+    )
 }
 
 // A fresh search for the shortest paths from s to t.
@@ -373,11 +359,14 @@ pub extern "C" fn flat_start_shortest(
         (start_shortest (molecule atoms bonds rows.now) s t)
         result numbers.new prefix.new }
 {
-    if !sizes_kept(rows, numbers, prefix) {
-        return 10000;
-    }
-    let made = start::start_shortest(assemble(atoms, bonds, rows), s, t);
-    store_made(made, numbers, prefix)
+    store_from(
+        atoms,
+        bonds,
+        rows,
+        numbers,
+        prefix,
+        |m| start::start_shortest(m, s, t),
+    )
 }
 
 // A fresh search for the rings of at most `size` atoms.
@@ -394,11 +383,14 @@ pub extern "C" fn flat_start_rings_up_to(
         (start_rings_up_to (molecule atoms bonds rows.now) size)
         result numbers.new prefix.new }
 {
-    if !sizes_kept(rows, numbers, prefix) {
-        return 10000;
-    }
-    let made = start::start_rings_up_to(assemble(atoms, bonds, rows), size);
-    store_made(made, numbers, prefix)
+    store_from(
+        atoms,
+        bonds,
+        rows,
+        numbers,
+        prefix,
+        |m| start::start_rings_up_to(m, size),
+    )
 }
 
 // Runs a search; used and made are not read.
@@ -416,11 +408,14 @@ pub extern "C" fn flat_run(
         result numbers.new prefix.new out.new }
 {
     if !sizes_kept(rows, numbers, prefix) {
-        return 10000;
+        return WRONG_LENGTH;
     }
     let q = unpack(numbers, prefix);
-    let ran = run::run(assemble(atoms, bonds, rows), q, budget, out);
-    store_ran(ran, numbers, prefix)
+    store_ran(
+        run::run(assemble(atoms, bonds, rows), q, budget, out),
+        numbers,
+        prefix,
+    )
 }
 
 // Saves a search as a mark.
@@ -437,13 +432,12 @@ pub extern "C" fn flat_save(
         result mark.new }
 {
     if !sizes_kept(rows, numbers, prefix) {
-        return 10000;
+        return WRONG_LENGTH;
     }
     let q = unpack(numbers, prefix);
-    let saved = marks::save(assemble(atoms, bonds, rows), q, mark);
-    match saved {
-        Saved::Written(k) => k as u32,
-        Saved::Refused(r) => refusal::number(r),
+    match marks::save(assemble(atoms, bonds, rows), q, mark) {
+        Ok(k) => k as u32,
+        Err(r) => refusal::number(r),
     }
 }
 
@@ -461,9 +455,12 @@ pub extern "C" fn flat_restore(
         (restore_mark (molecule atoms bonds rows.now) mark.now)
         result numbers.new prefix.new }
 {
-    if !sizes_kept(rows, numbers, prefix) {
-        return 10000;
-    }
-    let made = marks::restore(assemble(atoms, bonds, rows), mark);
-    store_made(made, numbers, prefix)
+    store_from(
+        atoms,
+        bonds,
+        rows,
+        numbers,
+        prefix,
+        |m| marks::restore(m, mark),
+    )
 }

@@ -1,11 +1,12 @@
 -- The runs of a listing are calls as demand 3 speaks of them: each is handed the search as it stands.
 -- So each lists the next rings, and is the last or lists one; and no more are listed than there are.
+use Rattle.std.specs.Prelude.{Ok}
 use Prim.Native.Nat.{ℕ, ◌+◌, ◌-◌, ◌*◌, ◌≤◌, ◌<◌}
 use native.Mathlib.Nat.{mul-le-mul}
 use native.Mathlib.Omega.{arith}
 use mathlib.Core.Path.{◌≡◌, refl, ap, sym, ◌∙◌, subst}
 use mathlib.Core.Logic.{◌⊎◌, inl, inr}
-use mathlib.Core.Bool.{Bool, true, false}
+use mathlib.Core.Bool.{true, false}
 use mathlib.Core.List.{List, [], ◌∷◌, ◌++◌}
 use lib.ListN.{length, take, drop, length-replicate}
 use lib.Seq.{drop-append_seam, take-add}
@@ -21,12 +22,12 @@ use Rattle.enumeration.proofs.Theorems.{run-outcome, run-done, run-limit}
 use Rattle.molecule.specs.declared.Molecule.{Molecule}
 use Rattle.molecule.specs.Record.{well_formed}
 use Rattle.search.specs.declared.Search.{Search}
-use Rattle.search.specs.declared.Ended.TheVariants.{Stopped}
+use Rattle.search.specs.declared.Ran.{Ran}
 use Rattle.search.specs.Place.{family, state_of, search_at, fresh_search, restorable}
 use Rattle.search.specs.Entries.{outcome, ran, run_search, run_output}
 use Rattle.search.proofs.Views.{state-search}
 use Rattle.search.proofs.Readings.{family-atoms}
-use Rattle.history.specs.Calls.{Call, runs, Standing, start, refused, after_accepted, after_call, standing}
+use Rattle.history.specs.Calls.{Call, runs, Standing, start, after_call, standing}
 use Rattle.history.specs.Demand.{Progress, Demand}
 use Rattle.molecule.proofs.Bonds.{rule9}
 use Rattle.history.proofs.Each.{rings-demand3, rings_kept}
@@ -35,11 +36,11 @@ use Rattle.history.proofs.Reached.{list-reached}
 use Rattle.history.proofs.Joined.{history-joined, standing-joined}
 use Rattle.report.specs.Lines.{ring_lines, lines_of}
 use Rattle.report.proofs.Records.{lines-of-records}
-use Rattle.listing.specs.declared.Part.TheVariants.{Rings, Counts}
+use Rattle.listing.specs.declared.Listing.TheVariants.{Rings, Counts}
 use Rattle.listing.specs.Sound.{Stands}
 use Rattle.listing.specs.Text.{rings_of}
-use Rattle.listing.specs.Turns.{budget, output, one_run, run_records, part_after}
-use Rattle.listing.proofs.Contracts.{answered}
+use Rattle.listing.specs.Turns.{budget, output, one_run, records_in, run_records, after_stop}
+use Rattle.listing.proofs.Contracts.{ran-is}
 
 pub fresh-stands : {m : Molecule} → well_formed m ≡ true → Stands m (fresh_search 0 0 0)
 unfolding start standing
@@ -76,48 +77,41 @@ module _ (m : Molecule) (q : Search) (b : ℕ) (out : List ℕ) where
       let same = state-search q.kind q.s q.t o.state in
       inr (rw same (run-limit (family m q) b (length out) (state_of q) e).1)
 
-  says-over :
-      (why : Stop) → (o.stop ≡ why → OverAt m (ran q o).search) → (run_search m q b out).ended ≡ Stopped why →
-      OverAt m (run_search m q b out).search
+  -- an accepted run is that of its outcome
+  ran-of : {r : Ran} → run_search m q b out ≡ Ok r → ran q o ≡ r
   unfolding run_search
-  says-over why over = go (well_formed m) (restorable m q)
-    where
-      go : (x y : Bool) → (answered q o x y).ended ≡ Stopped why → OverAt m (answered q o x y).search
-      go false y e = let z : ◌≡◌ {A = ℕ} 0 1 = cc in absurd (omega arith)
-      go true false e = let z : ◌≡◌ {A = ℕ} 0 1 = cc in absurd (omega arith)
-      go true true e = let same : o.stop ≡ why = cc in over same
+  ran-of e = (ran-is q o (well_formed m) (restorable m q) e).2
+
+  says-over :
+      (why : Stop) → (o.stop ≡ why → OverAt m (ran q o).search) →
+      (r : Ran) → run_search m q b out ≡ Ok r → r.stop ≡ why → OverAt m r.search
+  says-over why over r e says =
+      let same = ran-of e in
+      subst (λ (p : Ran). OverAt m p.search) same (over (ap (λ (p : Ran). p.stop) same ∙ says))
 
   -- it uses no more bytes than there are
-  pub used-most : (run_search m q b out).used ≤ length out
-  unfolding run_search
-  used-most = go (well_formed m) (restorable m q)
-    where
-      go : (x y : Bool) → (answered q o x y).used ≤ length out
-      go false y = omega arith
-      go true false = omega arith
-      go true true = (run-outcome (family m q) b (length out) (state_of q)).in_room
+  pub used-most : (r : Ran) → run_search m q b out ≡ Ok r → r.used ≤ length out
+  used-most r e =
+      subst (λ (p : Ran). p.used ≤ length out) (ran-of e)
+      (run-outcome (family m q) b (length out) (state_of q)).in_room
 
   -- and lists no fewer
-  pub listed-rises : q.listed ≤ (run_search m q b out).search.listed
-  unfolding run_search search_at state_of
-  listed-rises = go (well_formed m) (restorable m q)
-    where
-      go : (x y : Bool) → q.listed ≤ (answered q o x y).search.listed
-      go false y = omega arith
-      go true false = omega arith
-      go true true = omega (arith, (run-outcome (family m q) b (length out) (state_of q)).listing)
+  pub listed-rises : (r : Ran) → run_search m q b out ≡ Ok r → q.listed ≤ r.search.listed
+  unfolding search_at state_of
+  listed-rises r e =
+      subst (λ (p : Ran). q.listed ≤ p.search.listed) (ran-of e)
+      (omega (arith, (run-outcome (family m q) b (length out) (state_of q)).listing))
 
 -- what stands after an accepted run: the search that it returned, and its bytes after the sheet
 module _
-    (x : Standing) (m : Molecule) (q : Search) (b : ℕ) (out : List ℕ) (why : Stop)
-    (e : (run_search m q b out).ended ≡ Stopped why) where
-  after_run : (standing x (runs m q b out ∷ [])).search ≡ (run_search m q b out).search
-  unfolding standing after_call refused after_accepted
-  after_run = rw e
+    (x : Standing) (m : Molecule) (q : Search) (b : ℕ) (out : List ℕ) (r : Ran)
+    (e : run_search m q b out ≡ Ok r) where
+  after-search : (standing x (runs m q b out ∷ [])).search ≡ r.search
+  unfolding standing after_call
+  after-search = rw e
 
-  after-sheet :
-      (standing x (runs m q b out ∷ [])).sheet ≡ x.sheet ++ take (run_search m q b out).used (run_output m q b out)
-  unfolding standing after_call refused after_accepted
+  after-sheet : (standing x (runs m q b out ∷ [])).sheet ≡ x.sheet ++ take r.used (run_output m q b out)
+  unfolding standing after_call
   after-sheet = rw e
 
 cancel : (a b c : List ℕ) → a ++ b ≡ a ++ c → b ≡ c
@@ -173,22 +167,22 @@ module _ {m : Molecule} {q : Search} (s : Stands m q) where
 
 -- ---- one run more of it
 
+-- the run is not refused
+pub accepted : {m : Molecule} {q : Search} → Stands m q → (r : Ran) × (one_run m q ≡ Ok r)
+accepted s = rw s.search_is ((demand s).goes_on.run_accepted budget output)
+
 -- A run is the last one, and the search is over then, or it lists a ring
-abbrev pub LastOrLists : Molecule → Search → Type 0
-LastOrLists m q =
-    ((part_after (one_run m q).ended ≡ Counts) × OverAt m (one_run m q).search)
-    ⊎ ((part_after (one_run m q).ended ≡ Rings) × (q.listed < (one_run m q).search.listed))
+abbrev pub LastOrLists : Molecule → Search → Ran → Type 0
+LastOrLists m q r =
+    ((after_stop m r.search r.stop ≡ Counts r.search) × OverAt m r.search)
+    ⊎ ((after_stop m r.search r.stop ≡ Rings m r.search) × (q.listed < r.search.listed))
 
-module _ {m : Molecule} {q : Search} (s : Stands m q) where
-  -- the run is not refused
-  stops : (why : Stop) × ((one_run m q).ended ≡ Stopped why)
-  stops = rw s.search_is ((demand s).goes_on.run_accepted budget output)
-
-  pub run-stands : Stands m (one_run m q).search
+module _ {m : Molecule} {q : Search} (s : Stands m q) {r : Ran} (e : one_run m q ≡ Ok r) where
+  pub run-stands : Stands m r.search
   run-stands =
       let call : Call = runs m q budget output in
       let joined = standing-joined s.calls (call ∷ []) (start 0 0 0) in
-      let ran = after_run (standing_of s) m q budget output stops.0 stops.1 in
+      let ran = after-search (standing_of s) m q budget output r e in
       record {
         good = s.good;
         calls = s.calls ++ call ∷ [];
@@ -196,30 +190,35 @@ module _ {m : Molecule} {q : Search} (s : Stands m q) where
         search_is = sym ran ∙ ap (λ (x : Standing). x.search) (sym joined);
       }
 
-  -- its bytes come after those so far
+  -- its records are those that it wrote
+  records-are : run_records m q ≡ take r.used (run_output m q budget output)
+  records-are = ap (λ x. records_in x (run_output m q budget output)) e
+
+  -- and they come after those so far
   sheet_joined : (standing_of run-stands).sheet ≡ (standing_of s).sheet ++ run_records m q
   unfolding run-stands
   sheet_joined =
       let call : Call = runs m q budget output in
       ap (λ (x : Standing). x.sheet) (standing-joined s.calls (call ∷ []) (start 0 0 0))
-      ∙ after-sheet (standing_of s) m q budget output stops.0 stops.1
+      ∙ after-sheet (standing_of s) m q budget output r e
+      ∙ ap (λ l. (standing_of s).sheet ++ l) (sym records-are)
 
   -- they are the records of the rings that follow, and so the lines are theirs
   pub run-lines :
-      let k = (one_run m q).search.listed in
+      let k = r.search.listed in
       ring_lines (run_records m q) ≡ lines_of (take (k - q.listed) (drop q.listed (rings m)))
   run-lines =
       let l = q.listed in
-      let k = (one_run m q).search.listed in
+      let k = r.search.listed in
       let more = take (k - l) (drop l (rings m)) in
       let same = cancel (records (take l (rings m))) (run_records m q) (records more)
       (ap (λ (a : List ℕ). a ++ run_records m q) (sym (sheet_is s)) ∙ sym sheet_joined ∙ sheet_is run-stands
-      ∙ records-split (rings m) l k (listed-rises m q budget output)) in
+      ∙ records-split (rings m) l k (listed-rises m q budget output r e)) in
       ap ring_lines same ∙ lines-of-records more
 
-  pub last-or-lists : LastOrLists m q
+  pub last-or-lists : LastOrLists m q r
   last-or-lists =
-      by (rw (← s.search_is) at ((demand s).goes_on.progress budget output trials room)) stops.0 stops.1
+      by (rw (← s.search_is) at ((demand s).goes_on.progress budget output r trials room)) r.stop refl
     where
       atoms : m.atoms ≤ 128
       atoms = (rule9 m s.good).atoms_high
@@ -233,16 +232,27 @@ module _ {m : Molecule} {q : Search} (s : Stands m q) where
       room : m.atoms + 1 ≤ length output
       room = omega (arith, atoms, output-holds)
 
-      done : (one_run m q).ended ≡ Stopped Done → LastOrLists m q
-      done e = inl (ap part_after e, says-over m q budget output Done (outcome-done m q budget output) e)
+      done : r.stop ≡ Done → LastOrLists m q r
+      done f =
+          inl (
+            ap (after_stop m r.search) f,
+            says-over m q budget output Done (outcome-done m q budget output) r e f,
+          )
 
-      limited : (one_run m q).ended ≡ Stopped Limit → LastOrLists m q
-      limited e = inl (ap part_after e, says-over m q budget output Limit (outcome-limit m q budget output) e)
+      limited : r.stop ≡ Limit → LastOrLists m q r
+      limited f =
+          inl (
+            ap (after_stop m r.search) f,
+            says-over m q budget output Limit (outcome-limit m q budget output) r e f,
+          )
 
-      by : Progress q (one_run m q) → (why : Stop) → (one_run m q).ended ≡ Stopped why → LastOrLists m q
-      by (inl more) Done e = done e
-      by (inl more) Limit e = limited e
-      by (inl more) Spent e = inr (ap part_after e, more)
-      by (inl more) Full e = inr (ap part_after e, more)
-      by (inr (inl e)) why x = done e
-      by (inr (inr e)) why x = limited e.0
+      by : (one_run m q ≡ Ok r → Progress q r) → (why : Stop) → r.stop ≡ why → LastOrLists m q r
+      by progress why f = go (progress e) why f
+        where
+          go : Progress q r → (why : Stop) → r.stop ≡ why → LastOrLists m q r
+          go (inl more) Done f = done f
+          go (inl more) Limit f = limited f
+          go (inl more) Spent f = inr (ap (after_stop m r.search) f, more)
+          go (inl more) Full f = inr (ap (after_stop m r.search) f, more)
+          go (inr (inl f)) why x = done f
+          go (inr (inr f)) why x = limited f.0

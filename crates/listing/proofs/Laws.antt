@@ -1,5 +1,6 @@
 -- What the definition of the text amounts to: how its search ends, and its text then.
 -- Instances of `Whole` for the rings of a molecule record.
+use Rattle.std.specs.Prelude.{None, Option, Some}
 use Prim.Native.Nat.{ℕ, suc, ◌*◌, ◌≤◌}
 use native.Mathlib.Omega.{arith}
 use mathlib.Core.Path.{◌≡◌, refl, ap, sym, subst}
@@ -8,7 +9,6 @@ use mathlib.Core.Bool.{true}
 use mathlib.Core.List.{List, ◌++◌}
 use lib.ListN.{length}
 use lib.Seq.{take_all}
-use Rattle.graph.proofs.Below.{clash}
 use Rattle.enumeration.specs.declared.Stop.TheVariants.{Done, Limit}
 use Rattle.enumeration.specs.Words.{members}
 use Rattle.enumeration.specs.Lawful.{Lawful}
@@ -21,8 +21,15 @@ use Rattle.molecule.proofs.Bonds.{rule9}
 use Rattle.report.specs.Lines.{lines_of, count_line}
 use Rattle.listing.specs.declared.Listing.{Listing}
 use Rattle.listing.specs.Text.{rings_of, whole_run, listing_text}
-use Rattle.listing.specs.Turns.{turned, text_of, Prints, ends, goes_on}
+use Rattle.listing.specs.Turns.{turned_text, text_of, Prints, ends, goes_on}
 use Rattle.listing.proofs.Whole.{whole-ends, whole_listed, whole_extensions, whole-trials, whole-done}
+
+-- a turn is the last one or has one listing after it
+last-or-not : {x : Option Listing} {next : Listing} → x ≡ None → x ≡ Some next → ⊥
+last-or-not e f = let z : ◌≡◌ {A = ℕ} 0 1 = cc in omega arith
+
+pub one-next : {x : Option Listing} {a b : Listing} → x ≡ Some a → x ≡ Some b → a ≡ b
+one-next e f = cc
 
 module _ (m : Molecule) (good : well_formed m ≡ true) where
   lawful : Lawful (rings_of m)
@@ -68,7 +75,8 @@ module _ (m : Molecule) (good : well_formed m ≡ true) where
 pub prints-one :
     {l : Listing} {buffer text other : List ℕ} → Prints l buffer text → Prints l buffer other → text ≡ other
 prints-one (ends l buffer e) (ends _ _ f) = refl
-prints-one (ends l buffer e) (goes_on _ _ rest f p) = absurd (clash (turned l buffer).last e f)
-prints-one (goes_on l buffer rest e p) (ends _ _ f) = absurd (clash (turned l buffer).last f e)
-prints-one (goes_on l buffer rest e p) (goes_on _ _ other f q) =
-    ap (λ (t : List ℕ). text_of l buffer ++ t) (prints-one p q)
+prints-one (ends l buffer e) (goes_on _ next _ rest f p) = absurd (last-or-not e f)
+prints-one (goes_on l next buffer rest e p) (ends _ _ f) = absurd (last-or-not f e)
+prints-one (goes_on l next buffer rest e p) (goes_on _ other _ more f q) =
+    let same = subst (λ (x : Listing). Prints x (turned_text l buffer) rest) (one-next e f) p in
+    ap (λ (t : List ℕ). text_of l buffer ++ t) (prints-one same q)

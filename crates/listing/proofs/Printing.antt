@@ -1,6 +1,6 @@
 -- What `print` has written at each head of its loop, and what a turn adds to it.
 -- By the turns of what is left, which come to a last one where the listing stands.
-use Rattle.std.proofs.Common.{◌≡◌, ℕ, ◌≤◌, true, false, List, Option, [], ◌++◌, length, take, refl, sym, ap, ◌∙◌, subst, arith}
+use Rattle.std.proofs.Common.{◌≡◌, ℕ, ◌≤◌, List, Option, [], ◌++◌, length, take, refl, sym, ap, ◌∙◌, subst, arith}
 use Rattle.std.proofs.Common.{◌<◌, None, Some, IfSome, OnOk, Result, append_assoc, append-nil, length-take}
 use Rattle.std.specs.Io.KnownBytes.{Appends, Consumes, IsAtEnd}
 use Rattle.std.proofs.KnownBytes.{Appends-nil, Appends-trans}
@@ -10,7 +10,7 @@ use Rattle.listing.specs.declared.Listing.{Listing}
 use Rattle.listing.specs.declared.Turn.{Turn}
 use Rattle.listing.specs.Sound.{Sound}
 use Rattle.listing.specs.Turns.{turned, turned_text, text_of, Prints, ends, goes_on}
-use Rattle.listing.specs.Printing.{piece, AppendsPart, PrintsOn, PrintsPart, ListsPart}
+use Rattle.listing.specs.Printing.{piece, AppendsPart, PrintsOn, PrintsPart, ListedPart, ListedWhole, ListsPart}
 use Rattle.listing.proofs.Bytes.{read-first}
 use Rattle.listing.proofs.Joined.{sound-prints}
 use Rattle.listing.proofs.Laws.{prints-one}
@@ -23,7 +23,7 @@ piece-room = omega (arith, length-replicate {A = ℕ})
 begins-with :
     {l : Listing} {buffer text : List ℕ} → Prints l buffer text → (rest : List ℕ) × (text ≡ text_of l buffer ++ rest)
 begins-with (ends l buffer e) = ([], sym (append-nil (text_of l buffer)))
-begins-with (goes_on l buffer rest e p) = (rest, refl)
+begins-with (goes_on l next buffer rest e p) = (rest, refl)
 
 -- old has grown by what is printed, and what is left of the text belongs after that
 pub record Printing (begun : Listing) (old new : Option (List ℕ)) (l : Listing) (buffer : List ℕ) : Type 0 where
@@ -54,24 +54,25 @@ module _
         (subst (Appends mid new) (turn-text l buffer is) w)
 
     -- it was the last one
-    pub printing-ends : turn.last ≡ true → Appends mid new (take turn.size after) → PrintsOn begun old new
+    pub printing-ends : turn.next ≡ None → Appends mid new (take turn.size after) → PrintsOn begun old new
     printing-ends last w =
-        let e : (turned l buffer).last ≡ true = rw (← is.0) last in
+        let e : (turned l buffer).next ≡ None = rw (← is.0) last in
         (p.done ++ text_of l buffer, p.rest (text_of l buffer) (ends l buffer e), longer w)
 
     -- another follows
     pub printing-goes-on :
-        turn.last ≡ false → Appends mid new (take turn.size after) → Printing begun old new turn.listing after
-    printing-goes-on more w =
+        {next : Listing} → turn.next ≡ Some next → Appends mid new (take turn.size after) →
+        Printing begun old new next after
+    printing-goes-on {next} more w =
         let (is-turn, is-after) = is in
-        let e : (turned l buffer).last ≡ false = rw (← is-turn) more in
+        let e : (turned l buffer).next ≡ Some next = rw (← is-turn) more in
         record {
           done = p.done ++ text_of l buffer;
           appended = longer w;
           rest = λ text prints.
               subst (Prints begun piece) (sym (append_assoc p.done (text_of l buffer) text))
               (p.rest (text_of l buffer ++ text)
-              (goes_on l buffer text e (rw (← is-turn, ← is-after) prints)));
+              (goes_on l next buffer text e (rw (← is-after) prints)));
         }
 
     -- or the write failed
@@ -97,52 +98,66 @@ module _ {l : Listing} {text : List ℕ} (old new : Option (List ℕ)) (prints :
   pub part-is : PrintsPart l old new → AppendsPart old new text
   part-is (other, p, (front, back, split, w)) = (front, back, sym (prints-one p prints) ∙ split, w)
 
--- ---- what a program lists: a text that the first `room` bytes of its input decide
-
--- n bytes of a buffer of that size are read, and their listing is l
-pub record Read
-    (opened : List ℕ → Listing) (room : ℕ) (left rest : Option (List ℕ)) (n : ℕ) (buffer : List ℕ) (l : Listing)
-    : Type 0 where
-  pub size : length buffer ≡ room
-  pub within : n ≤ length buffer
-  pub consumed : Consumes left rest (take n buffer)
-  pub listing_is : l ≡ opened (take n buffer)
+-- ---- what `list` does: n bytes of a buffer of that size are read, and they have the listing l
 
 module _
-    (opened : List ℕ → Listing) (text : List ℕ → List ℕ) (room : ℕ)
+    {opens : List ℕ → Listing → Type 0} {room : ℕ} {left rest old new : Option (List ℕ)} (n : ℕ) (buffer : List ℕ)
+    {l : Listing} (within : n ≤ length buffer) (size : length buffer ≡ room)
+    (consumed : Consumes left rest (take n buffer)) (opened : opens (take n buffer) l)
+  where
+    pub listed-part : PrintsPart l old new → ListedPart opens room left rest old new
+    listed-part printed = record {
+      bytes = take n buffer;
+      within = omega (arith, length-take n buffer, within);
+      consumed = consumed;
+      listing = l;
+      opened = opened;
+      printed = printed;
+    }
+
+    pub listed-whole :
+        PrintsOn l old new → (n < length buffer → IsAtEnd rest) → ListedWhole opens room left rest old new
+    listed-whole printed end = record {
+      bytes = take n buffer;
+      within = omega (arith, length-take n buffer, within);
+      consumed = consumed;
+      whole = λ few. end (omega (arith, length-take n buffer, within));
+      listing = l;
+      opened = opened;
+      printed = printed;
+    }
+
+-- ---- what a program lists: a text that the first `room` bytes of its input decide
+
+module _
+    {opens : List ℕ → Listing → Type 0} (opened : List ℕ → Listing) (text : List ℕ → List ℕ) (room : ℕ)
+    (opens-one : (bytes : List ℕ) (l : Listing) → opens bytes l → l ≡ opened bytes)
     (prints : (bytes : List ℕ) → length bytes ≤ room → Prints (opened bytes) piece (text bytes))
     (first : (input : List ℕ) → text (take room input) ≡ text input)
-    (left rest old new : Option (List ℕ)) (n : ℕ) (buffer : List ℕ) {l : Listing}
-    (read : Read opened room left rest n buffer l)
   where
-    fits : length (take n buffer) ≤ room
-    fits = omega (arith, length-take n buffer, read.size)
+    prints-read :
+        (bytes : List ℕ) (l : Listing) → length bytes ≤ room → opens bytes l → Prints l piece (text bytes)
+    prints-read bytes l within is = rw (opens-one bytes l is) (prints bytes within)
 
-    prints-read : Prints l piece (text (take n buffer))
-    prints-read = rw read.listing_is (prints (take n buffer) fits)
+    module _ (left rest old new : Option (List ℕ)) where
+      -- a beginning of the text of the bytes that are read
+      pub lists-part : ListedPart opens room left rest old new → ListsPart text left rest old new
+      lists-part x =
+          (x.bytes, x.consumed, part-is old new (prints-read x.bytes x.listing x.within x.opened) x.printed)
 
-    -- a beginning of the text of the bytes that are read
-    pub lists-part : PrintsPart l old new → ListsPart text left rest old new
-    lists-part printed = (take n buffer, read.consumed, part-is old new prints-read printed)
+      -- and all of the input's, where they fill the buffer or the reader is at its end
+      lists-whole : ListedWhole opens room left rest old new → IfSome left (λ input. Appends old new (text input))
+      lists-whole x = by left (read-first left rest x.bytes room x.within x.consumed x.whole)
+        where
+          by :
+              (known : Option (List ℕ)) → IfSome known (λ input. x.bytes ≡ take room input) →
+              IfSome known (λ input. Appends old new (text input))
+          by None e = tt
+          by (Some input) e =
+              subst (Appends old new) (ap text e ∙ first input)
+              (printed-is old new (prints-read x.bytes x.listing x.within x.opened) x.printed)
 
-    -- and all of the input's, where they fill the buffer or the reader is at its end
-    lists-whole :
-        PrintsOn l old new → (n < length buffer → IsAtEnd rest) → IfSome left (λ input. Appends old new (text input))
-    lists-whole printed end =
-        let bytes = take n buffer in
-        let taken : length bytes < room → n < length buffer =
-        λ short. omega (arith, length-take n buffer, read.size, read.within)
-        in
-        by left (read-first left rest bytes room fits read.consumed (λ short. end (taken short)))
-      where
-        by :
-            (known : Option (List ℕ)) → IfSome known (λ input. take n buffer ≡ take room input) →
-            IfSome known (λ input. Appends old new (text input))
-        by None e = tt
-        by (Some input) e =
-            subst (Appends old new) (ap text e ∙ first input) (printed-is old new prints-read printed)
-
-    pub lists-all :
-        {T E : Type 0} (r : Result T E) → PrintsOn l old new → OnOk r (n < length buffer → IsAtEnd rest) →
-        OnOk r (IfSome left (λ input. Appends old new (text input)))
-    lists-all r printed end = on_ok_weaker r (lists-whole printed) end
+      pub lists-all :
+          {T E : Type 0} (r : Result T E) → OnOk r (ListedWhole opens room left rest old new) →
+          OnOk r (IfSome left (λ input. Appends old new (text input)))
+      lists-all r x = on_ok_weaker r lists-whole x

@@ -4,9 +4,8 @@ use Rattle.molecule.specs.declared.Molecule.{Molecule}
 use Rattle.molecule.specs.Record.{well_formed}
 use Rattle.search.specs.declared.Search.{Search}
 use Rattle.history.specs.Calls.{Call, start, standing, History}
-use Rattle.listing.specs.declared.Part.{Part}
-use Rattle.listing.specs.declared.Part.TheVariants.{Refused, Rings, Counts}
 use Rattle.listing.specs.declared.Listing.{Listing}
+use Rattle.listing.specs.declared.Listing.TheVariants.{Refused, Rings, Counts}
 
 -- q stands after some list of calls on the record m that began with the fresh ring search: what demand 3 speaks of
 pub record Stands (m : Molecule) (q : Search) : Type 0 where
@@ -15,10 +14,7 @@ pub record Stands (m : Molecule) (q : Search) : Type 0 where
   pub history : History m (start 0 0 0) calls
   pub search_is : q ≡ (standing (start 0 0 0) calls).search
 
-abbrev pub SoundBy : Part → Molecule → Search → Type 0
-SoundBy (Refused r) m q = Unit {0}
-SoundBy Rings m q = Stands m q
-SoundBy Counts m q = Unit {0}
-
 abbrev pub Sound : Listing → Type 0
-Sound l = SoundBy l.part l.molecule l.search
+Sound (Refused r) = Unit {0}
+Sound (Rings m q) = Stands m q
+Sound (Counts q) = Unit {0}

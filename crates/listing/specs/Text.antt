@@ -1,15 +1,13 @@
 -- What is printed for what an input was read as (document 01, "Judge, host entry and `ringlist`").
-use Rattle.std.specs.Prelude.{ℕ, ◌*◌, List, ◌++◌, take}
+use Rattle.std.specs.Prelude.{ℕ, ◌*◌, List, ◌++◌, take, Err, Ok, Result}
 use Rattle.enumeration.specs.Words.{Family, members}
 use Rattle.enumeration.specs.Machine.{State, fresh}
 use Rattle.enumeration.specs.Run.{Outcome, limit, run}
-use Rattle.refusal.specs.declared.Answer.{Answer}
-use Rattle.refusal.specs.declared.Answer.TheVariants.{Accepted, Refused}
 use Rattle.refusal.specs.Number.{number_of}
 use Rattle.molecule.specs.declared.Molecule.{Molecule}
-use Rattle.bonds.specs.declared.Reading.{Reading}
 use Rattle.search.specs.Place.{family_of}
 use Rattle.report.specs.Lines.{refusal_line, lines_of, count_line}
+use Rattle.refusal.specs.declared.Refusal.{Refusal}
 
 -- The rings of a molecule, as a family
 abbrev pub rings_of : Molecule → Family
@@ -26,11 +24,7 @@ listing_text m st =
     lines_of (take st.listed (members (rings_of m)))
     ++ count_line st.listed st.extensions st.trials
 
--- The text of an input that is accepted, or refused by a rule
-abbrev pub answer_text : Answer → Molecule → List ℕ
-answer_text Accepted m = listing_text m (whole_run m).state
-answer_text (Refused r) m = refusal_line (number_of r)
-
--- The text of what an input was read as
-abbrev pub reading_text : Reading → List ℕ
-reading_text read = answer_text read.answer read.molecule
+-- The text of what an input was read as: it is accepted, or refused by a rule
+abbrev pub reading_text : Result Molecule Refusal → List ℕ
+reading_text (Ok m) = listing_text m (whole_run m).state
+reading_text (Err r) = refusal_line (number_of r)

@@ -6,106 +6,71 @@
 // holds is known by their own contracts, and of standard input and output no contract says it.
 #![tactic(auto)]
 
-ghost use Rattle.std.specs.Prelude.{◌≡◌, ◌<◌, ◌≤◌, length, take, OnOk};
+ghost use Rattle.std.specs.Prelude.{List, ℕ, ◌≡◌, ◌<◌, ◌≤◌, length, take, OnOk};
+ghost use Rattle.std.specs.Fn.{FnOnceReturnsAt};
 ghost use Rattle.std.specs.Io.KnownBytes.{Appends, Consumes, IsAtEnd};
-ghost use Rattle.listing.specs.Turns.{begun, begun_reading, output, part_after_stop, part_after};
+ghost use Rattle.listing.specs.Turns.{begun_reading, output, after_stop, last_turn};
 ghost use Rattle.listing.specs.Sound.{Sound};
-ghost use Rattle.listing.specs.Printing.{piece, AppendsPart, PrintsOn, PrintsPart};
-ghost use Rattle.listing.specs.Turns.{turn_of, rings_turn, rings_on, turned, turned_text};
+ghost use Rattle.listing.specs.Printing.{piece, AppendsPart, PrintsOn, PrintsPart, ListedWhole, ListedPart};
+ghost use Rattle.listing.specs.declared.Listing.{Listing};
+ghost use Rattle.listing.specs.Turns.{rings_turn, rings_on, turned, turned_text};
 
-use bonds::Reading;
 use enumeration::Stop;
 use molecule::Molecule;
-use refusal::{Answer, Refusal};
-use search::{Ended, Search};
+use refusal::Refusal;
+use search::Search;
 use std::io;
 use std::io::{Read, Write};
 
-// What comes next: the line of a refusal, the lines of the rings of one more run, or the line of counts.
+// A listing by what comes next: the line of a refusal, the lines of the rings of one more run of a search on a
+// molecule, or the line of its counts.
 #[derive(Clone, Copy)]
-pub enum Part {
+pub enum Listing {
     Refused(Refusal),
-    Rings,
-    Counts,
+    Rings(Molecule, Search),
+    Counts(Search),
 }
 
-// A listing as it stands: what comes next, the molecule, and its search.
-#[derive(Clone, Copy)]
-pub struct Listing {
-    part: Part,
-    molecule: Molecule,
-    search: Search,
-}
-
-// What a turn leaves: the listing, the bytes of the piece, and whether it is the last one.
+// What a turn leaves: the bytes of the piece, and the listing of the next one, if it was not the last.
 #[derive(Clone, Copy)]
 pub struct Turn {
-    pub listing: Listing,
     pub size: usize,
-    pub last: bool,
+    pub next: Option<Listing>,
 }
 
-fn part_after_stop(stop: Stop) -> Part
-    ensures { result ≡ part_after_stop stop }
+// What comes after a run that stopped.
+fn after_stop(m: Molecule, q: Search, stop: Stop) -> Listing
+    ensures { result ≡ after_stop m q stop }
 {
     match stop {
-        Stop::Done => Part::Counts,
-        Stop::Limit => Part::Counts,
-        Stop::Spent => Part::Rings,
-        Stop::Full => Part::Rings,
-    }
-}
-
-// What comes after a run.
-fn part_after(ended: Ended) -> Part
-    ensures { result ≡ part_after ended }
-{
-    match ended {
-        Ended::Stopped(stop) => part_after_stop(stop),
-        Ended::Refused(_) => Part::Counts,
-    }
-}
-
-// A listing with the fresh ring search.
-fn begin(part: Part, m: Molecule) -> Listing
-    ensures { result ≡ begun part m }
-{
-    let made = start::start_rings(m);
-    let search = made.search;
-    Listing {
-        part: part,
-        molecule: m,
-        search: search,
+        Stop::Done | Stop::Limit => Listing::Counts(q),
+        Stop::Spent | Stop::Full => Listing::Rings(m, q),
     }
 }
 
 // The listing of what a text was read as, before its first piece.
-pub fn open(read: Reading) -> Listing
+pub fn open(read: Result<Molecule, Refusal>) -> Listing
     ensures { result ≡ begun_reading read }
 {
-    let m = read.molecule;
-    let answer = read.answer;
-    match answer {
-        Answer::Accepted => begin(Part::Rings, m),
-        Answer::Refused(r) => begin(Part::Refused(r), m),
+    match read {
+        Ok(m) => Listing::Rings(m, search::fresh_search(0, 0, 0)),
+        Err(r) => Listing::Refused(r),
     }
 }
 
 // 16,384 bytes for the records of a run.
+// Of the size that the definition `output` names, as `piece` is of its own.
 fn output() -> [u8; 16384]
     ensures { result ≡ output }
 {
     [0; 16384]
 }
 
-fn turn_of(listing: Listing, size: usize, last: bool) -> Turn
-    ensures { result ≡ turn_of listing size last }
+// The turn of the last piece.
+fn last(size: usize) -> Turn
+    ensures { result ≡ last_turn size }
 {
-    Turn {
-        listing: listing,
-        size: size,
-        last: last,
-    }
+    Turn { size, next: None }
 }
 
 // One more run of the search, and the lines of the rings that it lists.
@@ -114,18 +79,16 @@ fn list_more(m: Molecule, q: Search, text: &mut [u8]) -> Turn
         × (text.new ≡ rings_on m q text.old) }
 {
     let mut out = output();
-    let ran = run::run(m, q, 1_048_576, &mut out);
-    let used = ran.used;
-    let size = report::ring_lines(&out[..used], text);
-    let search = ran.search;
-    let ended = ran.ended;
-    let part = part_after(ended);
-    let listing = Listing {
-        part: part,
-        molecule: m,
-        search: search,
-    };
-    turn_of(listing, size, false)
+    match run::run(m, q, 1_048_576, &mut out) {
+        Ok(ran) => Turn {
+            size: report::ring_lines(&out[..ran.used], text),
+            next: Some(after_stop(m, ran.search, ran.stop)),
+        },
+        Err(_) => Turn {
+            size: 0,
+            next: Some(Listing::Counts(q)),
+        },
+    }
 }
 
 // The next piece of the text, at the start of `text`.
@@ -133,20 +96,10 @@ pub fn take_turn(listing: Listing, text: &mut [u8]) -> Turn
     ensures { (result ≡ turned listing text.old)
         × (text.new ≡ turned_text listing text.old) }
 {
-    let part = listing.part;
-    let m = listing.molecule;
-    let q = listing.search;
-    match part {
-        Part::Refused(r) => {
-            let size = report::refusal_line(refusal::number(r), text);
-            turn_of(listing, size, true)
-        }
-        Part::Rings => list_more(m, q, text),
-        Part::Counts => turn_of(
-            listing,
-            report::count_line(q.listed, q.extensions, q.trials, text),
-            true,
-        ),
+    match listing {
+        Listing::Refused(r) => last(report::refusal_line(refusal::number(r), text)),
+        Listing::Rings(m, q) => list_more(m, q, text),
+        Listing::Counts(q) => last(report::count_line(q.listed, q.extensions, q.trials, text)),
     }
 }
 
@@ -158,6 +111,7 @@ fn piece() -> [u8; 65536]
 }
 
 // Writes all of `text`, or stops at the first write that takes nothing or fails, when some of it may be written.
+// std's `write_all` says nothing of what a failed call has written, and the clause `some` of `print` tells it.
 fn write_all<W: Write>(out: &mut W, text: &[u8]) -> io::Result<()>
     ensures all { OnOk result (Appends (W.contents out.old) (W.contents out.new) text.now) }
     ensures some { AppendsPart (W.contents out.old) (W.contents out.new) text.now }
@@ -183,16 +137,16 @@ pub fn print<W: Write>(begun: Listing, out: &mut W) -> io::Result<()>
     let mut piece = piece();
     loop {
         let turn = take_turn(listing, &mut piece);
-        let size = turn.size;
-        write_all(out, &piece[..size])?;
-        if turn.last {
+        write_all(out, &piece[..turn.size])?;
+        let Some(next) = turn.next else {
             return Ok(());
-        }
-        listing = turn.listing;
+        };
+        listing = next;
     }
 }
 
-// Reads until `input` is full, the reader ends or a read fails: the bytes read, and that failure.
+// Reads until `input` is full, the reader ends or a read fails: the bytes read, and that failure. No method of std's
+// tells how many bytes came before one.
 pub fn read_full<R: Read>(reader: &mut R, input: &mut [u8]) -> (usize, io::Result<()>)
     ensures within { result.0 ≤ length input.new }
     ensures bytes { Consumes (R.remaining reader.old) (R.remaining reader.new) (take result.0 input.new) }
@@ -207,4 +161,24 @@ pub fn read_full<R: Read>(reader: &mut R, input: &mut [u8]) -> (usize, io::Resul
         }
     }
     (done, Ok(()))
+}
+
+// Lists what a reader gives: it is read into `input` until that is full, `open` says which listing the bytes have, and
+// its text is printed; then a failure of the reader's is returned, if there was one.
+pub fn list<R: Read, W: Write, F: FnOnce(&[u8]) -> Listing>(
+    open: F,
+    input: &mut [u8],
+    reader: &mut R,
+    out: &mut W,
+) -> io::Result<()>
+    requires callable { F.IsAlwaysCallable «open» }
+    requires sound { (bytes : List ℕ) (l : Listing) → FnOnceReturnsAt F.FnOnce «open» bytes l → Sound l }
+    ensures all { OnOk result (ListedWhole (FnOnceReturnsAt F.FnOnce «open») (length input.old)
+        (R.remaining reader.old) (R.remaining reader.new) (W.contents out.old) (W.contents out.new)) }
+    ensures some { ListedPart (FnOnceReturnsAt F.FnOnce «open») (length input.old)
+        (R.remaining reader.old) (R.remaining reader.new) (W.contents out.old) (W.contents out.new) }
+{
+    let (size, read) = read_full(reader, input);
+    print(open(&input[..size]), out)?;
+    read
 }

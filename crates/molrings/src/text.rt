@@ -16,13 +16,15 @@ pub fn open(input: &[u8]) -> Listing
 }
 
 // 262,144 bytes for the input.
+// A function of its own: over the zeros written out in `list` the check did not end.
 pub fn buffer() -> [u8; 262144]
     ensures { length result ≡ 262144 }
 {
     [0; 262144]
 }
 
-// Prints the text of what the reader gives, and then returns a failure of the reader's, if there was one.
+// Prints the text of what the reader gives, of which the first 262,144 bytes are read, and then returns a failure of
+// the reader's, if there was one.
 pub fn list<R: Read, W: Write>(reader: &mut R, out: &mut W) -> io::Result<()>
     ensures all { OnOk result (IfSome (R.remaining reader.old)
         (λ input. Appends (W.contents out.old) (W.contents out.new) (molrings_text input))) }
@@ -30,7 +32,5 @@ pub fn list<R: Read, W: Write>(reader: &mut R, out: &mut W) -> io::Result<()>
         (W.contents out.old) (W.contents out.new) }
 {
     let mut input = buffer();
-    let (size, read) = listing::read_full(reader, &mut input);
-    listing::print(open(&input[..size]), out)?;
-    read
+    listing::list(|bytes| open(bytes), &mut input, reader, out)
 }

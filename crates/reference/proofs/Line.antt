@@ -1,17 +1,20 @@
 -- A line of the table holds when what it names computes: on the record of an accepted sheet no entry turns it back.
 -- Rule 9 is a law of accepted sheets, rule 12 one of fresh searches and of runs; the mark of such a search restores it.
+use Rattle.std.specs.Prelude.{Ok, Err, Result, is_ok}
 use Prim.Native.Nat.{ℕ, ◌*◌, ◌≤◌}
-use mathlib.Core.Path.{◌≡◌, sym, ap, ap₂, subst, ◌∙◌}
-use mathlib.Core.Bool.{true}
+use mathlib.Core.Path.{◌≡◌, refl, sym, ap, ap₂, subst, ◌∙◌}
+use mathlib.Core.Bool.{true, false}
 use mathlib.Core.List.{List, [], ◌∷◌, ◌++◌}
 use lib.ListN.{length, drop}
 use Rattle.enumeration.specs.Words.{members}
 use Rattle.enumeration.specs.Run.{Outcome}
 use Rattle.enumeration.specs.Trials.{Valid}
 use Rattle.enumeration.proofs.Theorems.{run-keeps-valid}
-use Rattle.refusal.specs.declared.Answer.TheVariants.{Accepted}
+use Rattle.graph.proofs.Below.{clash}
+use Rattle.refusal.specs.declared.Refusal.{Refusal}
+use Rattle.refusal.specs.Answers.{unless_refused}
 use Rattle.molecule.specs.declared.Molecule.{Molecule}
-use Rattle.molecule.specs.Record.{well_formed}
+use Rattle.molecule.specs.Record.{fresh_molecule, well_formed}
 use Rattle.molecule.specs.BondList.{Bond, bonds_to}
 use Rattle.molecule.proofs.Rules.{sound-of-rules}
 use Rattle.molecule.proofs.Bonds.{rule9}
@@ -20,9 +23,8 @@ use Rattle.sheet.specs.Read.{read_sheet}
 use Rattle.sheet.proofs.Accepted.{accepted-well-formed}
 use Rattle.search.specs.declared.Search.{Search}
 use Rattle.search.specs.declared.Ran.{Ran}
-use Rattle.search.specs.declared.Saved.TheVariants.{Written}
 use Rattle.search.specs.Place.{family_of, family, state_of, search_at, kind_kept, restorable}
-use Rattle.search.specs.Entries.{accepted_search, outcome, ran, run_search, run_output}
+use Rattle.search.specs.Entries.{outcome, ran, run_search, run_output}
 use Rattle.search.specs.Mark.{three_lines, bond_lines, mark_text, save_output, restore_mark}
 use Rattle.search.proofs.Readings.{family-lawful}
 use Rattle.search.proofs.Views.{restorable-valid, valid-full, fresh-restorable, run-restorable}
@@ -34,7 +36,7 @@ use Rattle.reference.specs.Table.{Line, molecule_of, fresh_of, Saves, Holds, All
 
 module _ (R : Molecule) (good : well_formed R ≡ true) where
   module _ (q : Search) (kept : restorable R q ≡ true) (budget : ℕ) (out : List ℕ) where
-    run-answers : run_search R q budget out ≡ ran q (outcome R q budget out)
+    run-answers : run_search R q budget out ≡ Ok (ran q (outcome R q budget out))
     unfolding run_search
     run-answers = rw (good, kept)
 
@@ -50,7 +52,7 @@ module _ (R : Molecule) (good : well_formed R ≡ true) where
     -- the mark of the search that it returns restores that search
     run-restores :
         let after = (ran q (outcome R q budget out)).search in
-        restore_mark R (mark_text R after) ≡ accepted_search after
+        restore_mark R (mark_text R after) ≡ Ok after
     run-restores =
         let F = family R q in
         let lawful = family-lawful R q.kind q.s q.t in
@@ -85,9 +87,16 @@ mark-within R q good =
     ap (λ (xs : List Bond). three_lines R q ++ bond_lines xs)
     (sym (bonds-within R.rows R.atoms rule.atoms_high sound))
 
+-- an accepted sheet is read as the record of its line
+read-as :
+    (answer : Result Molecule Refusal) → is_ok answer ≡ true →
+    answer ≡ Ok (unless_refused answer (λ r. fresh_molecule) (λ mol. mol))
+read-as (Ok mol) e = refl
+read-as (Err r) e = absurd (clash false e refl)
+
 -- What a line says where nothing is turned back: both sides of every equation compute
 pub record Computed (l : Line) : Type 0 where
-  pub reads : (read_sheet l.sheet).answer ≡ Accepted
+  pub reads : is_ok (read_sheet l.sheet) ≡ true
   pub kinds : kind_kept (molecule_of l).atoms l.kind l.s l.t ≡ true
   pub lists : members (family_of (molecule_of l) l.kind l.s l.t) ≡ l.list
   pub runs : entered l (outcome (molecule_of l) (fresh_of l) l.budget l.output) ≡ (l.returned, l.written)
@@ -108,8 +117,11 @@ module _ (l : Line) (c : Computed l) where
   abbrev after : Search
   after = l.returned.search
 
+  reads-as : read_sheet l.sheet ≡ Ok R
+  reads-as = read-as (read_sheet l.sheet) c.reads
+
   good : well_formed R ≡ true
-  good = accepted-well-formed l.sheet c.reads
+  good = accepted-well-formed l.sheet R reads-as
 
   fresh_kept : restorable R q ≡ true
   fresh_kept = fresh-restorable R l.kind l.s l.t good c.kinds
@@ -125,9 +137,9 @@ module _ (l : Line) (c : Computed l) where
       subst (λ (r : Ran). restorable R r.search ≡ true) returned-is
       (run-kept R good q fresh_kept l.budget l.output)
 
-  returned-restores : restore_mark R (mark_text R after) ≡ accepted_search after
+  returned-restores : restore_mark R (mark_text R after) ≡ Ok after
   returned-restores =
-      subst (λ (r : Ran). restore_mark R (mark_text R r.search) ≡ accepted_search r.search) returned-is
+      subst (λ (r : Ran). restore_mark R (mark_text R r.search) ≡ Ok r.search) returned-is
       (run-restores R good q fresh_kept l.budget l.output)
 
   mark_is : mark_text R after ≡ l.mark
@@ -141,17 +153,17 @@ module _ (l : Line) (c : Computed l) where
       let fits : length (mark_text R after) ≤ length buffer = rw mark-size room in
       let stays = ap₂ (λ (m : List ℕ) (k : ℕ). m ++ drop k buffer) mark_is mark-size in
       record {
-        answers = save_writes R after buffer good returned-kept fits ∙ ap Written mark-size;
+        answers = save_writes R after buffer good returned-kept fits ∙ ap Ok mark-size;
         leaves = save-leaves R good after buffer returned-kept fits ∙ stays;
       }
 
   line-holds : Holds l
   line-holds =
       record {
-        reads = c.reads;
+        reads = reads-as;
         starts = kept-starts R l.kind l.s l.t good c.kinds;
         lists = c.lists;
-        returns = run-answers R good q fresh_kept l.budget l.output ∙ returned-is;
+        returns = run-answers R good q fresh_kept l.budget l.output ∙ ap Ok returned-is;
         writes = run-leaves R good q fresh_kept l.budget l.output ∙ written_is;
         marks = mark_is;
         measures = c.measures;

@@ -1,24 +1,23 @@
 -- The table of the starred reference molecules (document 01), and what it says of each line: what the entries, by their
 -- own definitions, answer on the record that is read from the sheet's bytes.
-use Rattle.std.specs.Prelude.{ℕ, suc, ◌-◌, ◌≤◌, ◌≡◌, List, [], ◌∷◌, ◌++◌, reverse, length, drop, replicate}
+use Rattle.std.specs.Prelude.{ℕ, suc, ◌-◌, ◌≤◌, ◌≡◌, List, [], ◌∷◌, ◌++◌, reverse, length, drop, replicate, Ok, Result}
 use Prim.Native.String.{String}
 use Rattle.enumeration.specs.declared.Stop.{Stop}
 use Rattle.enumeration.specs.declared.Stop.TheVariants.{Done, Spent, Full}
 use Rattle.enumeration.specs.Words.{members}
 use Rattle.enumeration.specs.Trials.{records}
-use Rattle.refusal.specs.declared.Answer.TheVariants.{Accepted}
+use Rattle.refusal.specs.Answers.{unless_refused}
 use Rattle.molecule.specs.declared.Molecule.{Molecule}
+use Rattle.molecule.specs.Record.{fresh_molecule}
 use Rattle.sheet.specs.Read.{atoms_of, read_sheet}
 use Rattle.search.specs.declared.Search.{Search}
-use Rattle.search.specs.declared.Made.{Made}
 use Rattle.search.specs.declared.Ran.{Ran}
-use Rattle.search.specs.declared.Ended.TheVariants.{Stopped}
-use Rattle.search.specs.declared.Saved.TheVariants.{Written}
 use Rattle.search.specs.Place.{family_of, search_at, fresh_search}
-use Rattle.search.specs.Entries.{accepted_search, start_search, run_search, run_output}
+use Rattle.search.specs.Entries.{start_search, run_search, run_output}
 use Rattle.search.specs.Mark.{mark_text, save_answer, save_output, restore_mark}
 use Rattle.reference.specs.Text.{text}
 use Rattle.reference.specs.Molecules.{no_atoms, chain, five_ring, all_bonded, paper_sheet, two_to_three}
+use Rattle.refusal.specs.declared.Refusal.{Refusal}
 
 -- A line: the bytes of a sheet and a search on it, the list written out, and one run of the fresh search: its budget,
 -- the bytes of its output before it, what it returns, those
@@ -36,35 +35,35 @@ pub record Line : Type 0 where
   pub mark : List ℕ
   pub size : ℕ
 
--- the record that is read from its sheet
+-- the record that is read from its sheet; the fresh one where that is refused, which no line is
 abbrev pub molecule_of : Line → Molecule
-molecule_of l = (read_sheet l.sheet).molecule
+molecule_of l = unless_refused (read_sheet l.sheet) (λ r. fresh_molecule) (λ mol. mol)
 
 -- the fresh search, and what starting it answers
 abbrev pub fresh_of : Line → Search
 fresh_of l = fresh_search l.kind l.s l.t
 
-abbrev pub started : Line → Made
+abbrev pub started : Line → Result Search Refusal
 started l = start_search (molecule_of l) l.kind l.s l.t
 
 -- The save of the returned search into a buffer writes the mark and says its length; the bytes after it stay
 pub record Saves (l : Line) (buffer : List ℕ) : Type 0 where
-  pub answers : save_answer (molecule_of l) l.returned.search buffer ≡ Written l.size
+  pub answers : save_answer (molecule_of l) l.returned.search buffer ≡ Ok l.size
   pub leaves : save_output (molecule_of l) l.returned.search buffer ≡ l.mark ++ drop l.size buffer
 
 -- A line holds: the sheet is accepted and the search starts; the list is all its members in dictionary order; the run
 -- returns exactly this search, stop, bytes used and trials made, and leaves exactly these bytes; the mark of the search
 -- is exactly these bytes, so many; saving writes just them into any buffer with room; and they restore the search
 pub record Holds (l : Line) : Type 0 where
-  pub reads : (read_sheet l.sheet).answer ≡ Accepted
-  pub starts : started l ≡ accepted_search (fresh_of l)
+  pub reads : read_sheet l.sheet ≡ Ok (molecule_of l)
+  pub starts : started l ≡ Ok (fresh_of l)
   pub lists : members (family_of (molecule_of l) l.kind l.s l.t) ≡ l.list
-  pub returns : run_search (molecule_of l) (fresh_of l) l.budget l.output ≡ l.returned
+  pub returns : run_search (molecule_of l) (fresh_of l) l.budget l.output ≡ Ok l.returned
   pub writes : run_output (molecule_of l) (fresh_of l) l.budget l.output ≡ l.written
   pub marks : mark_text (molecule_of l) l.returned.search ≡ l.mark
   pub measures : length l.mark ≡ l.size
   pub saves : (buffer : List ℕ) → l.size ≤ length buffer → Saves l buffer
-  pub restores : restore_mark (molecule_of l) l.mark ≡ accepted_search l.returned.search
+  pub restores : restore_mark (molecule_of l) l.mark ≡ Ok l.returned.search
 
 -- Every line holds
 abbrev pub AllHold : List Line → Type 0
@@ -79,7 +78,7 @@ search_with kind s t p c listed extensions trials =
 
 -- What a run of the fresh search returns: as many trials made as the search counts
 abbrev pub ends : Stop → Search → ℕ → Ran
-ends stop q used = record { ended = Stopped stop; search = q; used = used; made = q.trials }
+ends stop q used = record { stop = stop; search = q; used = used; made = q.trials }
 
 -- bytes that stood in an output before a run
 abbrev pub old : ℕ → List ℕ

@@ -12,26 +12,25 @@ use lib.Dec.{ltb}
 use borrow.Author.Tests.{lt-ltb, le-ltb, ltb-true, ltb-false}
 use Rattle.enumeration.proofs.Basics.{Decided, decided}
 use Rattle.refusal.specs.declared.Refusal.TheVariants.{SheetLength}
-use Rattle.refusal.specs.declared.Answer.TheVariants.{Accepted}
 use Rattle.molecule.specs.Record.{well_formed}
-use Rattle.bonds.specs.declared.Reading.{Reading}
-use Rattle.bonds.specs.Reading.{refused_reading}
 use Rattle.sheet.specs.Read.{read_sheet}
 use Rattle.sheet.proofs.Accepted.{accepted-well-formed}
 use Rattle.listing.specs.declared.Listing.{Listing}
 use Rattle.listing.specs.Sound.{Sound}
 use Rattle.listing.specs.Text.{reading_text}
 use Rattle.listing.specs.Turns.{Prints}
-use Rattle.listing.specs.Printing.{piece, PrintsOn, PrintsPart, ListsPart}
-use Rattle.listing.proofs.Joined.{reading-sound, reading-prints}
-use Rattle.listing.proofs.Printing.{piece-room, Read}
+use Rattle.listing.specs.Printing.{piece, ListedPart, ListedWhole, ListsPart}
+use Rattle.listing.proofs.Joined.{Formed, reading-sound, reading-prints}
+use Rattle.listing.proofs.Printing.{piece-room}
 use Rattle.listing.proofs.Printing as printing
-use Rattle.std.specs.Prelude.{Option, Result, IfSome, OnOk}
-use Rattle.std.specs.Io.KnownBytes.{Appends, IsAtEnd}
+use Rattle.std.specs.Prelude.{Option, Result, IfSome, OnOk, Err, Ok}
+use Rattle.std.specs.Io.KnownBytes.{Appends}
 use Rattle.ringlist.specs.Text.{input_read, printed_text, opened}
+use Rattle.refusal.specs.declared.Refusal.{Refusal}
+use Rattle.molecule.specs.declared.Molecule.{Molecule}
 
 -- what an input is read as, by its length
-pub read-long : (input : List ℕ) → 65529 < length input → refused_reading SheetLength ≡ input_read input
+pub read-long : (input : List ℕ) → 65529 < length input → Err SheetLength ≡ input_read input
 unfolding input_read
 read-long input h = rw (lt-ltb 65529 (length input) h)
 
@@ -41,18 +40,16 @@ read_short input h = rw (le-ltb 65529 (length input) h)
 
 -- The text of an input of at most 65,529 bytes is that of the sheet
 pub short-input : (input : List ℕ) → length input ≤ 65529 → printed_text input ≡ reading_text (read_sheet input)
-short-input input h = ap (λ (x : Reading). reading_text x) (sym (read_short input h))
+short-input input h = ap (λ (x : Result Molecule Refusal). reading_text x) (sym (read_short input h))
 
 -- The record of an accepted input keeps rule 9
-input-formed : (input : List ℕ) → (input_read input).answer ≡ Accepted → well_formed (input_read input).molecule ≡ true
+input-formed : (input : List ℕ) → Formed (input_read input)
 unfolding input_read
-input-formed input = go (ltb 65529 (length input))
+input-formed input m = go (ltb 65529 (length input))
   where
-    go :
-        (long : Bool) → (cond long (refused_reading SheetLength) (read_sheet input)).answer ≡ Accepted →
-        well_formed (cond long (refused_reading SheetLength) (read_sheet input)).molecule ≡ true
+    go : (long : Bool) → cond long (Err SheetLength) (read_sheet input) ≡ Ok m → well_formed m ≡ true
     go true e = let z : ◌≡◌ {A = ℕ} 0 1 = cc in absurd (omega arith)
-    go false e = accepted-well-formed input e
+    go false e = accepted-well-formed input m e
 
 pub opened-sound : (input : List ℕ) → Sound (opened input)
 opened-sound input = reading-sound (input_read input) (input-formed input)
@@ -75,22 +72,22 @@ first_read input = by (decided (ltb 65536 (length input)))
         rw (size, lt-ltb 65529 (length input) (omega arith)) refl
 
 pub first-bytes : (input : List ℕ) → printed_text (take 65536 input) ≡ printed_text input
-first-bytes input = ap (λ (x : Reading). reading_text x) (first_read input)
+first-bytes input = ap (λ (x : Result Molecule Refusal). reading_text x) (first_read input)
 
 -- ---- what `list` prints for the bytes that it has read
 
 module _
-    (left rest old new : Option (List ℕ)) (n : ℕ) (buffer : List ℕ) {l : Listing}
-    (read : Read opened 65536 left rest n buffer l)
+    {opens : List ℕ → Listing → Type 0} (opens-one : (bytes : List ℕ) (l : Listing) → opens bytes l → l ≡ opened bytes)
+    (left rest old new : Option (List ℕ))
   where
-    pub lists-part : PrintsPart l old new → ListsPart printed_text left rest old new
+    pub lists-part : ListedPart opens 65536 left rest old new → ListsPart printed_text left rest old new
     lists-part =
-        printing.lists-part opened printed_text 65536 (λ input short. turns-joined piece piece-room input) first-bytes
-        left rest old new n buffer read
+        printing.lists-part opened printed_text 65536 opens-one (λ input short. turns-joined piece piece-room input)
+        first-bytes left rest old new
 
     pub lists-all :
-        {T E : Type 0} (r : Result T E) → PrintsOn l old new → OnOk r (n < length buffer → IsAtEnd rest) →
+        {T E : Type 0} (r : Result T E) → OnOk r (ListedWhole opens 65536 left rest old new) →
         OnOk r (IfSome left (λ input. Appends old new (printed_text input)))
     lists-all =
-        printing.lists-all opened printed_text 65536 (λ input short. turns-joined piece piece-room input) first-bytes
-        left rest old new n buffer read
+        printing.lists-all opened printed_text 65536 opens-one (λ input short. turns-joined piece piece-room input)
+        first-bytes left rest old new

@@ -20,4 +20,4 @@ pub returns : goal.returns
 unfolding check_code
 returns c =
     let checked = sym (c.well_formed-2.ensures ∙ ap well_formed c.assemble.ensures) in
-    rw (eq-eqb _ 2048 c.if-rows-ne2048.false, checked ∙ c.if-well_formed.false)
+    rw (eq-eqb _ 2048 c.if-rows-ne2048.false, checked ∙ c.if-well_formed.false, c.number.ensures)

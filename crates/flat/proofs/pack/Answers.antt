@@ -5,4 +5,4 @@ use Rattle.flat.proofs.pack.Goals as goal
 
 pub returns : goal.returns
 unfolding numbers_of
-returns c = record { words_are = c.copy_words.ensures; array_is = c.copy_from_slice.ensures.after }
+returns c = record { words_are = c.copy_from_slice.ensures.after; array_is = c.copy_from_slice-2.ensures.after }

@@ -5,17 +5,15 @@ use Rattle.flat.proofs.put_reading.Goals as goal
 
 pub returns-then-record-ne2052 : goal.returns-then-record-ne2052
 returns-then-record-ne2052 c =
-    let both = read-wrong-length c.args.read c.args.«record».now c.if-record-ne2052.true in
-    record { value = both.0; record_after = both.1 }
+    let (value, left) = read-wrong-length _ _ c.if-record-ne2052.true in
+    record { value = value; record_after = left }
 
-pub returns-in-Accepted : goal.returns-in-Accepted
-returns-in-Accepted c =
-    let both = read-accepted c.args.read c.args.«record».now c.if-record-ne2052.false c.in-Accepted.is
-    c.flatten.ensures in
-    record { value = both.0; record_after = both.1 }
+pub returns-in-Ok : goal.returns-in-Ok
+returns-in-Ok c =
+    let (value, left) = read-accepted _ c.if-record-ne2052.false _ c.flatten.ensures in
+    rw c.in-Ok.is (record { value = value; record_after = left })
 
-pub returns-in-Refused : goal.returns-in-Refused
-returns-in-Refused c =
-    let both = read-refused c.args.read c.args.«record».now c.if-record-ne2052.false c.in-Refused.is
-    c.number.ensures in
-    record { value = both.0; record_after = both.1 }
+pub returns-in-Err : goal.returns-in-Err
+returns-in-Err c =
+    let (value, left) = read-refused _ c.if-record-ne2052.false _ c.number.ensures in
+    rw c.in-Err.is (record { value = value; record_after = left })
