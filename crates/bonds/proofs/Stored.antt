@@ -46,20 +46,20 @@ module _ (n : ℕ) (bond : ℕ → Bond) (k : ℕ) where
 
 -- ---- the bonds passed
 
--- their atoms are from 1 to n, and `apart` is the answer of rule 7
-pub record BondsPassed (n : ℕ) (bond : ℕ → Bond) (m k : ℕ) (apart : Result ⊤ Refusal) : Type 0 where
+-- their atoms are from 1 to n, and `apart` tells whether none joins an atom to itself
+pub record BondsPassed (n : ℕ) (bond : ℕ → Bond) (m k : ℕ) (apart : Bool) : Type 0 where
   pub most : k ≤ m
   pub atoms : all_below k (within n bond) ≡ true
-  pub apart_is : apart ≡ cond (all_below k (differs bond)) (Ok _) (Err SelfBond)
+  pub apart_is : apart ≡ all_below k (differs bond)
 
-pub bonds-none : {n : ℕ} {bond : ℕ → Bond} {m : ℕ} → BondsPassed n bond m 0 (Ok _)
+pub bonds-none : {n : ℕ} {bond : ℕ → Bond} {m : ℕ} → BondsPassed n bond m 0 true
 bonds-none = record { most = omega arith; atoms = refl; apart_is = refl }
 
-module _ {n : ℕ} {bond : ℕ → Bond} {m k : ℕ} {apart : Result ⊤ Refusal} (passed : BondsPassed n bond m k apart) where
-  pub bonds-all : m ≤ k → apart ≡ bonds_answer n bond m
+module _ {n : ℕ} {bond : ℕ → Bond} {m k : ℕ} {apart : Bool} (passed : BondsPassed n bond m k apart) where
+  pub bonds-all : m ≤ k → cond apart (Ok _) (Err SelfBond) ≡ bonds_answer n bond m
   bonds-all last =
       let same : k ≡ m = omega (arith, passed.most) in
-      rw (atoms-kept-is, none-to-itself-is, rw same at passed.atoms) (rw same at passed.apart_is)
+      rw (atoms-kept-is, none-to-itself-is, rw same at passed.atoms, rw same at passed.apart_is) refl
 
   module _ (more : k < m) where
     pub bonds-broken : within n bond k ≡ false → Err BondAtom ≡ bonds_answer n bond m
@@ -67,7 +67,7 @@ module _ {n : ℕ} {bond : ℕ → Bond} {m k : ℕ} {apart : Result ⊤ Refusal
 
     -- one more bond, by whether its atoms are the same
     module _ (inside : within n bond k ≡ true) where
-      pub bonds-same : (bond k).0 ≡ (bond k).1 → BondsPassed n bond m (k + 1) (Err SelfBond)
+      pub bonds-same : (bond k).0 ≡ (bond k).1 → BondsPassed n bond m (k + 1) false
       unfolding differs
       bonds-same e =
           record {

@@ -13,16 +13,19 @@ use refusal::Refusal;
 fn check_bonds(n: usize, bonds: &[(u16, u16)]) -> Result<(), Refusal>
     ensures { result ≡ bonds_answer n (listed bonds.now) (length bonds.now) }
 {
-    let mut apart = Ok(());
+    let mut apart = true;
     for &(left, right) in bonds {
         if !is_atom(n, usize::from(left)) || !is_atom(n, usize::from(right)) {
             return Err(Refusal::BondAtom);
         }
         if left == right {
-            apart = Err(Refusal::SelfBond);
+            apart = false;
         }
     }
-    apart
+    if !apart {
+        return Err(Refusal::SelfBond);
+    }
+    Ok(())
 }
 
 // Sets the bit of row i and column j, both counted from 0.
@@ -38,7 +41,7 @@ fn fill(n: usize, bonds: &[(u16, u16)]) -> Result<Molecule, Refusal>
     requires { Fillable n (listed bonds.now) (length bonds.now) }
     ensures { result ≡ read_bonds n (listed bonds.now) (length bonds.now) }
 {
-    let mut rows = [0; 2048];
+    let mut rows = molecule::fresh().rows;
     for &(left, right) in bonds {
         let (i, j) = (usize::from(left) - 1, usize::from(right) - 1);
         if linked(&rows, i, j) {

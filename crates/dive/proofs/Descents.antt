@@ -250,8 +250,8 @@ module _ {w : Wanted} {most : ℕ} {from : Dived} {prefix₀ : List ℕ} {levels
 
       passed' : (i : ℕ) → from.at.len ≤ i → i < at.len → StageHere prefix levels' i (get_or prefix i 0 + 1)
       passed' i low h =
-          stage-same (k.passed i low h) refl refl (aim-past-rest levels at.len others deep_room i)
-          (λ e. aim-past-rest levels at.len others deep_room (suc i))
+          stage-same (k.passed i low h) refl refl (aim-past-rest levels at.len others i)
+          (λ e. aim-past-rest levels at.len others (suc i))
           (rest-kept-other levels at.len others i (λ e. omega arith))
 
       -- the trials before it

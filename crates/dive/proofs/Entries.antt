@@ -29,8 +29,9 @@ use Rattle.trial.specs.Parts.{stack_of, state_at, Unwound}
 use Rattle.trial.proofs.Arrays.{stack-length, unwound-most}
 use Rattle.dive.specs.declared.Dived.{Dived}
 use Rattle.dive.specs.declared.Level.{Level}
-use Rattle.dive.specs.Levels.{no_level, LevelRoom, kept_aim, LevelPlanned}
+use Rattle.dive.specs.Levels.{LevelRoom, kept_aim, kept_rest, LevelPlanned}
 use Rattle.dive.specs.Parts.{Starting, StartPlanned, Descent, Left, Entering, Descended, state_before}
+use Rattle.dive.proofs.Levels.{length-kept-aim, goal-kept-same, rest-kept-same, aim-past-rest}
 use Rattle.dive.proofs.Levels.{kept-steers, planned-led}
 
 -- a list of one atom
@@ -85,11 +86,12 @@ module _ {w : Wanted} {p : List ℕ} {first : Option FirstPlan} {levels : List L
       {kept : FirstPlan} (rest : List ℕ) → length p < first_length w.kind → first ≡ Some kept →
       p ≡ kept.atom ∷ [] → ((v : ℕ) → has rest v ≡ (has kept.plan.members v || has kept.plan.opens v)) →
       StartPlanned w p
-      (set levels (length p)
-      (record { aim = record { goal = kept.plan.members; free = kept.plan.opens }; rest = rest }))
+      (kept_rest (kept_aim levels (length p) (record { goal = kept.plan.members; free = kept.plan.opens })) (length p)
+      rest)
   starts-short {kept} rest few is word rest-is =
-      let level : Level = record { aim = record { goal = kept.plan.members; free = kept.plan.opens }; rest = rest } in
-      let here = get_or-set_same levels (length p) level no_level own-room in
+      let aim : Aim = record { goal = kept.plan.members; free = kept.plan.opens } in
+      let longer = kept_aim levels (length p) aim in
+      let room : LevelRoom (length p) longer = omega (arith, own-room, length-kept-aim levels (length p) aim) in
       let tells : Everywhere family p kept.plan = rw word (b.tells kept is) in
       record {
         some = some;
@@ -97,9 +99,11 @@ module _ {w : Wanted} {p : List ℕ} {first : Option FirstPlan} {levels : List L
           lawful = lawful;
           is_opened = rw (take-length p) b.begun.is_opened;
           long = λ h. absurd (omega arith);
-          short = λ h v. ap (λ (l : Level). has l.aim.goal v) here ∙ rw (take-length p) (tells v).members;
+          short = λ h v.
+              ap (λ (k : Aim). has k.goal v) (aim-past-rest longer (length p) rest (length p))
+              ∙ goal-kept-same levels (length p) aim own-room v ∙ rw (take-length p) (tells v).members;
           to_try = λ v low.
-              ap (λ (l : Level). has l.rest v) here ∙
+              rest-kept-same longer (length p) rest room v ∙
               rw (take-length p, le-leb 1 v low) (rest-is v ∙ ap₂ ◌||◌ (tells v).members (tells v).opens);
         };
       }

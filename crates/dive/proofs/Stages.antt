@@ -111,13 +111,12 @@ module _ {F : Family} {adj : Adjacency} {longest first : ℕ} {prefix : List ℕ
     stage-lowered {others} room left = record {
       lawful = s.lawful;
       is_opened = s.is_opened;
-      long = rw (aim-past-rest levels i others room i, aim-past-rest levels i others room (suc i)) s.long;
-      short = λ h u. ap (λ (aim : Aim). has aim.goal u) (aim-past-rest levels i others room i) ∙ s.short h u;
+      long = rw (aim-past-rest levels i others i, aim-past-rest levels i others (suc i)) s.long;
+      short = λ h u. ap (λ (aim : Aim). has aim.goal u) (aim-past-rest levels i others i) ∙ s.short h u;
       to_try = λ u some.
-          rw (rest-kept-same levels i others room)
-          (left.others v l u ∙
+          rest-kept-same levels i others room u ∙ left.others v l u ∙
           same_test (has (rest_in levels i) u && not (eqb u v)) (leb (v + 1) u && goes_on_by F here u)
-          (to u some) (back u some));
+          (to u some) (back u some);
     }
       where
         to :

@@ -7,12 +7,36 @@ use Rattle.enumeration.specs.Words.{Family, is_open}
 use Rattle.enumeration.specs.Lawful.{Lawful}
 use Rattle.atomset.specs.Set.{has}
 use Rattle.openness.specs.declared.Aim.{Aim}
+use Rattle.dive.specs.declared.LevelWords.{LevelWords}
 use Rattle.dive.specs.declared.Level.{Level}
 use Rattle.openness.specs.Plan.{HandedOn, EachOpens, Steered}
 
--- nothing is kept
+-- no atoms
+abbrev pub no_words : LevelWords
+no_words = record { goal = 0; free = 0; rest = 0 }
+
 abbrev pub no_level : Level
-no_level = record { aim = record { goal = []; free = [] }; rest = [] }
+no_level = record { low = no_words; high = no_words }
+
+-- the sets of a level, each by its two words
+abbrev pub aim_of : Level → Aim
+aim_of l = record { goal = l.low.goal ∷ l.high.goal ∷ []; free = l.low.free ∷ l.high.free ∷ [] }
+
+abbrev pub rest_of : Level → List ℕ
+rest_of l = l.low.rest ∷ l.high.rest ∷ []
+
+-- a level with other sets that steer, and with other atoms to be tried
+abbrev pub with_aim : Level → Aim → Level
+with_aim l aim = record {
+  low = record { goal = get_or aim.goal 0 0; free = get_or aim.free 0 0; rest = l.low.rest };
+  high = record { goal = get_or aim.goal 1 0; free = get_or aim.free 1 0; rest = l.high.rest };
+}
+
+abbrev pub with_rest : Level → List ℕ → Level
+with_rest l rest = record {
+  low = record { goal = l.low.goal; free = l.low.free; rest = get_or rest 0 0 };
+  high = record { goal = l.high.goal; free = l.high.free; rest = get_or rest 1 0 };
+}
 
 -- there is room for what is kept of the beginnings of i atoms, and so of shorter ones
 abbrev pub LevelRoom : ℕ → List Level → Type 0
@@ -20,17 +44,17 @@ LevelRoom i levels = i < length levels
 
 -- the two sets that steer the beginnings of i atoms
 abbrev pub aim_in : List Level → ℕ → Aim
-aim_in levels i = (get_or levels i no_level).aim
+aim_in levels i = aim_of (get_or levels i no_level)
 
 -- the atoms still to be tried at the beginning of i atoms
 abbrev pub rest_in : List Level → ℕ → List ℕ
-rest_in levels i = (get_or levels i no_level).rest
+rest_in levels i = rest_of (get_or levels i no_level)
 
 abbrev pub kept_aim : List Level → ℕ → Aim → List Level
-kept_aim levels i aim = set levels i (record { aim = aim; rest = rest_in levels i })
+kept_aim levels i aim = set levels i (with_aim (get_or levels i no_level) aim)
 
 abbrev pub kept_rest : List Level → ℕ → List ℕ → List Level
-kept_rest levels i rest = set levels i (record { aim = aim_in levels i; rest = rest })
+kept_rest levels i rest = set levels i (with_rest (get_or levels i no_level) rest)
 
 -- v makes a member of the beginning p, or opens it
 abbrev pub goes_on_by : Family → List ℕ → ℕ → Bool

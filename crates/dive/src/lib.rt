@@ -5,7 +5,8 @@
 ghost use Rattle.std.specs.Prelude.{◌≡◌, true, suc, ◌-◌, ◌≤◌, ◌<◌, length};
 ghost use Rattle.enumeration.specs.Run.{limit};
 ghost use Rattle.atomset.specs.Set.{linked_by};
-ghost use Rattle.openness.specs.Plan.{family_wanted, most_atoms, steps_left, first_length, BothWays};
+ghost use Rattle.openness.specs.Plan.{family_wanted, most_atoms, first_length, BothWays};
+ghost use Rattle.dive.specs.Levels.{no_level, aim_of, rest_of, with_aim, with_rest};
 ghost use Rattle.dive.specs.Levels.{LevelRoom, LevelPlanned, LevelAdded};
 ghost use Rattle.dive.specs.Parts.{Rising, listed_at, extended_at, dropped_at, Room, Added, Starting};
 ghost use Rattle.dive.specs.Parts.{StartPlanned, Descent, Left, Entering, Descended};
@@ -17,11 +18,73 @@ use trial::Spot;
 // One more than the trials of a turn of the fast loop.
 const NEAR: u64 = 129;
 
+// A word of each set of a level.
+#[derive(Clone, Copy)]
+pub struct LevelWords {
+    pub goal: u64,
+    pub free: u64,
+    pub rest: u64,
+}
+
 // What is kept for the beginnings of one length: the two sets that steer them, and the atoms still to be tried.
+// The lower words of the sets stand together, and the upper ones: the two words of one set beside each other would be
+// joined to one load of 16 bytes, which waits for the two stores before it (`docs/DECISIONS.md`, 40).
 #[derive(Clone, Copy)]
 pub struct Level {
-    pub aim: Aim,
-    pub rest: [u64; 2],
+    pub low: LevelWords,
+    pub high: LevelWords,
+}
+
+impl Level {
+    // No atoms.
+    pub fn empty() -> Level
+        ensures { result ≡ no_level }
+    {
+        let none = LevelWords {
+            goal: 0,
+            free: 0,
+            rest: 0,
+        };
+        Level {
+            low: none,
+            high: none,
+        }
+    }
+
+    // The two sets that steer.
+    fn aim(self) -> Aim
+        ensures { result ≡ aim_of self }
+    {
+        Aim {
+            goal: [self.low.goal, self.high.goal],
+            free: [self.low.free, self.high.free],
+        }
+    }
+
+    // The atoms still to be tried.
+    fn rest(self) -> [u64; 2]
+        ensures { result ≡ rest_of self }
+    {
+        [self.low.rest, self.high.rest]
+    }
+
+    // Keeps two sets that steer.
+    fn keep_aim(&mut self, aim: Aim)
+        ensures { self.new ≡ with_aim self.old aim }
+    {
+        self.low.goal = aim.goal[0];
+        self.low.free = aim.free[0];
+        self.high.goal = aim.goal[1];
+        self.high.free = aim.free[1];
+    }
+
+    // Keeps atoms to be tried.
+    fn keep_rest(&mut self, rest: [u64; 2])
+        ensures { self.new ≡ with_rest self.old rest }
+    {
+        self.low.rest = rest[0];
+        self.high.rest = rest[1];
+    }
 }
 
 // Where the fast loop enters or has left the search, and the bytes used.
@@ -31,21 +94,19 @@ pub struct Dived {
     pub used: usize,
 }
 
-// Plans the beginning of `len` atoms with the last atom x: keeps the atoms to be tried, and the sets of the beginnings
-// that have an atom more.
-fn plan_level(wanted: Wanted<'_>, levels: &mut [Level], len: usize, x: usize)
+// Plans the beginning of `len` atoms with the last atom x, past which so many steps are left: keeps the atoms to be
+// tried, and the sets of the beginnings that have an atom more.
+fn plan_level(wanted: Wanted<'_>, levels: &mut [Level], len: usize, x: usize, steps: usize)
     requires { BothWays wanted.kind (linked_by wanted.table.now) × (len ≤ 127) × (1 ≤ x) × (x ≤ 128) ×
-        (len < most_atoms wanted.kind wanted.s) × LevelRoom (suc len) levels.old }
-    ensures { LevelPlanned (linked_by wanted.entry.table.now) wanted.entry.kind x len
-        (steps_left wanted.entry.kind wanted.entry.s len) levels.old levels.new }
+        LevelRoom (suc len) levels.old }
+    ensures { LevelPlanned (linked_by wanted.entry.table.now) wanted.entry.kind x len steps levels.old levels.new }
 {
-    let aim = levels[len].aim;
+    let aim = levels[len].aim();
     let next = openness::aim_after(wanted.table, aim, x);
-    let steps = openness::steps_left(wanted.kind, wanted.s, len);
     let plan = openness::plan_by(wanted.table, wanted.kind, aim, next, x, steps);
     let rest = atomset::union(plan.members, plan.opens);
-    levels[len + 1].aim = next;
-    levels[len].rest = rest;
+    levels[len + 1].keep_aim(next);
+    levels[len].keep_rest(rest);
 }
 
 // Plans the beginning that has got its last atom x. The sets of a longer one were handed on; those of the shortest that
@@ -59,9 +120,10 @@ fn plan_added(wanted: Wanted<'_>, beginning: &[u8], levels: &mut [Level], x: usi
     let len = beginning.len();
     if len == openness::first_length(wanted.kind) {
         let aim = openness::first_aim(wanted, beginning);
-        levels[len].aim = aim;
+        levels[len].keep_aim(aim);
     }
-    plan_level(wanted, levels, len, x);
+    let steps = openness::steps_left(wanted.kind, wanted.s, len);
+    plan_level(wanted, levels, len, x, steps);
 }
 
 // The place after the trials from the next atom up to v, of which the last lists its word.
@@ -125,7 +187,8 @@ fn dive(
             break;
         }
         let len = at.len;
-        let Level { aim, rest } = levels[len];
+        let level = levels[len];
+        let rest = level.rest();
         if atomset::is_empty(rest) {
             let last = usize::from(prefix[len - 1]);
             prefix[len - 1] = 0;
@@ -133,7 +196,8 @@ fn dive(
         } else {
             let v = atomset::lowest(rest);
             let others = atomset::without_lowest(rest);
-            levels[len].rest = others;
+            levels[len].keep_rest(others);
+            let aim = level.aim();
             if atomset::lowest_in(rest, others, aim.goal) {
                 if out.len() - used < len + 2 {
                     break;
@@ -175,8 +239,9 @@ fn plan_start(
     let len = beginning.len();
     if openness::first_length(wanted.kind) <= len {
         let aim = openness::aim_at(wanted, beginning);
-        levels[len].aim = aim;
-        plan_level(wanted, levels, len, usize::from(beginning[len - 1]));
+        levels[len].keep_aim(aim);
+        let steps = openness::steps_left(wanted.kind, wanted.s, len);
+        plan_level(wanted, levels, len, usize::from(beginning[len - 1]), steps);
         return true;
     }
     match first {
@@ -187,7 +252,8 @@ fn plan_start(
                 free: opens,
             };
             let rest = atomset::union(members, opens);
-            levels[len] = Level { aim, rest };
+            levels[len].keep_aim(aim);
+            levels[len].keep_rest(rest);
             true
         }
         _ => false,

@@ -12,25 +12,10 @@ use lib.ListN.{length, get_or, take, drop, set, length-set, drop_of_length-le}
 use lib.Seq.{drop-cons, set_split, drop_at, length-take-le, append_snoc}
 use lib.Dec.{leb, ltb, eqb}
 use borrow.Author.Tests.{lt-ltb, le-leb, lt-leb, leb-true, eq-eqb, ne_eqb}
-use Rattle.fields.specs.Field.{number, limit, is_digit, digit_of, may_follow, digits, after_blanks, column, columns, field_text}
+use Rattle.fields.specs.Field.{number, limit, is_digit, may_follow, digits, after_blanks, column, columns, field_text}
 use Rattle.fields.proofs.Digits.{both}
 
 -- ---- the readers
-
--- what `digit_of` told
-no-digit : (b : ℕ) → None ≡ digit_of b → is_digit b ≡ false
-no-digit b = go (is_digit b)
-  where
-    go : (t : Bool) → None ≡ cond t (Some (b - 48)) None → t ≡ false
-    go false e = refl
-    go true e = absurd (true≢false (ap is_some (sym e)))
-
-some-digit : (b d : ℕ) → Some d ≡ digit_of b → (is_digit b ≡ true) × (b - 48 ≡ d)
-some-digit b d = go (is_digit b)
-  where
-    go : (t : Bool) → Some d ≡ cond t (Some (b - 48)) None → (t ≡ true) × (b - 48 ≡ d)
-    go true e = (refl, cc)
-    go false e = absurd (true≢false (ap is_some e))
 
 module _ (s : List ℕ) (i : ℕ) (zeros : Bool) where
   -- the byte at i, and the bytes after it
@@ -65,28 +50,25 @@ module _ (s : List ℕ) (i : ℕ) (zeros : Bool) where
     unfolding after_blanks
     field-turn = rw (drop-cons s i 0 inside, add-one)
 
-    pub digits-stop : (v : ℕ) → None ≡ digit_of byte_at → digits zeros v (drop i s) ≡ None
-    digits-stop v none = digits-turn v ∙ simp (no-digit byte_at none)
+    pub digits-stop : (v : ℕ) → is_digit byte_at ≡ false → digits zeros v (drop i s) ≡ None
+    digits-stop v other = digits-turn v ∙ simp other
 
     pub field-blank : byte_at ≡ 32 → after_blanks zeros (drop i s) ≡ after_blanks zeros rest_at
     field-blank blank = field-turn ∙ simp (eq-eqb byte_at 32 blank)
 
-    pub field-stop : byte_at ≢ 32 → None ≡ digit_of byte_at → after_blanks zeros (drop i s) ≡ None
-    field-stop other none = field-turn ∙ simp (ne_eqb byte_at 32 other, no-digit byte_at none)
+    pub field-stop : byte_at ≢ 32 → is_digit byte_at ≡ false → after_blanks zeros (drop i s) ≡ None
+    field-stop black other = field-turn ∙ simp (ne_eqb byte_at 32 black, other)
 
     -- a digit worth d stands there
-    module _ (d : ℕ) (is : Some d ≡ digit_of byte_at) where
-      digit : (is_digit byte_at ≡ true) × (byte_at - 48 ≡ d)
-      digit = some-digit byte_at d is
-
+    module _ (is : is_digit byte_at ≡ true) {d : ℕ} (worth : d ≡ byte_at - 48) where
       pub field-digit : byte_at ≢ 32 → after_blanks zeros (drop i s) ≡ digits zeros d rest_at
-      field-digit other = field-turn ∙ simp (ne_eqb byte_at 32 other, digit.0, digit.1)
+      field-digit other = rw worth (field-turn ∙ simp (ne_eqb byte_at 32 other, is))
 
       module _ (v : ℕ) where
         digit-turn :
             digits zeros v (drop i s)
             ≡ cond (may_follow zeros v && leb (v * 10 + d) limit) (digits zeros (v * 10 + d) rest_at) None
-        digit-turn = digits-turn v ∙ simp (digit.0, digit.1)
+        digit-turn = rw worth (digits-turn v ∙ simp is)
 
         pub digits-alone : may_follow zeros v ≡ false → digits zeros v (drop i s) ≡ None
         digits-alone alone = digit-turn ∙ simp alone
@@ -100,8 +82,8 @@ module _ (s : List ℕ) (i : ℕ) (zeros : Bool) where
             may_follow zeros v ≡ true → v ≤ 999999999999999999 →
             digits zeros v (drop i s) ≡ digits zeros (v * 10 + d) rest_at
         digits_more may room =
-            let high = leb-true byte_at 57 (both (leb 48 byte_at) (leb byte_at 57) digit.0).1 in
-            digit-turn ∙ simp (may, le-leb (v * 10 + d) limit (omega (arith, digit.1)))
+            let high = leb-true byte_at 57 (both (leb 48 byte_at) (leb byte_at 57) is).1 in
+            digit-turn ∙ simp (may, le-leb (v * 10 + d) limit (omega (arith, worth)))
 
 -- ---- the writer
 

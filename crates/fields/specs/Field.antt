@@ -15,10 +15,6 @@ limit = 9999999999999999999
 abbrev pub is_digit : ℕ → Bool
 is_digit b = leb 48 b && leb b 57
 
--- what a digit is worth
-abbrev pub digit_of : ℕ → Option ℕ
-digit_of b = cond (is_digit b) (Some (b - 48)) None
-
 -- whether a digit may follow digits worth v: unless leading zeros are allowed, a 0 stands alone
 abbrev pub may_follow : Bool → ℕ → Bool
 may_follow zeros v = zeros || ltb 0 v

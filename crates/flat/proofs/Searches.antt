@@ -15,7 +15,7 @@ use Rattle.molecule.specs.declared.Molecule.{Molecule}
 use Rattle.search.specs.declared.Search.{Search}
 use Rattle.search.specs.declared.Ran.{Ran}
 use Rattle.search.specs.declared.Form.TheVariants.{New}
-use Rattle.search.specs.Entries.{run_search, run_output, ended_number}
+use Rattle.search.specs.Entries.{run_search, run_output, ended, ended_number}
 use Rattle.search.specs.Mark.{save_answer, save_output}
 use Rattle.search.proofs.MarkLaws.{save-written}
 use Rattle.search.proofs.FormLaws.{form-most}
@@ -98,7 +98,7 @@ module _ {rows numbers prefix : List ℕ} {atoms bonds budget : ℕ} {out : List
       let q = search_from numbers prefix in
       let ran = run_search mol q budget out in
       record {
-        code_is = sized-not short (ended_number ran) wrong_length;
+        code_is = sized-not short (ended_number (ended ran)) wrong_length;
         numbers_are = sized-not short (ran_numbers ran numbers) numbers;
         prefix_is = sized-not short (ran_prefix ran prefix) prefix;
         out_is = sized-not short (run_output mol q budget out) out;

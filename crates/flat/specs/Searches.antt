@@ -6,7 +6,7 @@ use Rattle.refusal.specs.Number.{number_of}
 use Rattle.molecule.specs.declared.Molecule.{Molecule}
 use Rattle.search.specs.declared.Search.{Search}
 use Rattle.search.specs.declared.Ran.{Ran}
-use Rattle.search.specs.Entries.{run_search, run_output, ended_number}
+use Rattle.search.specs.Entries.{run_search, run_output, ended, ended_number}
 use Rattle.search.specs.Mark.{save_answer, save_output}
 use Rattle.flat.specs.Codes.{wrong_length, answer_code, if_accepted, molecule}
 
@@ -86,7 +86,7 @@ ran_prefix (Err r) prefix = prefix
 -- the code of a run, and the numbers and the array after it
 pub record RanStored
     (ran : Result Ran Refusal) (numbers prefix : List ℕ) (code : ℕ) (numbers' prefix' : List ℕ) : Type 0 where
-  pub code_is : code ≡ ended_number ran
+  pub code_is : code ≡ ended_number (ended ran)
   pub numbers_are : numbers' ≡ ran_numbers ran numbers
   pub prefix_is : prefix' ≡ ran_prefix ran prefix
 
@@ -103,7 +103,7 @@ module _ (atoms bonds : ℕ) (rows numbers prefix : List ℕ) where
   q = search_from numbers prefix
 
   pub record RunLeft (budget : ℕ) (out : List ℕ) (code : ℕ) (numbers' prefix' out' : List ℕ) : Type 0 where
-    pub code_is : code ≡ sized rows numbers prefix (ended_number (run_search mol q budget out)) wrong_length
+    pub code_is : code ≡ sized rows numbers prefix (ended_number (ended (run_search mol q budget out))) wrong_length
     pub numbers_are : numbers' ≡ sized rows numbers prefix (ran_numbers (run_search mol q budget out) numbers) numbers
     pub prefix_is : prefix' ≡ sized rows numbers prefix (ran_prefix (run_search mol q budget out) prefix) prefix
     pub out_is : out' ≡ sized rows numbers prefix (run_output mol q budget out) out

@@ -27,7 +27,7 @@ use Rattle.sheet.proofs.Accepted.{accepted-well-formed}
 use Rattle.search.specs.declared.Search.{Search}
 use Rattle.search.specs.declared.Ran.{Ran}
 use Rattle.search.specs.Place.{family, state_of, search_at, fresh_search, kind_kept, restorable}
-use Rattle.search.specs.Entries.{start_rings, outcome, ran, run_search, run_output, search_after, ended_number}
+use Rattle.search.specs.Entries.{start_rings, outcome, ran, run_search, run_output, search_after, ended, ended_number}
 use Rattle.search.specs.declared.Form.TheVariants.{New}
 use Rattle.search.specs.Mark.{mark_text, save_output, restore_mark}
 use Rattle.search.proofs.Restores.{restored-facts}
@@ -249,7 +249,8 @@ module _ (sheet mark : List ℕ) (budget : ℕ) (rings next : List ℕ) where
         record {
           ran = r ok budget rings;
           stopped = run;
-          number_is = sym (ap (λ (x : Resumed). x.number) is) ∙ ap ended_number run;
+          number_is =
+              sym (ap (λ (x : Resumed). x.number) is) ∙ ap (λ (x : Result Ran Refusal). ended_number (ended x)) run;
           rings_are = sym (ap (λ (x : Resumed). x.rings) is) ∙ wrote-is ok budget rings;
           mark_is = written room;
           mark_fits = result_fits ok budget rings;

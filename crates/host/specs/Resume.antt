@@ -5,7 +5,7 @@ use Rattle.refusal.specs.declared.Refusal.{Refusal}
 use Rattle.refusal.specs.Number.{number_of}
 use Rattle.molecule.specs.declared.Molecule.{Molecule}
 use Rattle.search.specs.declared.Search.{Search}
-use Rattle.search.specs.Entries.{start_rings, run_search, run_output, search_after, ended_number}
+use Rattle.search.specs.Entries.{start_rings, run_search, run_output, search_after, ended, ended_number}
 use Rattle.search.specs.Mark.{field_kept, value_at, mark_bonds, mark_length, save_output, restore_mark}
 use Rattle.host.specs.Gate.{gated}
 
@@ -28,7 +28,7 @@ unfoldable pub run_and_save : Molecule → Search → ℕ → List ℕ → List 
 run_and_save mol q budget rings next =
     let ran = run_search mol q budget rings in
     record {
-      number = ended_number ran;
+      number = ended_number (ended ran);
       rings = run_output mol q budget rings;
       next_mark = save_output mol (search_after q ran) next;
     }

@@ -70,7 +70,7 @@ fn run_and_save(
     let ran = runner::run_checked(m, q, budget, rings);
     // An output too short for the mark is left as it was; the entry has asked for room.
     let _ = mark_writer::save_checked(m, ran.search, mark, next_mark);
-    enumeration::stop_number(ran.stop)
+    search::ended_number(Ok(ran.stop))
 }
 
 // What `ringlist_resume` does.

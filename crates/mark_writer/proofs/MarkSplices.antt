@@ -1,11 +1,13 @@
 -- The parts of a mark put over a list, each where the one before it ends, are its text put over the front.
 -- The bond lines are made, or copied from a mark of the same molecule, which has the same ones.
 use Rattle.std.specs.Prelude.{Ok}
-use Prim.Native.Nat.{ℕ, ◌+◌, ◌*◌, ◌≤◌}
+use Prim.Native.Nat.{ℕ, ◌+◌, ◌*◌, ◌≤◌, ◌<◌}
+use native.Mathlib.Numerals.{add-one}
 use native.Mathlib.Omega.{arith}
 use mathlib.Core.Path.{◌≡◌, refl, ap, sym, ◌∙◌}
-use mathlib.Core.List.{List, ◌++◌}
-use lib.ListN.{length, drop, length-append, length-drop}
+use mathlib.Core.List.{List, [], ◌∷◌, ◌++◌}
+use lib.ListN.{length, get_or, take, drop, set, length-append, length-drop, length-set}
+use lib.Seq.{take-suc, take-suc-set}
 use Rattle.molecule.specs.declared.Molecule.{Molecule}
 use Rattle.molecule.specs.BondList.{bond_list}
 use Rattle.molecule.proofs.Bonds.{rule9}
@@ -20,6 +22,29 @@ use Rattle.search.proofs.MarkLaws.{bonds-size, restored-bonds}
 use Rattle.bond_writer.specs.Parts.{spliced, BondsFit}
 use Rattle.mark_writer.specs.Parts.{CopyFits, OwnLines, LinesFit, MarkFits}
 use Rattle.bond_writer.proofs.Splices.{splice-next}
+
+-- ---- the atoms of a beginning, one after another
+
+-- of the first `len` places of the beginning's array i are in `atoms`
+pub record Widened (prefix : List ℕ) (len : ℕ) (atoms : List ℕ) (i : ℕ) : Type 0 where
+  pub within : i ≤ len
+  pub size : length atoms ≡ 128
+  pub same : take i atoms ≡ take i prefix
+
+module _ {prefix atoms : List ℕ} {len i : ℕ} (w : Widened prefix len atoms i) where
+  pub widened-more :
+      length prefix ≡ 128 → len ≤ 127 → i < len → Widened prefix len (set atoms i (get_or prefix i 0)) (i + 1)
+  widened-more full short more = record {
+    within = omega arith;
+    size = length-set atoms i (get_or prefix i 0) ∙ w.size;
+    same =
+        rw (add-one i, take-suc prefix i 0 (omega arith))
+        (take-suc-set atoms i (get_or prefix i 0) (omega (arith, w.size)) ∙
+        ap (λ (l : List ℕ). l ++ get_or prefix i 0 ∷ []) w.same);
+  }
+
+  pub widened-all : len ≤ i → take len atoms ≡ take len prefix
+  widened-all last = let same : i ≡ len = omega (arith, w.within) in rw same at w.same
 
 -- ---- the lines of a mark
 

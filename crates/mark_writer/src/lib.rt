@@ -56,7 +56,11 @@ fn put_three_lines(m: Molecule, q: Search, out: &mut [u8])
         q.next as u64,
     ];
     let counts = [q.trials, q.extensions, q.listed];
-    let atoms = q.prefix.map(u64::from);
+    // Of the beginning alone: to widen all 128 places by `map` was most of the fixed cost of a call.
+    let mut atoms = [0; 128];
+    for i in 0..len {
+        atoms[i] = u64::from(q.prefix[i]);
+    }
     put_fields(out, 0, 4, &head);
     bond_writer::put_feed(out, 28);
     put_fields(out, 29, 20, &counts);
@@ -69,6 +73,9 @@ fn put_three_lines(m: Molecule, q: Search, out: &mut [u8])
 // The bond lines of `mark`, a mark of the same molecule, are copied, which is faster than to make them; where it has no
 // bytes they are made. (No bytes, and not an Option: the host hands on the slice that C lends, and clause `OwnLines`
 // and edit copied_where_no_mark_is speak of no bytes.)
+// Built into its callers: as a function of its own it copies the record, 2 kB. The rows are copied where they are
+// needed: to lend them from `m` would copy them before the test.
+#[inline(always)]
 pub fn put_mark(m: Molecule, q: Search, mark: &[u8], out: &mut [u8])
     requires { MarkFits m q out.old × OwnLines m mark.now }
     ensures { out.new ≡ spliced 0 (mark_text m q) out.old }
@@ -76,7 +83,8 @@ pub fn put_mark(m: Molecule, q: Search, mark: &[u8], out: &mut [u8])
     let past = 91 + 4 * q.len;
     put_three_lines(m, q, out);
     if mark.is_empty() {
-        bond_writer::put_bonds(out, past, &m.rows, m.atoms);
+        let rows = m.rows;
+        bond_writer::put_bonds(out, past, &rows, m.atoms);
     } else {
         copy_bonds(out, past, mark);
     }

@@ -24,17 +24,25 @@ use Rattle.molfile.specs.Parts.{BondsStored, ListsFit, LinesNamed}
 use Rattle.molfile.proofs.Feeds.{passed_on, lines-on}
 use Rattle.molfile.proofs.Limits.{read_same}
 
--- what rule 18 refuses
-abbrev NotKept : List ℕ → Type 0
-NotKept s = form_kept (lines_from s 0) ≡ false
+-- what rule 18 refuses: a file that does not keep the form, and its reading
+pub record NotRead (s : List ℕ) : Type 0 where
+  pub broken : form_kept (lines_from s 0) ≡ false
+  pub refused : Err refusal.MolfileLines ≡ read_molfile built_in s
+
+pub not-read : (s : List ℕ) → form_kept (lines_in s) ≡ false → Err refusal.MolfileLines ≡ read_molfile built_in s
+unfolding read_lines
+not-read s bad = rw bad
+
+not-kept : (s : List ℕ) → form_kept (lines_from s 0) ≡ false → NotRead s
+not-kept s bad = record { broken = bad; refused = not-read s bad }
 
 -- no fourth line
-pub no-fourth : (s : List ℕ) → drop 3 (lines_from s 0) ≡ [] → NotKept s
+pub no-fourth : (s : List ℕ) → drop 3 (lines_from s 0) ≡ [] → NotRead s
 unfolding form_kept counts_line_kept
 no-fourth s none =
     let missing : file_line (lines_from s 0) 3 ≡ [] =
     sym (get_or-drop 3 (lines_from s 0) 0 []) ∙ ap (λ l. file_line l 0) none in
-    rw missing
+    not-kept s (rw missing)
 
 -- ---- the line of counts, past the three header lines
 
@@ -42,11 +50,11 @@ module _ {s : List ℕ} {at : ℕ} (header : LinesPassed s 0 3 at) where
   fourth : file_line (lines_from s at) 0 ≡ file_line (lines_from s 0) 3
   fourth = lines-on header 0
 
-  pub no-counts-line : counts_line_kept (file_line (lines_from s at) 0) ≡ false → NotKept s
+  pub no-counts-line : counts_line_kept (file_line (lines_from s at) 0) ≡ false → NotRead s
   unfolding form_kept
   no-counts-line bad =
       let broken : counts_line_kept (file_line (lines_from s 0) 3) ≡ false = rw fourth at bad in
-      rw broken
+      not-kept s (rw broken)
 
 -- what is known past it: n, m, and where the atom lines begin
 pub record Counted (s : List ℕ) (n m at : ℕ) : Type 0 where
@@ -80,9 +88,9 @@ module _ {s : List ℕ} {n m at : ℕ} (known : Counted s n m at) where
       ap (λ k. all_below k (λ i. atom_line_kept (atom_line (lines_from s 0) i))) atoms-is
       ∙ all_same n _ _ (λ i h. ap atom_line_kept (sym (lines-on known.passed i)))
 
-  pub no-atom-lines : LinesBroken atom_line_kept s at n → NotKept s
+  pub no-atom-lines : LinesBroken atom_line_kept s at n → NotRead s
   unfolding form_kept
-  no-atom-lines bad = rw (known.kept, atoms-kept, bad)
+  no-atom-lines bad = not-kept s (rw (known.kept, atoms-kept, bad))
 
 -- what is known past them
 pub record Named (s : List ℕ) (n m : ℕ) (limits : List ℕ) (at : ℕ) : Type 0 where
@@ -121,19 +129,19 @@ module _ {s : List ℕ} {n m at : ℕ} {limits : List ℕ} (names : Named s n m 
       ap (λ j. all_below j (λ k. bond_line_kept (bond_line (lines_from s 0) k))) (bonds-is names.known)
       ∙ all_same m _ _ (λ k h. ap bond_line_kept (sym (bond-line k)))
 
-  pub no-bond-lines : LinesBroken bond_line_kept s at m → NotKept s
+  pub no-bond-lines : LinesBroken bond_line_kept s at m → NotRead s
   unfolding form_kept
-  no-bond-lines bad = rw (names.known.kept, names.kept, bonds-kept, bad)
+  no-bond-lines bad = not-kept s (rw (names.known.kept, names.kept, bonds-kept, bad))
 
   module _ {next : ℕ} (lines : LinesKept bond_line_kept s at m next) where
     past : lines_from s next ≡ past_bonds (lines_from s 0)
     past = (passed_on names.passed lines.passed).rest ∙ rw (atoms-is names.known, bonds-is names.known)
 
-    pub no-end-line : has_end (lines_from s next) ≡ false → NotKept s
+    pub no-end-line : has_end (lines_from s next) ≡ false → NotRead s
     unfolding form_kept
     no-end-line none =
         let missing : has_end (past_bonds (lines_from s 0)) ≡ false = rw past at none in
-        rw (names.known.kept, names.kept, bonds-kept, lines.all, missing)
+        not-kept s (rw (names.known.kept, names.kept, bonds-kept, lines.all, missing))
 
     pub all_named :
         {bonds : List Bond} → BondsStored (lines_from s at) m bonds → ListsFit n m limits bonds →
@@ -153,10 +161,6 @@ module _ {s : List ℕ} {n m at : ℕ} {limits : List ℕ} (names : Named s n m 
 
 pub same_refusal : {A : Type 0} {r r' : Refusal} → ◌≡◌ {A = Result A Refusal} (Err r) (Err r') → r ≡ r'
 same_refusal e = cc
-
-pub not-read : (s : List ℕ) → form_kept (lines_in s) ≡ false → Err refusal.MolfileLines ≡ read_molfile built_in s
-unfolding read_lines
-not-read s bad = rw bad
 
 pub all_read :
     (s : List ℕ) {x : ℕ × ℕ} {limits : List ℕ} {bonds : List Bond} → LinesNamed (lines_in s) x limits bonds →

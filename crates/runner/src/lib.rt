@@ -15,7 +15,7 @@ ghost use Rattle.runner.specs.Parts.{Ready, stop_before, Finds, outcome_by, Yiel
 use dive::{Dived, Level};
 use enumeration::Stop;
 use molecule::Molecule;
-use openness::{Aim, FirstPlan, Found, Plan, Wanted};
+use openness::{FirstPlan, Found, Plan, Wanted};
 use search::{Ran, Search};
 use trial::Spot;
 
@@ -138,12 +138,7 @@ fn run_with<const N: usize>(wanted: Wanted<'_>, q: Search, budget: u64, out: &mu
     requires { Ready wanted q × (wanted.n < N) × (N ≤ 129) }
     ensures { Yields q (outcome_by wanted.entry q budget out.old) out.old result out.new }
 {
-    let none = atomset::empty();
-    let aim = Aim {
-        goal: none,
-        free: none,
-    };
-    let mut levels = [Level { aim, rest: none }; N];
+    let mut levels = [Level::empty(); N];
     run_trials(wanted, q, budget, &mut levels, out)
 }
 

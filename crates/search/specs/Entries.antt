@@ -4,6 +4,7 @@ use Rattle.std.specs.Prelude.{ℕ, ◌&&◌, cond, List, ◌++◌, length, drop,
 use Rattle.refusal.specs.declared.Refusal.{Refusal}
 use Rattle.refusal.specs.declared.Refusal.TheVariants as refusal
 use Rattle.refusal.specs.Number.{number_of}
+use Rattle.enumeration.specs.declared.Stop.{Stop}
 use Rattle.enumeration.specs.Run.{Outcome, run, stop_number}
 use Rattle.molecule.specs.declared.Molecule.{Molecule}
 use Rattle.molecule.specs.Record.{well_formed}
@@ -85,7 +86,12 @@ run_output mol q budget out =
     ((outcome mol q budget out).bytes ++ drop (length (outcome mol q budget out).bytes) out)
     out
 
--- The number of a run's answer: of its stop or of its refusal
-abbrev pub ended_number : Result Ran Refusal → ℕ
-ended_number (Ok ran) = stop_number ran.stop
+-- How a run ended: with its stop, or refused
+abbrev pub ended : Result Ran Refusal → Result Stop Refusal
+ended (Ok ran) = Ok ran.stop
+ended (Err r) = Err r
+
+-- The number of how a run ended: of its stop or of its refusal
+abbrev pub ended_number : Result Stop Refusal → ℕ
+ended_number (Ok stop) = stop_number stop
 ended_number (Err r) = number_of r

@@ -74,12 +74,12 @@ pub fn bound_kept(k: usize) -> bool
     matches!(k, 3..=128)
 }
 
-// The number of a run's answer: of its stop or of its refusal.
-pub fn ended_number(answer: &Result<Ran, Refusal>) -> u32
-    ensures { result ≡ ended_number answer.now }
+// The number of how a run ended: of its stop or of its refusal.
+pub fn ended_number(ended: Result<Stop, Refusal>) -> u32
+    ensures { result ≡ ended_number ended }
 {
-    match answer {
-        Ok(ran) => enumeration::stop_number(ran.stop),
-        Err(r) => refusal::number(*r),
+    match ended {
+        Ok(stop) => enumeration::stop_number(stop),
+        Err(r) => refusal::number(r),
     }
 }

@@ -1,11 +1,11 @@
 -- The sweep is sound and complete: after so many rounds a wanted atom is decided exactly when a target is reached from
 -- it in at most so many steps. The invariant: neighbours of the frontier reach a target in a step more, and an atom
 -- that is a target, or free and seen, is in the frontier or has its neighbours decided and seen.
-use Prim.Native.Nat.{ℕ, suc, ◌≤◌, ◌<◌}
+use Prim.Native.Nat.{ℕ, suc, ◌+◌, ◌-◌}
 use native.Mathlib.Omega.{arith}
 use mathlib.Core.Path.{◌≡◌, ap, sym, ◌∙◌}
 use mathlib.Core.Bool.{Bool, true, false, ◌&&◌, ◌||◌, not}
-use mathlib.Core.Logic.{◌⊎◌, inl, inr, ◌↔◌}
+use mathlib.Core.Logic.{◌≢◌, ◌⊎◌, inl, inr, ◌↔◌}
 use Rattle.graph.specs.Chordless.{Adjacency}
 use Rattle.graph.proofs.Below.{clash, either, and_both, and_parts, not-of, false_of}
 use Rattle.enumeration.proofs.Basics.{or-either, or_left, or_right}
@@ -28,10 +28,11 @@ Settled adj left unseen pending w =
 abbrev pub Beside : Adjacency → (ℕ → Bool) → ℕ → Type 0
 Beside adj taken v = (x : ℕ) × (taken x ≡ true) × (adj v x ≡ true)
 
--- of `steps` rounds, `done` are done, and the next one has the atoms of `pending`
-pub record Frontier (adj : Adjacency) (free target want : ℕ → Bool) (steps done : ℕ)
+-- of `steps` rounds, `rounds` are still to do, the next one with the atoms of `pending`
+pub record Frontier (adj : Adjacency) (free target want : ℕ → Bool) (steps rounds : ℕ)
     (left unseen pending : ℕ → Bool) : Type 0 where
-  pub count : done ≤ steps
+  pub done : ℕ
+  pub count : done + rounds ≡ steps
   pub sound : (v : ℕ) → want v ≡ true → left v ≡ false → Reaches adj free target done v
   pub complete : (v : ℕ) → Reaches adj free target done v → Passed left unseen v
   pub sources : (w : ℕ) → pending w ≡ true → (v : ℕ) → adj v w ≡ true → Reaches adj free target (suc done) v
@@ -42,9 +43,10 @@ pub record Frontier (adj : Adjacency) (free target want : ℕ → Bool) (steps d
 -- at first nothing is decided or seen, and the targets are the frontier
 pub frontier-start :
     {adj : Adjacency} {free target want : ℕ → Bool} {steps : ℕ} →
-    Frontier adj free target want steps 0 want free target
+    Frontier adj free target want steps steps want free target
 frontier-start {free = free} {want = want} =
     record {
+      done = 0;
       count = omega arith;
       sound = λ v w d. absurd (clash (want v) w d);
       complete = λ v (b, is-target, walk). elim walk [ ];
@@ -75,16 +77,16 @@ decides-reached {adj} {free} {target} {want} {left} {rest} {d} decides rest-is v
     complete wanted r =
         rest-is v ∙ and_both (want v) (not (left v)) wanted (not-of (left v) ((decides v wanted).1 r))
 
-module _ {adj : Adjacency} {free target want : ℕ → Bool} {steps done : ℕ} {left unseen pending : ℕ → Bool}
-    (f : Frontier adj free target want steps done left unseen pending) where
+module _ {adj : Adjacency} {free target want : ℕ → Bool} {steps rounds : ℕ} {left unseen pending : ℕ → Bool}
+    (f : Frontier adj free target want steps rounds left unseen pending) where
   sound-all : (v : ℕ) → want v ≡ true → left v ≡ false → Reaches adj free target steps v
-  sound-all v wanted gone = reaches-longer {d = done} f.count (f.sound v wanted gone)
+  sound-all v wanted gone = reaches-longer {d = f.done} (omega (arith, f.count)) (f.sound v wanted gone)
 
   -- every round is done
-  pub frontier-used : steps ≤ done → Decides adj free target steps want left
+  pub frontier-used : rounds ≡ 0 → Decides adj free target steps want left
   frontier-used none v wanted = (
     sound-all v wanted,
-    λ r. (f.complete v (reaches-longer {d = steps} none r)).decided,
+    λ r. (f.complete v (reaches-longer {d = steps} (omega (arith, f.count)) r)).decided,
   )
 
   -- the frontier is empty
@@ -103,18 +105,18 @@ module _ {adj : Adjacency} {free target want : ℕ → Bool} {steps done : ℕ} 
   -- what is decided next to the frontier is reached in a step more
   sound-next :
       {left' : ℕ → Bool} → ((v : ℕ) → left v ≡ true → left' v ≡ false → Beside adj pending v) → (v : ℕ) →
-      want v ≡ true → left' v ≡ false → Reaches adj free target (suc done) v
+      want v ≡ true → left' v ≡ false → Reaches adj free target (suc f.done) v
   sound-next beside v wanted gone = elim (either (left v)) [
     | inl l ↦ let (x, is-in, bond) = beside v l gone in f.sources x is-in v bond
-    | inr l ↦ reaches-longer {d = done} (omega arith) (f.sound v wanted l)
+    | inr l ↦ reaches-longer {d = f.done} (omega arith) (f.sound v wanted l)
   ]
 
   -- nothing is left to decide
   pub frontier-decided :
-      {left' : ℕ → Bool} → ((v : ℕ) → left v ≡ true → left' v ≡ false → Beside adj pending v) → done < steps →
+      {left' : ℕ → Bool} → ((v : ℕ) → left v ≡ true → left' v ≡ false → Beside adj pending v) → rounds ≢ 0 →
       ((v : ℕ) → left' v ≡ false) → Decides adj free target steps want left'
   frontier-decided beside more none v wanted = (
-    λ gone. reaches-longer {d = suc done} (omega arith) (sound-next beside v wanted gone),
+    λ gone. reaches-longer {d = suc f.done} (omega (arith, f.count)) (sound-next beside v wanted gone),
     λ r. none v,
   )
 
@@ -174,12 +176,13 @@ module _ {adj : Adjacency} {left₀ unseen₀ taken₀ left unseen taken front :
 
   -- at its end the frontier is the next round
   pub round-end :
-      {free target want : ℕ → Bool} {steps done : ℕ} → ((a : ℕ) → taken a ≡ false) → done < steps →
-      Frontier adj free target want steps done left₀ unseen₀ taken₀ →
-      Frontier adj free target want steps (suc done) left unseen front
-  round-end {free} {target} {done = done} none more f =
+      {free target want : ℕ → Bool} {steps rounds : ℕ} → ((a : ℕ) → taken a ≡ false) → rounds ≢ 0 →
+      Frontier adj free target want steps rounds left₀ unseen₀ taken₀ →
+      Frontier adj free target want steps (rounds - 1) left unseen front
+  round-end {free} {target} none more f =
       record {
-        count = omega arith;
+        done = suc f.done;
+        count = omega (arith, f.count);
         sound = sound-next f r.decides;
         complete = λ v (b, is-target, walk). complete b is-target v walk;
         sources = sources;
@@ -196,13 +199,13 @@ module _ {adj : Adjacency} {left₀ unseen₀ taken₀ left unseen taken front :
       ]
 
       complete :
-          (b : ℕ) → target b ≡ true → (v : ℕ) → Walk adj free b (suc done) v → Passed left unseen v
+          (b : ℕ) → target b ≡ true → (v : ℕ) → Walk adj free b (suc f.done) v → Passed left unseen v
       complete b is-target v (there e) = around b (f.targets_settled b is-target) v e
       complete b is-target v (through {w = w} e a walk) =
           around w (f.seen_settled w a (f.complete w (b, is-target, walk)).seen) v e
 
       sources :
-          (w : ℕ) → front w ≡ true → (v : ℕ) → adj v w ≡ true → Reaches adj free target (suc (suc done)) v
+          (w : ℕ) → front w ≡ true → (v : ℕ) → adj v w ≡ true → Reaches adj free target (suc (suc f.done)) v
       sources w k v e =
           let (was, (x, is-in, bond)) = r.front_only w k in
           let (b, is-target, walk) = f.sources x is-in w bond in

@@ -27,6 +27,9 @@ pub fn near_word(table: &[u64; 256], word: u64, k: usize) -> [u64; 2]
 // Of the atoms of `want`, those from which a target is reached through free atoms in at most `steps` steps. It ends
 // once every one is decided. `left` are those not yet decided, `unseen` the free atoms that were in no round, `taken`
 // the atoms of this round, a word at a time, and `front` those of the next round; a round is a step.
+// Built into the fast loop: as a function of its own, whose sets pass through memory, it makes a listing of cage
+// compounds slower (`docs/DECISIONS.md`, 51).
+#[inline(always)]
 pub fn reached(
     table: &[u64; 256],
     free: [u64; 2],
@@ -40,7 +43,7 @@ pub fn reached(
     let mut left = want;
     let mut unseen = free;
     let mut front = targets;
-    'sweep: for _ in 0..steps {
+    'sweep: for _ in (0..steps).rev() {
         let taken = front;
         front = atomset::empty();
         for k in 0..2 {

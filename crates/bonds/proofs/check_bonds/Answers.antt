@@ -1,5 +1,5 @@
 -- Rules 6 and 7 over the bonds, in one pass.
--- Invariant: the bonds passed have both atoms in range, and `apart` is the answer of rule 7 on them.
+-- Invariant: the bonds passed have both atoms in range, and `apart` tells whether none joins an atom to itself.
 use Rattle.bonds.proofs.Stored.{within-both, within-left, within-right, bonds-all, bonds-broken, bonds-same, bonds-differ}
 use Rattle.bonds.proofs.check_bonds.Goals as goal
 use Rattle.bonds.proofs.check_bonds.Goals.{then-not-is_atom-via-then-not-is_atom, then-not-is_atom-via-else-not-is_atom+then-not-is_atom-2, then-left-right, else-left-right}
@@ -25,5 +25,8 @@ loop-left-preserved c =
       | else-left-right w ↦ rw w.apart-is (bonds-differ c.loop-left.invariant more inside w.if-left-right.false)
     ]
 
+pub returns-then-not-apart : goal.returns-then-not-apart
+returns-then-not-apart c = rw c.if-not-apart.true at (bonds-all c.loop-left.invariant c.loop-left-test.false)
+
 pub returns : goal.returns
-returns c = bonds-all c.loop-left.invariant c.loop-left-test.false
+returns c = rw c.if-not-apart.false at (bonds-all c.loop-left.invariant c.loop-left-test.false)

@@ -1,5 +1,5 @@
 -- Rules 6 and 7 over the bonds, in one pass.
--- Invariant: the bonds passed have both atoms in range, and `apart` is the answer of rule 7 on them.
+-- Invariant: the bonds passed have both atoms in range, and `apart` tells whether none joins an atom to itself.
 use Rattle.std.proofs.Common.{length}
 use Rattle.bonds.specs.Parts.{listed}
 use Rattle.bonds.proofs.Stored.{BondsPassed}

@@ -1,6 +1,7 @@
 -- Rule 8, and the rows of the bonds.
 -- Invariant: the rows are those of the bonds passed, none of them twice; a set bit is a bond listed before.
 use Rattle.std.proofs.Common.{◌∙◌, sym, refl, arith, length}
+use Rattle.molecule.specs.Record.{fresh_molecule}
 use Rattle.bonds.specs.Parts.{listed}
 use Rattle.bonds.proofs.Tables.{kept_of}
 use Rattle.bonds.proofs.Answers.{bonds-twice}
@@ -23,7 +24,8 @@ turn c =
     }
 
 pub loop-left-init : goal.loop-left-init
-loop-left-init c = filled_none
+unfolding fresh_molecule
+loop-left-init c = rw c.fresh.ensures filled_none
 
 pub overflow_sub-i : goal.overflow_sub-i
 overflow_sub-i c = rw c.from.ensures (atom-range (turn (goal.at.overflow_sub-i c).After-from)).0

@@ -21,8 +21,8 @@ pub bounds-levels-len : goal.bounds-levels-len
 bounds-levels-len c =
     deep_room c.requires (c.loop-at.invariant c.requires) c.loop-at-test.true c.if-most-at-lt-NEAR.false
 
-pub bounds-levels-len-in-loop-at : goal.bounds-levels-len-in-loop-at
-bounds-levels-len-in-loop-at c =
+pub slice_copy_out-level : goal.slice_copy_out-level
+slice_copy_out-level c =
     deep_room c.requires (c.loop-at.invariant c.requires) c.loop-at-test.true c.if-most-at-lt-NEAR.false
 
 -- ---- the last atom is dropped
@@ -45,7 +45,7 @@ pub loop-at-preserved-then-is_empty : goal.loop-at-preserved-then-is_empty
 loop-at-preserved-then-is_empty c d =
     rw c.dropped-at.ensures
     (diving-drops d (c.loop-at.invariant d) c.loop-at-test.true c.if-most-at-lt-NEAR.false c.from-last.ensures
-    (c.is_empty.ensures.none c.if-is_empty.true))
+    (rw c.rest-rest.ensures at (c.is_empty.ensures.none c.if-is_empty.true)))
 
 -- ---- the lowest atom is tried
 
@@ -55,17 +55,13 @@ tries :
 tries c = record {
   deep = c.loop-at-test.true;
   far = c.if-most-at-lt-NEAR.false;
-  lowest = c.lowest-v.ensures;
-  left = c.without_lowest-others.ensures;
+  lowest = rw c.rest-rest.ensures at c.lowest-v.ensures;
+  left = rw c.rest-rest.ensures at c.without_lowest-others.ensures;
 }
 
 pub offset_bounds-levels-len-else-is_empty : goal.offset_bounds-levels-len-else-is_empty
 offset_bounds-levels-len-else-is_empty c =
     let k = c.loop-at.invariant c.requires in omega (arith, k.held.short)
-
-pub bounds-levels-len-else-is_empty : goal.bounds-levels-len-else-is_empty
-bounds-levels-len-else-is_empty c =
-    deep_room c.requires (c.loop-at.invariant c.requires) c.loop-at-test.true c.if-most-at-lt-NEAR.false
 
 -- ---- a closing atom
 
@@ -95,9 +91,9 @@ loop-at-preserved-then-lowest_in c d =
     let k = c.loop-at.invariant d in
     let t = tries (search) in
     let size = taken-length c.loop-at.prefix c.loop-at.at.len k.held.within.size k.held.within.most in
-    rw c.listed-at.ensures
+    rw (c.listed-at.ensures, c.keep_rest.ensures)
     (diving-lists d k t.deep t.far t.lowest t.left
-    (sym (c.lowest_in.ensures _ c.lowest-v.ensures) ∙ c.if-lowest_in.true) c.if-out-used.false
+    (rw c.aim-aim.ensures at (sym (c.lowest_in.ensures _ c.lowest-v.ensures) ∙ c.if-lowest_in.true)) c.if-out-used.false
     (rw size at c.put_record.ensures) refl refl)
 
 -- ---- an atom that opens
@@ -110,14 +106,18 @@ extended-at-requires c =
     let k = c.loop-at.invariant c.requires in
     (rising c.requires k (tries (search)), k.held.within.most, omega (arith, k.bounds))
 
+pub overflow_add-len : goal.overflow_add-len
+overflow_add-len c = let k = c.loop-at.invariant c.requires in omega (arith, k.held.short)
+
 pub shared_ref_as_front-plan_added : goal.shared_ref_as_front-plan_added
 shared_ref_as_front-plan_added c = let k = c.loop-at.invariant c.requires in omega (arith, k.held.short)
 
 pub plan_added-requires : goal.plan_added-requires
 plan_added-requires c =
     let t = tries (search) in
-    added-here c.requires (c.loop-at.invariant c.requires) t.deep t.far t.lowest t.left
-    (sym (c.lowest_in.ensures _ c.lowest-v.ensures) ∙ c.if-lowest_in.false)
+    rw c.keep_rest.ensures
+    (added-here c.requires (c.loop-at.invariant c.requires) t.deep t.far t.lowest t.left
+    (rw c.aim-aim.ensures at (sym (c.lowest_in.ensures _ c.lowest-v.ensures) ∙ c.if-lowest_in.false)))
 
 pub loop-at-smaller : goal.loop-at-smaller
 loop-at-smaller c =
@@ -127,10 +127,10 @@ pub loop-at-preserved : goal.loop-at-preserved
 loop-at-preserved c d =
     let k = c.loop-at.invariant d in
     let t = tries (search) in
-    let opens = sym (c.lowest_in.ensures _ c.lowest-v.ensures) ∙ c.if-lowest_in.false in
+    let opens = rw c.aim-aim.ensures at (sym (c.lowest_in.ensures _ c.lowest-v.ensures) ∙ c.if-lowest_in.false) in
     let size = longer-length d k t.deep t.far t.lowest t.left opens in
     rw c.extended-at.ensures
-    (diving-extends d k t.deep t.far t.lowest t.left opens (rw size at c.plan_added.ensures))
+    (diving-extends d k t.deep t.far t.lowest t.left opens (rw (size, c.keep_rest.ensures) at c.plan_added.ensures))
 
 -- ---- the ways out
 

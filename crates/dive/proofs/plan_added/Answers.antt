@@ -7,6 +7,10 @@ use Rattle.dive.proofs.Levels.{steered-whole, added-first, added-later}
 use Rattle.dive.proofs.plan_added.Goals as goal
 use Rattle.dive.proofs.plan_added.Goals.{then-len-first_length, else-len-first_length}
 
+pub steps_left-steps-requires : goal.steps_left-steps-requires
+steps_left-steps-requires c =
+    let pre = c.requires in opened-room pre.begun (omega (arith, first_some c.args.wanted.kind, pre.long))
+
 pub plan_level-requires : goal.plan_level-requires
 plan_level-requires c =
     let pre = c.requires in (
@@ -14,7 +18,6 @@ plan_level-requires c =
       pre.begun.short,
       pre.low,
       pre.high,
-      opened-room pre.begun (omega (arith, first_some c.args.wanted.kind, pre.long)),
       omega (arith, pre.sized, c.if-len-first_length.auto.levels),
     )
 
@@ -27,8 +30,9 @@ returns c =
       | then-len-first_length w ↦
           let first = w.if-len-first_length.true ∙ c.first_length.ensures in
           added-first each refl w.first_aim-aim.result (omega (arith, pre.sized)) first
-          (steered-whole _ pre.last_is first w.first_aim-aim.ensures) (rw w.levels-is at c.plan_level.ensures)
+          (steered-whole _ pre.last_is first w.first_aim-aim.ensures)
+          (rw (w.levels-is, w.keep_aim.ensures, c.steps_left-steps.ensures) at c.plan_level.ensures)
       | else-len-first_length w ↦
           added-later each refl pre.long (λ e. w.if-len-first_length.false (e ∙ sym c.first_length.ensures))
-          (rw w.levels-is at c.plan_level.ensures)
+          (rw (w.levels-is, c.steps_left-steps.ensures) at c.plan_level.ensures)
     ]

@@ -5,9 +5,11 @@ use Rattle.dive.proofs.plan_level.Goals as goal
 
 pub returns : goal.returns
 returns c =
-    level-planned c.args.levels.now c.args.len c.requires.5
+    let aim-is = c.aim-aim.ensures in
+    rw (c.keep_rest.ensures, c.keep_aim.ensures)
+    (level-planned c.args.levels.now c.args.len c.requires.4
     (record {
-      handing = c.aim_after-next.ensures;
-      telling = rw c.steps_left-steps.ensures at c.plan_by-plan.ensures;
+      handing = rw aim-is at c.aim_after-next.ensures;
+      telling = rw aim-is at c.plan_by-plan.ensures;
       either_set = c.union-rest.ensures;
-    })
+    }))

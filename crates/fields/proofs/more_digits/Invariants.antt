@@ -4,5 +4,5 @@ use Rattle.std.proofs.Common.{◌≡◌, drop}
 use Rattle.fields.specs.Field.{digits}
 use Rattle.fields.proofs.more_digits.Given as goal
 
-abbrev pub invariant-loop-b : goal.invariant-loop-b
-invariant-loop-b l = digits l.zeros l.value (drop l.b-index l.s) ≡ digits l.zeros l.first l.s
+abbrev pub invariant-loop-i : goal.invariant-loop-i
+invariant-loop-i l = digits l.zeros l.value (drop l.i l.s) ≡ digits l.zeros l.first (drop l.from l.s)

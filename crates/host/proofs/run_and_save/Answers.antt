@@ -13,4 +13,4 @@ pub returns : goal.returns
 unfolding run_and_save
 returns c =
     let (ran, wrote) = c.run_checked-ran.ensures in
-    rw (← ran) (c.stop_number.ensures, wrote, c.save_checked.ensures.1)
+    rw (← ran) (c.ended_number.ensures, wrote, c.save_checked.ensures.1)

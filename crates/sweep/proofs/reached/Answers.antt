@@ -1,7 +1,6 @@
 -- `sweep::reached` meets its contract. The invariant of the rounds is `Frontier`, that of a round `Round`.
 use Prim.Native.Nat.{◌<◌}
 use native.Mathlib.Omega.{arith}
-use native.Mathlib.Numerals.{add-one}
 use Rattle.atomset.specs.Set.{has, linked_by}
 use Rattle.atomset.proofs.Members.{none_of}
 use Rattle.sweep.proofs.Frontier.{frontier-start, frontier-used, frontier-end, frontier-decided}
@@ -33,7 +32,7 @@ loop-k-preserved c =
 
 pub sweep-preserved : goal.sweep-preserved
 sweep-preserved c =
-    rw add-one (round-end c.loop-k.invariant (from_last _ (omega arith)) c.sweep-test.true c.sweep.invariant)
+    round-end c.loop-k.invariant (from_last _ (omega arith)) (λ none. omega arith) c.sweep.invariant
 
 -- the sweep ends when no round is to do, when no atom is left, or when the next round is empty
 pub returns : goal.returns
@@ -43,16 +42,18 @@ returns c =
     Decides (linked_by given.table.now) (has given.free) (has given.targets) given.steps (has given.want)
     (has c.sweep-test.left) =
     elim c.sweep-test.branch [
-      | else-sweep-test w ↦ rw w.left-is (frontier-used c.sweep.invariant w.sweep-test.false)
+      | else-sweep-test w ↦ rw w.left-is (frontier-used c.sweep.invariant (omega arith))
       | then-sweep-test+then-loop-k-test+then-taken-k-ne0+then-is_empty w ↦
           let inside : w.loop-k.k < 2 = omega arith in
           let taken = takes-word _ inside w.near_word-near.ensures in
           rw w.left-is
           (frontier-decided c.sweep.invariant
-          (decides-next w.loop-k.invariant c.requires taken w.minus-undecided.ensures) w.sweep-test.true
+          (decides-next w.loop-k.invariant c.requires taken w.minus-undecided.ensures) (λ none. omega arith)
           (none_of w.is_empty.ensures w.if-is_empty.true))
       | then-sweep-test+else-loop-k-test+then-is_empty-2 w ↦
-          let ended = round-end w.loop-k.invariant (from_last _ (omega arith)) w.sweep-test.true c.sweep.invariant in
+          let ended =
+          round-end w.loop-k.invariant (from_last _ (omega arith)) (λ none. omega arith) c.sweep.invariant
+          in
           rw w.left-is (frontier-end ended (none_of w.is_empty-in-sweep.ensures w.if-is_empty-2.true))
     ]
     in
