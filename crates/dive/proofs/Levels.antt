@@ -47,6 +47,13 @@ same-words these those first second u = go (either (is_atom 128 u))
 pub has-pair : (words : List ℕ) (u : ℕ) → has (get_or words 0 0 ∷ get_or words 1 0 ∷ []) u ≡ has words u
 has-pair words u = same-words (get_or words 0 0 ∷ get_or words 1 0 ∷ []) words refl refl u
 
+-- a list of two words is those two
+two-words : (words : List ℕ) → length words ≡ 2 → get_or words 0 0 ∷ get_or words 1 0 ∷ [] ≡ words
+two-words [] e = absurd (omega arith)
+two-words (x ∷ []) e = absurd (omega arith)
+two-words (x ∷ y ∷ []) e = refl
+two-words (x ∷ y ∷ z ∷ rest) e = absurd (omega arith)
+
 -- a part that is kept as it was at one length is so at every length
 part-kept :
     {A : Type 0} (f : Level → A) (levels : List Level) (i : ℕ) (l : Level) → f l ≡ f (get_or levels i no_level) →
@@ -73,6 +80,11 @@ module _ (levels : List Level) (i : ℕ) where
     rest-kept-same room u =
         ap (λ (l : Level). has (rest_of l) u) (get_or-set_same levels i _ no_level room) ∙ has-pair rest u
 
+    -- a set of two words, which every set of the programs is, is found again word for word
+    pub rest-kept-words : LevelRoom i levels → length rest ≡ 2 → rest_in (kept_rest levels i rest) i ≡ rest
+    rest-kept-words room two =
+        ap (λ (l : Level). rest_of l) (get_or-set_same levels i _ no_level room) ∙ two-words rest two
+
     pub rest-kept-other : (j : ℕ) → (j ≡ i → ⊥) → rest_in (kept_rest levels i rest) j ≡ rest_in levels j
     rest-kept-other j d = ap (λ (l : Level). rest_of l) (get_or-set_other levels i j _ no_level d)
 
@@ -93,6 +105,13 @@ module _ (levels : List Level) (i : ℕ) where
       pub free-kept-same : has (aim_in (kept_aim levels i aim) i).free u ≡ has aim.free u
       free-kept-same =
           ap (λ (l : Level). has (aim_of l).free u) (get_or-set_same levels i _ no_level room) ∙ has-pair aim.free u
+
+    -- two sets of two words are found again word for word
+    pub aim-kept-same :
+        LevelRoom i levels → length aim.goal ≡ 2 → length aim.free ≡ 2 → aim_in (kept_aim levels i aim) i ≡ aim
+    aim-kept-same room goal free =
+        ap (λ (l : Level). aim_of l) (get_or-set_same levels i _ no_level room)
+        ∙ rw (two-words aim.goal goal, two-words aim.free free)
 
     pub aim-kept-other : (j : ℕ) → (j ≡ i → ⊥) → aim_in (kept_aim levels i aim) j ≡ aim_in levels j
     aim-kept-other j d = ap (λ (l : Level). aim_of l) (get_or-set_other levels i j _ no_level d)
